@@ -1,0 +1,9 @@
+pub mod Xor
+pub mod Polynomials
+pub mod Remainder
+pub mod Linear
+pub mod Products
+pub mod Shifts
+pub mod Powers
+pub mod Squares
+pub mod Inverses

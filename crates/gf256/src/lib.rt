@@ -1,0 +1,69 @@
+// Arithmetic of bytes as elements of the field with 256 elements (document 01, "The parity bytes").
+// The sum is the language's exclusive or.
+ghost use mathlib.Core.Path.{_≡_};
+ghost use Rattle.gf256.specs.Answer.{inverseAnswer};
+ghost use Rattle.gf256.specs.Field.{product, power};
+
+// 285 without its highest coefficient, that of X^8.
+const REDUCTION: u8 = 29;
+
+// A byte, or the document's number of a refusal.
+pub enum Answer {
+    Byte(u8),
+    Refused(u32),
+}
+
+// The product of a and b, by shifts: a · X^i is added for each bit i of b that is set.
+pub fn product(a: u8, b: u8) -> u8
+    ensures { λ r. ⌜ r ≡ product a b ⌝ }
+{
+    let mut sum: u8 = 0;
+    let mut shifted = a;
+    let mut bits = b;
+    while 0 < bits {
+        if bits % 2 == 1 {
+            sum = sum ^ shifted;
+        }
+        shifted = double(shifted);
+        bits = bits / 2;
+    }
+    sum
+}
+
+// Twice x, that is x · X: a shift, and where that gives a coefficient of X^8, the sum with 285, which takes it away.
+pub fn double(x: u8) -> u8
+    ensures { λ r. ⌜ r ≡ product 2 x ⌝ }
+{
+    if x < 128 {
+        x * 2
+    } else {
+        (x - 128) * 2 ^ REDUCTION
+    }
+}
+
+// a to the power n, by squares.
+pub fn power(a: u8, n: u8) -> u8
+    ensures { λ r. ⌜ r ≡ power a n ⌝ }
+{
+    let mut result: u8 = 1;
+    let mut square = a;
+    let mut bits = n;
+    while 0 < bits {
+        if bits % 2 == 1 {
+            result = product(result, square);
+        }
+        square = product(square, square);
+        bits = bits / 2;
+    }
+    result
+}
+
+// The inverse of a, refused with 10 for 0. Each other byte to the power 255 is 1, so its inverse is its power 254.
+pub fn inverse(a: u8) -> Answer
+    ensures { λ r. ⌜ r ≡ inverseAnswer a ⌝ }
+{
+    if a == 0 {
+        return Answer::Refused(10);
+    }
+    Answer::Byte(power(a, 254))
+}

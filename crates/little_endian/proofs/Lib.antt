@@ -1,0 +1,5 @@
+pub mod Numbers
+pub mod Past
+pub mod Reading
+pub mod Stores
+pub mod Writing

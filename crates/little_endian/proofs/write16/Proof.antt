@@ -1,0 +1,44 @@
+-- `little_endian::write16` meets its contract: `write-halves` joins its two halves.
+-- Assumes nothing.
+use borrow.Author.Needs.{needs}
+use denote.Ref.{now}
+use Rattle.little_endian.proofs.Writing.{write-halves}
+use Rattle.little_endian.proofs.write16.Statement.{statement}
+use Rattle.little_endian.proofs.write16.Tie as tie
+
+cast-low : tie.Need-cast-low
+cast-low c = search needs
+
+cast-high : tie.Need-cast-high
+cast-high c = search needs
+
+write8-requires : tie.Need-write8-requires
+write8-requires c κs = search needs
+
+after-requires : tie.Need-after-requires
+after-requires c κs = search needs
+
+write8-requires-2 : tie.Need-write8-requires-2
+write8-requires-2 c κs = search needs
+
+same-length : tie.Need-same-length
+same-length c = search needs
+
+returns : tie.Need-returns
+returns c =
+    let high = c .before .before in
+    let low = high .before .before .before .before .before in
+    let a = low .before .before .before .args in
+    write-halves 1 (a .x) (now (a .out)) (a .at) _ (search needs) (low .write8 .ensures) (high .before .after .ensures) (high .write82 .ensures)
+
+pub write16-spec : {M : Type 1} → statement M
+write16-spec =
+    tie.close
+    (tie.spec
+    cast-low
+    cast-high
+    write8-requires
+    after-requires
+    write8-requires-2
+    same-length
+    returns)

@@ -1,0 +1,110 @@
+-- `md5::Md5::push` meets its contract.
+-- Assumes nothing.
+use mathlib.Core.Path.{_≡_}
+use Prim.Native.Nat.{ℕ, _-_, _*_, _/_, _%_}
+use native.Mathlib.Omega.{arith}
+use lib.ListN.{length, take, drop, length-take}
+use mathlib.Core.List.{List}
+use denote.Ref.{now}
+use Rattle.md5.proofs.Running.{push-short, push-long, part-to-end}
+use borrow.Author.Needs.{needs}
+use Rattle.md5.proofs.Md5.push.Statement.{statement}
+use Rattle.md5.proofs.Md5.push.Tie as tie
+
+wrapping-add-u64-requires : tie.Need-wrapping-add-u64-requires
+wrapping-add-u64-requires c κs = search needs
+
+-- the tail is 64 bytes
+tailed : (c : tie.Start) → length (c .args .self .tail) ≡ 64
+tailed c = search needs
+
+array-share-prefix-t : tie.Need-array-share-prefix-t
+array-share-prefix-t c = omega (arith, tailed (c .before .before .before .before))
+
+slice-aggregate-fill : tie.Need-slice-aggregate-fill
+slice-aggregate-fill c = simp length-take (omega (arith, tailed (c .before .before .before .before .before)))
+
+fill-requires : tie.Need-fill-requires
+fill-requires c κs = simp length-take (omega (arith, tailed (c .before .before .before .before .before)))
+
+sub-k : tie.Need-sub-k
+sub-k c = search needs
+
+fill-requires-2 : tie.Need-fill-requires-2
+fill-requires-2 c κs = search needs
+
+returns : tie.Need-returns
+returns c =
+    let s = c .before .before .before .before .before .before .before .before in
+    push-short (s .args .self) (now (s .args .bytes)) (tailed s) (c .before .before .fill .ensures) (c .before .before .before .before .wrapping-add-u64 .ensures) (c .before .if1 .taken) (c .fill2 .ensures)
+
+slice-aggregate-fill-2 : tie.Need-slice-aggregate-fill-2
+slice-aggregate-fill-2 c = simp length-take (omega arith)
+
+fill-requires-3 : tie.Need-fill-requires-3
+fill-requires-3 c κs = simp length-take (omega arith)
+
+sub-more : tie.Need-sub-more
+sub-more c = search needs
+
+part-more-start : tie.Need-part-more-start
+part-more-start c = search needs
+
+part-more-end : tie.Need-part-more-end
+part-more-end c = search needs
+
+mul-m : tie.Need-mul-m
+mul-m c = search needs
+
+sub-fill : tie.Need-sub-fill
+sub-fill c = search needs
+
+part-fill-start : tie.Need-part-fill-start
+part-fill-start c = search needs
+
+part-fill-end : tie.Need-part-fill-end
+part-fill-end c = search needs
+
+fill-requires-4 : tie.Need-fill-requires-4
+fill-requires-4 c κs = search needs
+
+slice-aggregate-after-blocks : tie.Need-slice-aggregate-after-blocks
+slice-aggregate-after-blocks c = search needs
+
+after-blocks-requires : tie.Need-after-blocks-requires
+after-blocks-requires c κs = search needs
+
+returns-2 : tie.Need-returns-2
+returns-2 c =
+    let s = c .before .before .before .before .before .before .before .before .before .before .before .before .before .before in
+    let bs : List ℕ = now (s .args .bytes) in
+    let k : ℕ = 64 - s .args .self .total % 64 in
+    let more : List ℕ = take (length bs - k) (drop k bs) in
+    let m : ℕ = length more / 64 * 64 in
+    push-long (s .args .self) bs (tailed s) (c .before .before .before .before .before .before .before .before .fill .ensures) (c .before .before .before .before .before .before .before .before .before .before .wrapping-add-u64 .ensures) more (take (length more - m) (drop m more))
+    (c .before .before .before .before .before .before .before .if1 .left) (c .before .before .before .before .before .fill3 .ensures) (part-to-end k bs) (part-to-end m more) (c .before .before .fill4 .ensures) (c .after-blocks .ensures)
+
+pub push-spec : {M : Type 1} → statement M
+push-spec =
+    tie.close
+    (tie.spec
+    wrapping-add-u64-requires
+    array-share-prefix-t
+    slice-aggregate-fill
+    fill-requires
+    sub-k
+    fill-requires-2
+    returns
+    slice-aggregate-fill-2
+    fill-requires-3
+    sub-more
+    part-more-start
+    part-more-end
+    mul-m
+    sub-fill
+    part-fill-start
+    part-fill-end
+    fill-requires-4
+    slice-aggregate-after-blocks
+    after-blocks-requires
+    returns-2)

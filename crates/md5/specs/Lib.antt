@@ -1,0 +1,4 @@
+pub mod Padding
+pub mod Rounds
+pub mod Digest
+pub mod Running

@@ -1,0 +1,4 @@
+pub mod AllLaws
+pub mod CutLaws
+mod Examples
+pub mod WholeLaws

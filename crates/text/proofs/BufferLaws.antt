@@ -1,0 +1,98 @@
+-- What puts leave in a buffer.
+--
+--   put-nil, put-append          no text, and one text after another
+--   put-length, put-position     a put keeps the buffer's length, and moves on alike on every buffer
+--   put-within, put-beyond       a text that lies inside the buffer, and one that lies past its end
+--   put-measure, put-whole       from the start: on an empty buffer, and on one that the text fits into
+--   put-rest, put-then           what a loop and a pair of calls need of put-append
+--   puts, puts-measure           calls in a row put their texts joined, and end at the same position on every buffer
+-- Assumes nothing.
+use mathlib.Core.Path.{_≡_, refl, sym, ap, ap₂, _∙_}
+use mathlib.Core.Bool.{Bool, true, false}
+use mathlib.Core.List.{List, [], _∷_, _++_, append-nil, flatten}
+use Prim.Native.Nat.{ℕ, suc, _+_, _≤_, min}
+use native.Mathlib.Nat.{zero-add}
+use native.Mathlib.Omega.{arith}
+use borrow.Author.Tests.{leb-true, leb-false}
+use lib.Dec.{leb}
+use lib.ListN.{length, take, drop, set, length-append, length-set}
+use lib.Seq.{sets, length-sets, sets-eq, set-out}
+use Rattle.text.specs.Buffer.{Buffer, buffer, usizeMax, put, Puts, last, then}
+
+-- ---- stores past the end, and in a row
+
+sets-out : (l : List ℕ) (i : ℕ) (t : List ℕ) → length l ≤ i → sets l i t ≡ l
+sets-out l i [] h = refl
+sets-out l i (a ∷ t) h = sets-out (set l i a) (suc i) t (omega (arith, length-set l i a)) ∙ set-out l i a h
+
+sets-append : (l : List ℕ) (i : ℕ) (s t : List ℕ) → sets (sets l i s) (i + length s) t ≡ sets l i (s ++ t)
+sets-append l i [] t = ap (λ (k : ℕ). sets l k t) (omega arith)
+sets-append l i (a ∷ s) t =
+    ap (λ (k : ℕ). sets (sets (set l i a) (suc i) s) k t) (omega arith) ∙ sets-append (set l i a) (suc i) s t
+
+-- the position at which counting stops is past the end of any buffer
+sets-min : (l : List ℕ) (i : ℕ) (t : List ℕ) → length l ≤ usizeMax → sets l (min i usizeMax) t ≡ sets l i t
+sets-min l i t h = by (leb i usizeMax) refl
+  where
+    by : (b : Bool) → leb i usizeMax ≡ b → sets l (min i usizeMax) t ≡ sets l i t
+    by true e = ap (λ (k : ℕ). sets l k t) (omega (arith, leb-true i usizeMax e))
+    by false e =
+        let g = leb-false i usizeMax e in sets-out l (min i usizeMax) t (omega arith) ∙ sym (sets-out l i t (omega arith))
+
+-- ---- one put
+
+pub put-nil : (l : List ℕ) (at : ℕ) → at ≤ usizeMax → put (buffer l at) [] ≡ buffer l at
+unfolding put
+put-nil l at h = ap (buffer l) (omega arith)
+
+pub put-length : (b : Buffer) (t : List ℕ) → length (put b t .bytes) ≡ length (b .bytes)
+unfolding put
+put-length b t = length-sets (b .bytes) _ t
+
+pub put-position : (l m : List ℕ) (at : ℕ) (t : List ℕ) → put (buffer l at) t .at ≡ put (buffer m at) t .at
+unfolding put
+put-position l m at t = refl
+
+pub put-within : (l : List ℕ) (at : ℕ) (t : List ℕ) → at + length t ≤ length l → length l ≤ usizeMax
+    → put (buffer l at) t ≡ buffer (take at l ++ t ++ drop (at + length t) l) (at + length t)
+unfolding put
+put-within l at t h k = ap₂ buffer (sets-eq t l at h) (omega arith)
+
+pub put-beyond : (l : List ℕ) (at : ℕ) (t : List ℕ) → length l ≤ at → put (buffer l at) t ≡ buffer l (min (at + length t) usizeMax)
+unfolding put
+put-beyond l at t h = ap (λ (m : List ℕ). buffer m (min (at + length t) usizeMax)) (sets-out l at t h)
+
+pub put-measure : (t : List ℕ) → put (buffer [] 0) t ≡ buffer [] (min (length t) usizeMax)
+put-measure t = put-beyond [] 0 t (omega arith) ∙ ap (λ (n : ℕ). buffer [] (min n usizeMax)) (zero-add (length t))
+
+pub put-whole : (l t : List ℕ) → length t ≤ length l → length l ≤ usizeMax
+    → put (buffer l 0) t ≡ buffer (t ++ drop (length t) l) (length t)
+put-whole l t h k = put-within l 0 t (omega arith) k ∙ ap (λ (n : ℕ). buffer (t ++ drop n l) n) (zero-add (length t))
+
+-- ---- puts in a row
+
+pub put-append : (b : Buffer) (s t : List ℕ) → length (b .bytes) ≤ usizeMax → put (put b s) t ≡ put b (s ++ t)
+unfolding put
+put-append b s t h =
+    ap₂ buffer
+    (sets-min (sets (b .bytes) (b .at) s) (b .at + length s) t (omega (arith, length-sets (b .bytes) (b .at) s))
+    ∙ sets-append (b .bytes) (b .at) s t)
+    (omega (arith, length-append s t))
+
+module _ (a : Buffer) {b : Buffer} (s t : List ℕ) (h : length (a .bytes) ≤ usizeMax) (e : b ≡ put a s) where
+  pub put-rest : put b t ≡ put a (s ++ t)
+  put-rest = ap (λ (d : Buffer). put d t) e ∙ put-append a s t h
+
+  pub put-then : {c : Buffer} → c ≡ put b t → c ≡ put a (s ++ t)
+  put-then f = f ∙ put-rest
+
+pub puts : {a c : Buffer} {ts : List (List ℕ)} → Puts a ts c → length (a .bytes) ≤ usizeMax → c ≡ put a (flatten ts)
+unfolding flatten
+puts (last {a} {b} {t} e) h = e ∙ ap (put a) (sym (append-nil t))
+puts (then {a} {b} {c} {t} {ts} e p) h =
+    puts p (omega (arith, ap (λ (d : Buffer). length (d .bytes)) e, put-length a t)) ∙ put-rest a t (flatten ts) h e
+
+pub puts-measure : {l m : List ℕ} {at : ℕ} {ts : List (List ℕ)} {b c : Buffer} → Puts (buffer l at) ts b → Puts (buffer m at) ts c
+    → length l ≤ usizeMax → length m ≤ usizeMax → b .at ≡ c .at
+puts-measure {l} {m} {at} {ts} p q h k =
+    ap (λ (d : Buffer). d .at) (puts p h) ∙ put-position l m at (flatten ts) ∙ sym (ap (λ (d : Buffer). d .at) (puts q k))

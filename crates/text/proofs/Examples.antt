@@ -1,0 +1,44 @@
+-- The definitions, computed on a few values. A text is written as its bytes.
+-- Assumes nothing.
+use mathlib.Core.Path.{_≡_, refl}
+use mathlib.Core.List.{[], _∷_}
+use Rattle.text.specs.Buffer.{buffer, put}
+use Rattle.text.specs.Decimal.{decimal, decimalIn}
+use Rattle.text.specs.Hex.{hexByte, hexDigit}
+
+-- "0", "9", "10", "18446744073709551615"
+zero-text : decimal 0 ≡ 48 ∷ []
+unfolding decimal decimalIn
+zero-text = refl
+
+nine-text : decimal 9 ≡ 57 ∷ []
+unfolding decimal decimalIn
+nine-text = refl
+
+ten-text : decimal 10 ≡ 49 ∷ 48 ∷ []
+unfolding decimal decimalIn
+ten-text = refl
+
+greatest-text : decimal 18446744073709551615
+    ≡ 49 ∷ 56 ∷ 52 ∷ 52 ∷ 54 ∷ 55 ∷ 52 ∷ 52 ∷ 48 ∷ 55 ∷ 51 ∷ 55 ∷ 48 ∷ 57 ∷ 53 ∷ 53 ∷ 49 ∷ 54 ∷ 49 ∷ 53 ∷ []
+unfolding decimal decimalIn
+greatest-text = refl
+
+-- "0a", "ff"
+low-text : hexByte 10 ≡ 48 ∷ 97 ∷ []
+unfolding hexDigit
+low-text = refl
+
+high-text : hexByte 255 ≡ 102 ∷ 102 ∷ []
+unfolding hexDigit
+high-text = refl
+
+-- two bytes are written and the third only counted
+cut-off : put (buffer (7 ∷ 7 ∷ 7 ∷ []) 1) (1 ∷ 2 ∷ 3 ∷ []) ≡ buffer (7 ∷ 1 ∷ 2 ∷ []) 4
+unfolding put
+cut-off = refl
+
+-- past the greatest position nothing is counted either
+at-the-end : put (buffer (7 ∷ []) 18446744073709551614) (1 ∷ 2 ∷ 3 ∷ []) ≡ buffer (7 ∷ []) 18446744073709551615
+unfolding put
+at-the-end = refl

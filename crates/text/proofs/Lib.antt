@@ -1,0 +1,5 @@
+pub mod BufferLaws
+pub mod DecimalLaws
+mod Examples
+pub mod FitLaws
+pub mod HexLaws

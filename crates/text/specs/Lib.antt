@@ -1,0 +1,4 @@
+pub mod Buffer
+pub mod Decimal
+pub mod Fit
+pub mod Hex
