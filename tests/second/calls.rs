@@ -1,0 +1,28 @@
+//! The C library's calls, each on lent bytes with guard bytes on both sides.
+
+extern "C" {
+    fn par1_md5(bytes: *const u8, bytes_len: usize, out: *mut u8, out_len: usize) -> u32;
+    fn par1_inverse(x: u8, out: *mut u8, out_len: usize) -> u32;
+}
+
+const GUARD: usize = 32;
+
+/// Lends a copy of `room` with guard bytes around it: the call's number, and the room after it. A guard that changed ends the run.
+fn lent(room: &[u8], call: impl FnOnce(*mut u8, usize) -> u32) -> (u32, Vec<u8>) {
+    let mut space = vec![0xa5; GUARD];
+    space.extend_from_slice(room);
+    space.extend(vec![0x5a; GUARD]);
+    let number = call(space[GUARD..].as_mut_ptr(), room.len());
+    let end = GUARD + room.len();
+    assert!(space[..GUARD].iter().all(|&b| b == 0xa5), "a byte before the room was written");
+    assert!(space[end..].iter().all(|&b| b == 0x5a), "a byte past the room was written");
+    (number, space[GUARD..end].to_vec())
+}
+
+pub fn md5(bytes: &[u8], room: &[u8]) -> (u32, Vec<u8>) {
+    lent(room, |out, len| unsafe { par1_md5(bytes.as_ptr(), bytes.len(), out, len) })
+}
+
+pub fn inverse(x: u8, room: &[u8]) -> (u32, Vec<u8>) {
+    lent(room, |out, len| unsafe { par1_inverse(x, out, len) })
+}

@@ -1,0 +1,20 @@
+//! What document 01 says of each call: its number, and the room after it.
+
+use crate::{field, md5};
+
+/// A refusal changes nothing; 14 where the room is shorter than what is to be written; else 0, and the room's first bytes.
+fn written(value: Result<Vec<u8>, u32>, room: &[u8]) -> (u32, Vec<u8>) {
+    match value {
+        Err(number) => (number, room.to_vec()),
+        Ok(bytes) if room.len() < bytes.len() => (14, room.to_vec()),
+        Ok(bytes) => (0, [&bytes, &room[bytes.len()..]].concat()),
+    }
+}
+
+pub fn md5(bytes: &[u8], room: &[u8]) -> (u32, Vec<u8>) {
+    written(Ok(md5::digest(bytes).to_vec()), room)
+}
+
+pub fn inverse(x: u8, room: &[u8]) -> (u32, Vec<u8>) {
+    written(field::inverse(x).map(|b| vec![b]).ok_or(10), room)
+}
