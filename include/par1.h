@@ -20,6 +20,13 @@ uint32_t par1_md5(const uint8_t *bytes, size_t bytes_len, uint8_t *out, size_t o
  * `out` has no byte. */
 uint32_t par1_inverse(uint8_t x, uint8_t *out, size_t out_len);
 
+/* The coefficient of a file in a volume, f to the power v - 1, into the first byte of `out`. Refuses with 10 where file or volume is 0 or
+ * their sum is above 255, then with 14 where `out` has no byte. */
+uint32_t par1_coefficient(uint64_t file, uint64_t volume, uint8_t *out, size_t out_len);
+
+/* Adds weight times the fragment to the buffer, byte by byte, for as many bytes as both have. Refuses nothing. */
+void par1_mul_add(uint8_t weight, const uint8_t *fragment, size_t fragment_len, uint8_t *buffer, size_t buffer_len);
+
 #ifdef __cplusplus
 }
 #endif

@@ -3,6 +3,8 @@
 extern "C" {
     fn par1_md5(bytes: *const u8, bytes_len: usize, out: *mut u8, out_len: usize) -> u32;
     fn par1_inverse(x: u8, out: *mut u8, out_len: usize) -> u32;
+    fn par1_coefficient(file: u64, volume: u64, out: *mut u8, out_len: usize) -> u32;
+    fn par1_mul_add(weight: u8, fragment: *const u8, fragment_len: usize, buffer: *mut u8, buffer_len: usize);
 }
 
 const GUARD: usize = 32;
@@ -25,4 +27,12 @@ pub fn md5(bytes: &[u8], room: &[u8]) -> (u32, Vec<u8>) {
 
 pub fn inverse(x: u8, room: &[u8]) -> (u32, Vec<u8>) {
     lent(room, |out, len| unsafe { par1_inverse(x, out, len) })
+}
+
+pub fn coefficient(file: u64, volume: u64, room: &[u8]) -> (u32, Vec<u8>) {
+    lent(room, |out, len| unsafe { par1_coefficient(file, volume, out, len) })
+}
+
+pub fn mul_add(weight: u8, fragment: &[u8], buffer: &mut [u8]) {
+    unsafe { par1_mul_add(weight, fragment.as_ptr(), fragment.len(), buffer.as_mut_ptr(), buffer.len()) }
 }

@@ -18,3 +18,8 @@ pub fn md5(bytes: &[u8], room: &[u8]) -> (u32, Vec<u8>) {
 pub fn inverse(x: u8, room: &[u8]) -> (u32, Vec<u8>) {
     written(field::inverse(x).map(|b| vec![b]).ok_or(10), room)
 }
+
+pub fn coefficient(f: u64, v: u64, room: &[u8]) -> (u32, Vec<u8>) {
+    let out_of_range = f == 0 || v == 0 || f as u128 + v as u128 > 255;
+    written(if out_of_range { Err(10) } else { Ok(vec![field::coefficient(f as u8, v as u8)]) }, room)
+}

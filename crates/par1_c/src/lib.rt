@@ -3,6 +3,8 @@
 ghost use mathlib.Core.Path.{_≡_};
 ghost use Rattle.gf256.specs.Answer.{inverseAnswer};
 ghost use Rattle.md5.specs.Digest.{digestInto};
+ghost use Rattle.parity.specs.Coefficient.{coefficientAnswer};
+ghost use Rattle.parity.specs.MulAdd.{mulAdd};
 ghost use Rattle.par1_c.specs.Byte.{byteInto};
 use gf256::Answer;
 
@@ -20,6 +22,22 @@ pub extern "C" fn par1_inverse(x: u8, out: &mut [u8]) -> u32
     ensures { λ r. ⌜ (r, now (out .exit)) ≡ byteInto (inverseAnswer x) (now (out .entry)) ⌝ }
 {
     put_answer(gf256::inverse(x), out)
+}
+
+// The coefficient of a file in a volume over the first byte of `out`.
+#[no_mangle]
+pub extern "C" fn par1_coefficient(file: u64, volume: u64, out: &mut [u8]) -> u32
+    ensures { λ r. ⌜ (r, now (out .exit)) ≡ byteInto (coefficientAnswer file volume) (now (out .entry)) ⌝ }
+{
+    put_answer(parity::coefficient(file, volume), out)
+}
+
+// Adds weight times the fragment to the buffer, byte by byte, as far as both go.
+#[no_mangle]
+pub extern "C" fn par1_mul_add(weight: u8, fragment: &[u8], buffer: &mut [u8])
+    ensures { λ _. ⌜ now (buffer .exit) ≡ mulAdd weight (now (fragment .entry)) (now (buffer .entry)) ⌝ }
+{
+    parity::mul_add(weight, fragment, buffer)
 }
 
 // The byte that an answer is, over the first byte of `out`.

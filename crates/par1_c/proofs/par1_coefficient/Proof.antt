@@ -1,0 +1,24 @@
+-- `par1_c::par1_coefficient` meets its contract.
+-- Assumes nothing.
+use mathlib.Core.Path.{ap, _∙_}
+use denote.Ref.{now}
+use Rattle.gf256.specs.declared.Answer.{Answer}
+use Rattle.par1_c.specs.Byte.{byteInto}
+use borrow.Author.Needs.{needs}
+use Rattle.par1_c.proofs.par1_coefficient.Statement.{statement}
+use Rattle.par1_c.proofs.par1_coefficient.Tie as tie
+
+coefficient-requires : tie.Need-coefficient-requires
+coefficient-requires c κs = search needs
+
+put-answer-requires : tie.Need-put-answer-requires
+put-answer-requires c κs = search needs
+
+same-length : tie.Need-same-length
+same-length c = search needs
+
+returns : tie.Need-returns
+returns c = c .before .before .put-answer .ensures ∙ ap (λ (r : Answer). byteInto r (now (c .before .before .before .before .before .before .args .out))) (c .before .before .before .before .coefficient .ensures)
+
+pub par1-coefficient-spec : {M : Type 1} → statement M
+par1-coefficient-spec = tie.close (tie.spec coefficient-requires put-answer-requires same-length returns)

@@ -1,0 +1,58 @@
+-- `parity::coefficient` meets its contract: each test of the code decides one part of the refusal.
+-- Assumes nothing.
+use mathlib.Core.Path.{sym, ap, _∙_}
+use native.Mathlib.Omega.{arith}
+use borrow.Author.Needs.{needs}
+use Rattle.gf256.specs.declared.Answer.the-variants.{Byte}
+use Rattle.parity.specs.Coefficient.{coefficient}
+use Rattle.parity.proofs.Coefficients.{answer-in-range, answer-file-zero, answer-volume-zero, answer-sum-above}
+use Rattle.parity.proofs.coefficient.Statement.{statement}
+use Rattle.parity.proofs.coefficient.Tie as tie
+
+returns : tie.Need-returns
+returns c = sym (answer-file-zero _ _ (c .if1 .taken))
+
+returns-2 : tie.Need-returns-2
+returns-2 c = sym (answer-volume-zero _ _ (c .if2 .taken))
+
+returns-3 : tie.Need-returns-3
+returns-3 c =
+    let a = c .before .before .before .args in
+    sym (answer-sum-above (a .file) (a .volume) (omega arith))
+
+returns-4 : tie.Need-returns-4
+returns-4 c =
+    let a = c .before .before .before .before .args in
+    sym (answer-sum-above (a .file) (a .volume) (omega arith))
+
+cast-power : tie.Need-cast-power
+cast-power c = search needs
+
+sub-power : tie.Need-sub-power
+sub-power c = search needs
+
+cast-power-2 : tie.Need-cast-power-2
+cast-power-2 c = search needs
+
+power-requires : tie.Need-power-requires
+power-requires c κs = search needs
+
+returns-5 : tie.Need-returns-5
+unfolding coefficient
+returns-5 c =
+    let a = c .before .before .before .before .before .args in
+    ap Byte (c .power .ensures) ∙ sym (answer-in-range (a .file) (a .volume) (omega arith) (omega arith) (omega arith))
+
+pub coefficient-spec : {M : Type 1} → statement M
+coefficient-spec =
+    tie.close
+    (tie.spec
+    returns
+    returns-2
+    returns-3
+    returns-4
+    cast-power
+    sub-power
+    cast-power-2
+    power-requires
+    returns-5)

@@ -1,0 +1,4 @@
+pub mod Coefficient
+pub mod MulAdd
+pub mod Once
+pub mod Parity
