@@ -1,0 +1,126 @@
+-- The walk over a list, entry by entry.
+--
+--   entries-more   an entry at the front is the first entry
+--   walkFrom t c   the totals t and those of the entries c, where nothing is left after them; or the fault there
+--   walk-start     the walk from no entries at all
+--   walk-more, walk-end, walk-fault    a step of the walk, by what is at the front
+--   is-filled      what a walk to the end tells
+--   add-added      an entry more is one entry more, and one saved entry more at most
+-- Assumes nothing.
+use mathlib.Core.Path.{_≡_, refl, sym, ap, ap₂, _∙_}
+use mathlib.Core.Bool.{Bool, true, false, cond}
+use mathlib.Core.List.{List, [], _∷_, map, foldr}
+use Prim.Native.Nat.{ℕ, _+_, _≤_, _<_, max}
+use native.Mathlib.Omega.{arith}
+use lib.ListN.{length, take, drop}
+use Rattle.pieces.specs.Pieces.{Cut, before}
+use Rattle.pieces.proofs.CutLaws.{cut-none, cut-stop, cut-more}
+use Rattle.entries.specs.Entry.{statusOf, sizeOf, isSaved, counts, lengthOf}
+use Rattle.entries.specs.Numbering.{keep, savedOf}
+use Rattle.entries.specs.Walk.{faultOf, entriesOf, totalsOf, addEntry, walkedTo, walkOf}
+use Rattle.entries.specs.declared.Fault.{Fault}
+use Rattle.entries.specs.declared.Totals.{Totals}
+use Rattle.entries.specs.declared.Walked.{Walked}
+use Rattle.entries.specs.declared.Walked.the-variants as walked
+use Rattle.entries.proofs.EntryLaws.{IsEntry, IsFault}
+
+pub entries-more : {s : List ℕ} {n status size : ℕ} → IsEntry s n status size → entriesOf s ≡ before (take n s) (entriesOf (drop n s))
+entries-more {s} i =
+    cut-more lengthOf s (omega (arith, i .low, i .high)) (omega (arith, i .low, i .length-is))
+    ∙ ap (λ (k : ℕ). before (take k s) (entriesOf (drop k s))) (i .length-is)
+
+-- ---- totals
+
+abbrev totals : ℕ → ℕ → ℕ → Totals
+totals n m k = record { entries = n; saved = m; greatest = k }
+
+abbrev plus : Totals → Totals → Totals
+plus a b = totals (a .entries + b .entries) (a .saved + b .saved) (max (a .greatest) (b .greatest))
+
+same : {a b c d e f : ℕ} → a ≡ b → c ≡ d → e ≡ f → totals a c e ≡ totals b d f
+same p q r = cc
+
+plus-none : (t : Totals) → plus (totals 0 0 0) t ≡ t
+plus-none t = same (omega arith) (omega arith) (omega arith)
+
+abbrev greatest : List (List ℕ) → ℕ
+greatest es = foldr max 0 (map (λ e. sizeOf e) es)
+
+plus-saved : (b : Bool) (n : ℕ) (e : List ℕ) (es : List (List ℕ))
+    → cond b (n + 1) n + length es ≡ n + length (cond b (e ∷ es) es)
+plus-saved true n e es = omega arith
+plus-saved false n e es = refl
+
+plus-greatest : (b : Bool) (n : ℕ) (e : List ℕ) (es : List (List ℕ))
+    → max (cond b (max n (sizeOf e)) n) (greatest es) ≡ max n (greatest (cond b (e ∷ es) es))
+plus-greatest true n e es = omega arith
+plus-greatest false n e es = refl
+
+plus-entry : (t : Totals) (e : List ℕ) (es : List (List ℕ))
+    → plus (addEntry t (statusOf e) (sizeOf e)) (totalsOf es) ≡ plus t (totalsOf (e ∷ es))
+unfolding addEntry
+plus-entry t e es =
+    same (omega arith) (plus-saved (isSaved (statusOf e)) (t .saved) e (savedOf es))
+    (plus-greatest (counts (statusOf e)) (t .greatest) e (keep (λ e. counts (statusOf e)) es))
+
+one-most : (b : Bool) (n : ℕ) → cond b (n + 1) n ≤ n + 1
+one-most true n = omega arith
+one-most false n = omega arith
+
+-- what an entry more changes
+pub record Added (t u : Totals) : Type 0 where
+  pub entries-is : u .entries ≡ t .entries + 1
+  pub saved-most : u .saved ≤ t .saved + 1
+
+pub add-added : (t : Totals) (status size : ℕ) → Added t (addEntry t status size)
+unfolding addEntry
+add-added t status size = record { entries-is = refl; saved-most = one-most (isSaved status) (t .saved) }
+
+-- ---- the walk, step by step
+
+unfoldable pub walkFrom : Totals → Cut → Walked
+walkFrom t c = walkedTo (plus t (totalsOf (c .pieces))) (c .rest)
+
+pub walk-start : (s : List ℕ) → walkFrom (totals 0 0 0) (entriesOf s) ≡ walkOf s
+unfolding walkFrom walkOf
+walk-start s = ap (λ (t : Totals). walkedTo t (entriesOf s .rest)) (plus-none (totalsOf (entriesOf s .pieces)))
+
+pub walk-more : (t : Totals) {s : List ℕ} {n status size : ℕ} → IsEntry s n status size
+    → walkFrom (addEntry t status size) (entriesOf (drop n s)) ≡ walkFrom t (entriesOf s)
+unfolding walkFrom
+walk-more t {s} {n} {status} {size} i =
+    let rest : Cut = entriesOf (drop n s) in
+    let e : List ℕ = take n s in
+    ap₂ (λ (x y : ℕ). walkFrom (addEntry t x y) rest) (i .status-is) (i .size-is)
+    ∙ ap (λ (u : Totals). walkedTo u (rest .rest)) (plus-entry t e (rest .pieces))
+    ∙ ap (walkFrom t) (sym (entries-more i))
+
+pub walk-end : (t : Totals) {s : List ℕ} → s ≡ [] → walkFrom t (entriesOf s) ≡ walked.Entries t
+unfolding walkFrom
+walk-end t {s} e =
+    ap (λ (l : List ℕ). walkFrom t (entriesOf l)) e ∙ ap (walkFrom t) (cut-none lengthOf)
+    ∙ ap walked.Entries (same (omega arith) (omega arith) (omega arith))
+
+stopped : (t : Totals) (s : List ℕ) → 0 < length s → walkedTo t s ≡ walked.Fault (faultOf s)
+stopped t [] h = absurd (omega arith)
+stopped t (b ∷ s) h = refl
+
+pub walk-fault : (t : Totals) {s : List ℕ} {f : Fault} → IsFault s f → walkFrom t (entriesOf s) ≡ walked.Fault f
+unfolding walkFrom
+walk-fault t {s} i =
+    ap (walkFrom t) (cut-stop lengthOf s (i .length-zero)) ∙ stopped _ s (i .some) ∙ ap walked.Fault (sym (i .fault-is))
+
+-- ---- a walk to the end
+
+-- the entries of s fill it, and t are their totals
+pub record Filled (s : List ℕ) (t : Totals) : Type 0 where
+  pub totals-are : t ≡ totalsOf (entriesOf s .pieces)
+  pub rest-none : entriesOf s .rest ≡ []
+
+pub is-filled : (s : List ℕ) {t : Totals} → walked.Entries t ≡ walkOf s → Filled s t
+unfolding walkOf
+is-filled s {t} e = by (entriesOf s .rest) refl e
+  where
+    by : (r : List ℕ) → r ≡ entriesOf s .rest → walked.Entries t ≡ walkedTo (totalsOf (entriesOf s .pieces)) r → Filled s t
+    by [] n e = record { totals-are = cc; rest-none = sym n }
+    by (b ∷ r) n e = absurd (let z : _≡_ {A = ℕ} 0 1 = cc in omega arith)

@@ -1,0 +1,69 @@
+-- The walk over a list (document 01, "Byte layout": "Entries fill the list area with nothing left over").
+--
+--   faultOf s        the first rule that the entry at the front of s breaks, where it breaks one
+--   faultNumber f    the number of the refusal for a fault
+--   itemOf e         the entry e, as numbers
+--   firstOf s        what s begins with: an entry, nothing, or a fault
+--   entriesOf s      the entries of s up to the first fault, and the rest of s
+--   greatestOf es    the greatest file size of the entries es that count for the data size
+--   totalsOf es      how many entries es are, how many of them are saved, and the greatest size
+--   addEntry t st n  the totals t and an entry more, with the status st and the file size n
+--   walkOf s         the totals of the entries of s, where they fill it; or the first fault
+-- Assumes nothing.
+use Prim.Native.Nat.{ℕ, _+_, max}
+use mathlib.Core.Bool.{cond}
+use mathlib.Core.List.{List, [], _∷_, map, foldr}
+use lib.ListN.{length, take}
+use Rattle.pieces.specs.Pieces.{Cut, cut}
+use Rattle.entries.specs.Entry.{entrySize, statusOf, sizeOf, isSaved, counts, sizeAllowed, fileSizeAllowed, entryAllowed, lengthOf}
+use Rattle.entries.specs.Numbering.{keep, savedOf}
+use Rattle.entries.specs.declared.Fault.{Fault}
+use Rattle.entries.specs.declared.Fault.the-variants.{Size, FileSize, Name}
+use Rattle.entries.specs.declared.Item.{Item}
+use Rattle.entries.specs.declared.Item.the-variants as item
+use Rattle.entries.specs.declared.Totals.{Totals}
+use Rattle.entries.specs.declared.Walked.{Walked}
+use Rattle.entries.specs.declared.Walked.the-variants as walked
+
+-- the rules in their order: the entry's size, its file's size, its name
+unfoldable pub faultOf : List ℕ → Fault
+faultOf s =
+    cond (sizeAllowed (entrySize s) (length s)) (cond (fileSizeAllowed (sizeOf (take (entrySize s) s))) Name FileSize) Size
+
+-- "6: an entry or the list breaks its rules"
+abbrev pub faultNumber : Fault → ℕ
+faultNumber Size = 6
+faultNumber FileSize = 6
+faultNumber Name = 6
+
+abbrev pub itemOf : List ℕ → Item
+itemOf e = item.Entry (length e) (statusOf e) (sizeOf e)
+
+unfoldable pub firstOf : List ℕ → Item
+firstOf [] = item.End
+firstOf (b ∷ s) =
+    cond (entryAllowed (b ∷ s)) (itemOf (take (entrySize (b ∷ s)) (b ∷ s))) (item.Fault (faultOf (b ∷ s)))
+
+abbrev pub entriesOf : List ℕ → Cut
+entriesOf s = cut lengthOf s
+
+abbrev pub greatestOf : List (List ℕ) → ℕ
+greatestOf es = foldr max 0 (map (λ e. sizeOf e) (keep (λ e. counts (statusOf e)) es))
+
+abbrev pub totalsOf : List (List ℕ) → Totals
+totalsOf es = record { entries = length es; saved = length (savedOf es); greatest = greatestOf es }
+
+unfoldable pub addEntry : Totals → ℕ → ℕ → Totals
+addEntry t status size =
+    record {
+      entries = t .entries + 1;
+      saved = cond (isSaved status) (t .saved + 1) (t .saved);
+      greatest = cond (counts status) (max (t .greatest) size) (t .greatest);
+    }
+
+abbrev pub walkedTo : Totals → List ℕ → Walked
+walkedTo t [] = walked.Entries t
+walkedTo t (b ∷ s) = walked.Fault (faultOf (b ∷ s))
+
+unfoldable pub walkOf : List ℕ → Walked
+walkOf s = walkedTo (totalsOf (entriesOf s .pieces)) (entriesOf s .rest)

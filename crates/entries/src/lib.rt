@@ -1,0 +1,200 @@
+// The entries of a Par 1.0 list (document 01, "Byte layout"): the first entry of a part of a list, and the walk over a whole one.
+ghost use mathlib.Core.Path.{_≡_};
+ghost use mathlib.Core.Bool.{cond};
+ghost use Prim.Native.Nat.{_+_, _<_, _^_, max};
+ghost use Rattle.entries.specs.Entry.{unitAllowed, nameAllowed, unitsOf, sizeAllowed, isSaved, counts};
+ghost use Rattle.entries.specs.Walk.{faultNumber, firstOf, addEntry, walkOf};
+
+// The greatest size of a listed file, in bytes.
+pub const MAX_FILE_SIZE: u64 = 16777216;
+
+// The shortest entry: 56 bytes of fields, and a name of one unit.
+const MIN_ENTRY_SIZE: u64 = 58;
+
+// Where the name begins in an entry.
+const NAME_START: usize = 56;
+
+// The rule that an entry breaks: that on its own size, on its file's size, or on its name.
+pub enum Fault {
+    Size,
+    FileSize,
+    Name,
+}
+
+// What a part of a list begins with: an entry, nothing, or an entry that breaks a rule.
+pub enum Item {
+    Entry {
+        length: usize,
+        status: u64,
+        size: u64,
+    },
+    End,
+    Fault(Fault),
+}
+
+// Of the entries of a list: their number, that of the saved ones, and the greatest size of a file that counts for the data size.
+pub struct Totals {
+    pub entries: u64,
+    pub saved: u64,
+    pub greatest: u64,
+}
+
+// What the walk over a list finds: entries to its end, or the first fault.
+pub enum Walked {
+    Entries(Totals),
+    Fault(Fault),
+}
+
+// The first entry of `list`, as numbers. The entry is the first `length` bytes, and the list goes on after it.
+pub fn first(list: &[u8]) -> Item
+    ensures { λ r. ⌜ r ≡ firstOf (now (list .entry)) ⌝ }
+{
+    if list.len() == 0 {
+        return Item::End;
+    }
+    let entry_size = little_endian::read64(list, 0);
+    if !size_allowed(entry_size, list.len()) {
+        return Item::Fault(Fault::Size);
+    }
+    let length = entry_size as usize;
+    let entry = &list[..length];
+    let size = little_endian::read64(entry, 16);
+    if size > MAX_FILE_SIZE {
+        return Item::Fault(Fault::FileSize);
+    }
+    if !name_allowed(&entry[NAME_START..]) {
+        return Item::Fault(Fault::Name);
+    }
+    let status = little_endian::read64(entry, 8);
+    Item::Entry {
+        length,
+        status,
+        size,
+    }
+}
+
+// The totals of the entries of `list`.
+pub fn walk(list: &[u8]) -> Walked
+    ensures { λ r. ⌜ r ≡ walkOf (now (list .entry)) ⌝ }
+{
+    let mut totals = Totals {
+        entries: 0,
+        saved: 0,
+        greatest: 0,
+    };
+    let mut at: usize = 0;
+    loop {
+        match first(&list[at..]) {
+            Item::Entry {
+                length,
+                status,
+                size,
+            } => {
+                totals = added(totals, status, size);
+                at += length;
+            }
+            Item::End => return Walked::Entries(totals),
+            Item::Fault(fault) => return Walked::Fault(fault),
+        }
+    }
+}
+
+// Whether a name is allowed in an entry.
+pub fn name_allowed(name: &[u8]) -> bool
+    ensures { λ r. ⌜ r ≡ nameAllowed (unitsOf (now (name .entry))) ⌝ }
+{
+    let mut at: usize = 0;
+    while 2 <= name.len() - at {
+        if !unit_allowed(little_endian::read16(name, at)) {
+            return false;
+        }
+        at += 2;
+    }
+    true
+}
+
+// Whether an entry with this status is saved in the parity.
+pub fn is_saved(status: u64) -> bool
+    ensures { λ r. ⌜ r ≡ isSaved status ⌝ }
+{
+    status % 2 == 1
+}
+
+// The number of the refusal for a fault.
+pub fn fault_number(fault: Fault) -> u32
+    ensures { λ r. ⌜ r ≡ faultNumber fault ⌝ }
+{
+    match fault {
+        Fault::Size => 6,
+        Fault::FileSize => 6,
+        Fault::Name => 6,
+    }
+}
+
+// Whether an entry of `size` bytes may stand at the front of `room` bytes.
+fn size_allowed(size: u64, room: usize) -> bool
+    ensures { λ r. ⌜ r ≡ sizeAllowed size room ⌝ }
+{
+    if size % 2 != 0 {
+        return false;
+    }
+    if size < MIN_ENTRY_SIZE {
+        return false;
+    }
+    size <= room as u64
+}
+
+fn unit_allowed(unit: u16) -> bool
+    ensures { λ r. ⌜ r ≡ unitAllowed unit ⌝ }
+{
+    if unit == 47 {
+        return false;
+    }
+    unit != 92
+}
+
+// The totals with one entry more.
+fn added(totals: Totals, status: u64, size: u64) -> Totals
+    requires { ⌜ (totals .entries + 1 < 2 ^ 64) × (totals .saved + 1 < 2 ^ 64) ⌝ }
+    ensures { λ r. ⌜ r ≡ addEntry totals status size ⌝ }
+{
+    Totals {
+        entries: totals.entries + 1,
+        saved: saved_after(totals.saved, status),
+        greatest: greatest_after(totals.greatest, status, size),
+    }
+}
+
+// The number of saved entries with one entry more.
+fn saved_after(saved: u64, status: u64) -> u64
+    requires { ⌜ saved + 1 < 2 ^ 64 ⌝ }
+    ensures { λ r. ⌜ r ≡ cond (isSaved status) (saved + 1) saved ⌝ }
+{
+    if is_saved(status) {
+        return saved + 1;
+    }
+    saved
+}
+
+// The greatest size that counts, with one entry more.
+fn greatest_after(greatest: u64, status: u64, size: u64) -> u64
+    ensures { λ r. ⌜ r ≡ cond (counts status) (max greatest size) greatest ⌝ }
+{
+    if is_counted(status) {
+        return greater(greatest, size);
+    }
+    greatest
+}
+
+// Whether an entry counts for the data size.
+fn is_counted(status: u64) -> bool
+    ensures { λ r. ⌜ r ≡ counts status ⌝ }
+{
+    true
+}
+
+fn greater(a: u64, b: u64) -> u64
+    ensures { λ r. ⌜ r ≡ max a b ⌝ }
+{
+    if a < b { b } else { a }
+}

@@ -1,0 +1,27 @@
+-- What a reading tells of its file.
+--
+--   list-in   the list that it tells of lies in the file
+-- Assumes nothing.
+use mathlib.Core.Path.{_≡_, refl, sym, subst}
+use mathlib.Core.List.{List}
+use Prim.Native.Nat.{ℕ, zero, suc}
+use native.Mathlib.Omega.{arith}
+use Rattle.par1.specs.Rules.{orElse}
+use Rattle.par1.specs.Reading.{headerRefusal, refusalOf, readOf}
+use Rattle.par1.specs.declared.reading.Reading.{Reading}
+use Rattle.par1.proofs.ReadingLaws.{HeaderPassed, header-passed, read-accepted, read-refused}
+use Rattle.listing.specs.Listing.{ListIn}
+
+header-none : (n m : ℕ) → orElse n m ≡ 0 → n ≡ 0
+header-none zero m e = refl
+header-none (suc n) m e = absurd (omega arith)
+
+by-refusal : (f : List ℕ) (n : ℕ) → n ≡ refusalOf f → ListIn (readOf f) f
+unfolding refusalOf
+by-refusal f zero e =
+    let h : HeaderPassed f = header-passed f (header-none (headerRefusal f) _ (sym e)) in
+    rw (read-accepted f (sym e)) (refl, omega (arith, h .layout .data-start, h .layout .data-end))
+by-refusal f (suc n) e = rw (read-refused f (suc n) e (λ z. omega arith)) tt
+
+pub list-in : (f : List ℕ) {r : Reading} → r ≡ readOf f → ListIn r f
+list-in f e = subst (λ (r : Reading). ListIn r f) (sym e) (by-refusal f (refusalOf f) refl)

@@ -1,0 +1,29 @@
+-- `listing::list` meets its contract.
+-- Assumes nothing.
+use mathlib.Core.Path.{ap, _∙_}
+use denote.Ref.{now}
+use Rattle.par1.specs.declared.reading.Reading.{Reading}
+use Rattle.text.specs.Fit.{fit}
+use Rattle.listing.specs.Listing.{listingBy, listingOf}
+use Rattle.listing.proofs.AcceptedLaws.{list-in}
+use borrow.Author.Needs.{needs}
+use Rattle.listing.proofs.list.Statement.{statement}
+use Rattle.listing.proofs.list.Tie as tie
+
+read-requires : tie.Need-read-requires
+read-requires c κs = search needs
+
+list-as-requires : tie.Need-list-as-requires
+list-as-requires c κs = list-in (now (c .before .before .before .before .args .file)) (c .before .read .ensures)
+
+same-length : tie.Need-same-length
+same-length c = search needs
+
+returns : tie.Need-returns
+unfolding listingOf
+returns c =
+    let a = c .before .before .before .before .before .before .before .args in
+    c .before .before .list-as .ensures ∙ ap (λ (r : Reading). fit (listingBy r (now (a .file))) (now (a .out))) (c .before .before .before .before .read .ensures)
+
+pub list-spec : {M : Type 1} → statement M
+list-spec = tie.close (tie.spec read-requires list-as-requires same-length returns)

@@ -1,0 +1,58 @@
+-- The lines of a listing (document 01, "What comes back").
+--
+--   shown u             the character that a name unit u is printed as
+--   refusedLine n       the line of a refused file
+--   headLine v f s      the first line of an accepted file: volume number, entries, saved entries
+--   label st n          the label of an entry with the status st: the file number n, or "-"
+--   entryLine n e       the line of the entry e, whose file number is n if it is saved
+--   savedAfter k st     how many saved entries there are with an entry of the status st more, where there were k
+--   entryLines k es     the lines of the entries es, where k saved ones stand before them
+-- Assumes nothing.
+use Prim.Native.Nat.{ℕ, _+_}
+use mathlib.Core.Bool.{cond, _&&_}
+use mathlib.Core.List.{List, [], _∷_, _++_, map, flatten}
+use lib.Dec.{leb}
+use Rattle.entries.specs.Entry.{statusOf, sizeOf, nameOf, unitsOf, isSaved}
+use Rattle.text.specs.Decimal.{decimal}
+
+-- "Name units 32 to 126 are printed, others as "?""
+unfoldable pub shown : ℕ → ℕ
+shown u = cond (leb 32 u && leb u 126) u 63
+
+-- "the line `refused N`", "ended by byte 10"
+unfoldable pub refusedLine : ℕ → List ℕ
+refusedLine n = flatten ((114 ∷ 101 ∷ 102 ∷ 117 ∷ 115 ∷ 101 ∷ 100 ∷ 32 ∷ []) ∷ decimal n ∷ (10 ∷ []) ∷ [])
+
+-- "volume 0 files 2 saved 1"
+unfoldable pub headLine : ℕ → ℕ → ℕ → List ℕ
+headLine volume files saved =
+    flatten
+    ((118 ∷ 111 ∷ 108 ∷ 117 ∷ 109 ∷ 101 ∷ 32 ∷ [])
+    ∷ decimal volume
+    ∷ (32 ∷ 102 ∷ 105 ∷ 108 ∷ 101 ∷ 115 ∷ 32 ∷ [])
+    ∷ decimal files
+    ∷ (32 ∷ 115 ∷ 97 ∷ 118 ∷ 101 ∷ 100 ∷ 32 ∷ [])
+    ∷ decimal saved
+    ∷ (10 ∷ [])
+    ∷ [])
+
+-- the file's number, or "-" where the entry is not saved: "entries not saved have no number"
+unfoldable pub label : ℕ → ℕ → List ℕ
+label status number = cond (isSaved status) (decimal number) (45 ∷ [])
+
+-- "1 5 A.LOG" for a saved entry, "- 12 NOTE.TXT" for another
+unfoldable pub lineOf : ℕ → ℕ → ℕ → List ℕ → List ℕ
+lineOf status number size name =
+    flatten (label status number ∷ (32 ∷ []) ∷ decimal size ∷ (32 ∷ []) ∷ map shown (unitsOf name) ∷ (10 ∷ []) ∷ [])
+
+abbrev pub entryLine : ℕ → List ℕ → List ℕ
+entryLine number e = lineOf (statusOf e) number (sizeOf e) (nameOf e)
+
+-- "Files are numbered 1 to n over the saved entries only, in list order"
+abbrev pub savedAfter : ℕ → ℕ → ℕ
+savedAfter k status = cond (isSaved status) (k + 1) k
+
+unfoldable pub entryLines : ℕ → List (List ℕ) → List ℕ
+entryLines k [] = []
+entryLines k (e ∷ es) =
+    let number : ℕ = savedAfter k (statusOf e) in entryLine number e ++ entryLines number es

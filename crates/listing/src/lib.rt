@@ -1,0 +1,69 @@
+// The listing of an index file or volume, as text into a lent buffer (document 01, "What comes back").
+ghost use mathlib.Core.Path.{_≡_};
+ghost use Rattle.text.specs.Buffer.{buffer, put as putOf};
+ghost use Rattle.text.specs.Fit.{outcome, fit};
+ghost use Rattle.listing.specs.Listing.{refusal as refusalOf, listingBy, listingOf, inputListing, ListIn};
+
+mod lines;
+
+use par1::Reading;
+use text::Reply;
+
+// Where the list begins in a file.
+const LIST_START: usize = 96;
+
+// The longest input that the program takes, in bytes.
+const MAX_INPUT: usize = 65536;
+
+// The listing of `file` over the first bytes of `out`, and its length; or 14, and nothing written, where it does not fit.
+pub fn list(file: &[u8], out: &mut [u8]) -> Reply
+    ensures { λ r. ⌜ outcome r (now (out .exit)) ≡ fit (listingOf (now (file .entry))) (now (out .entry)) ⌝ }
+{
+    list_as(file, par1::read(file), out)
+}
+
+// The listing of a program's input: that of the file it is, or a refusal with 1 where it is too long.
+pub fn list_input(input: &[u8], out: &mut [u8]) -> Reply
+    ensures { λ r. ⌜ outcome r (now (out .exit)) ≡ fit (inputListing (now (input .entry))) (now (out .entry)) ⌝ }
+{
+    if input.len() <= MAX_INPUT {
+        return list(input, out);
+    }
+    list_as(input, Reading::Refused(1), out)
+}
+
+// The listing of a file that reads as `reading`: measured, and written where it fits.
+fn list_as<'a, 'b>(file: &'a [u8], reading: Reading, out: &'b mut [u8]) -> Reply
+    requires { ⌜ ListIn reading (now file) ⌝ }
+    ensures { λ r. ⌜ outcome r (now (out .exit)) ≡ fit (listingBy reading (now (file .entry))) (now (out .entry)) ⌝ }
+{
+    let length = put_listing(&mut out[..0], file, reading);
+    if length <= out.len() {
+        put_listing(out, file, reading);
+        return Reply::Written(length);
+    }
+    Reply::Refused(14)
+}
+
+// The listing of a file that reads as `reading`, from position 0 on.
+fn put_listing<'a, 'b>(out: &'a mut [u8], file: &'b [u8], reading: Reading) -> usize
+    requires { ⌜ ListIn reading (now file) ⌝ }
+    ensures { λ r. ⌜ buffer (now (out .exit)) r ≡ putOf (buffer (now (out .entry)) 0) (listingBy reading (now (file .entry))) ⌝ }
+{
+    let Reading::Accepted(parts) = reading else {
+        return lines::put_refused(out, 0, refusal(reading));
+    };
+    let at = lines::put_head(out, 0, parts.number, parts.entries, parts.saved);
+    let end = LIST_START + parts.list_size as usize;
+    lines::put_entries(out, at, &file[LIST_START..end])
+}
+
+// The number of a refused reading, 0 of an accepted one.
+fn refusal(reading: Reading) -> u32
+    ensures { λ r. ⌜ r ≡ refusalOf reading ⌝ }
+{
+    match reading {
+        Reading::Accepted(_) => 0,
+        Reading::Refused(number) => number,
+    }
+}

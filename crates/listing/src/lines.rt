@@ -1,0 +1,126 @@
+// The lines of a listing, each put into a buffer.
+ghost use mathlib.Core.Path.{_≡_};
+ghost use mathlib.Core.Bool.{cond};
+ghost use mathlib.Core.List.{map};
+ghost use Prim.Native.Nat.{_+_, _<_, _^_};
+ghost use Rattle.entries.specs.Entry.{unitsOf, isSaved};
+ghost use Rattle.entries.specs.Walk.{entriesOf};
+ghost use Rattle.text.specs.Buffer.{buffer, put as putOf};
+ghost use Rattle.listing.specs.Lines.{shown as shownOf, refusedLine, headLine, label, lineOf, savedAfter, entryLines};
+use entries::Item;
+
+// Where the name begins in an entry.
+const NAME_START: usize = 56;
+
+// The line of a refused file.
+pub fn put_refused(out: &mut [u8], at: usize, number: u32) -> usize
+    ensures { λ r. ⌜ buffer (now (out .exit)) r ≡ putOf (buffer (now (out .entry)) at) (refusedLine number) ⌝ }
+{
+    let at = text::put_bytes(out, at, b"refused ");
+    let at = text::put_decimal(out, at, number as u64);
+    text::put(out, at, b'\n')
+}
+
+// The first line of an accepted file.
+pub fn put_head(out: &mut [u8], at: usize, volume: u64, files: u64, saved: u64) -> usize
+    ensures { λ r. ⌜ buffer (now (out .exit)) r ≡ putOf (buffer (now (out .entry)) at) (headLine volume files saved) ⌝ }
+{
+    let at = text::put_bytes(out, at, b"volume ");
+    let at = text::put_decimal(out, at, volume);
+    let at = text::put_bytes(out, at, b" files ");
+    let at = text::put_decimal(out, at, files);
+    let at = text::put_bytes(out, at, b" saved ");
+    let at = text::put_decimal(out, at, saved);
+    text::put(out, at, b'\n')
+}
+
+// The lines of the entries of `list`, up to the first fault.
+pub fn put_entries<'a, 'b>(out: &'a mut [u8], start: usize, list: &'b [u8]) -> usize
+    ensures { λ r. ⌜ buffer (now (out .exit)) r ≡ putOf (buffer (now (out .entry)) start) (entryLines 0 (entriesOf (now (list .entry)) .pieces)) ⌝ }
+{
+    let mut at = start;
+    let mut saved: u64 = 0;
+    let mut from: usize = 0;
+    loop {
+        match entries::first(&list[from..]) {
+            Item::Entry {
+                length,
+                status,
+                size,
+            } => {
+                let entry = &list[from..from + length];
+                saved = saved_after(saved, status);
+                at = put_line(out, at, status, saved, size, &entry[NAME_START..]);
+                from += length;
+            }
+            Item::End => return at,
+            Item::Fault(_) => return at,
+        }
+    }
+}
+
+// The line of an entry: its label, its file's size, its name.
+fn put_line<'a, 'b>(
+    out: &'a mut [u8],
+    at: usize,
+    status: u64,
+    number: u64,
+    size: u64,
+    name: &'b [u8],
+) -> usize
+    ensures { λ r. ⌜ buffer (now (out .exit)) r ≡ putOf (buffer (now (out .entry)) at) (lineOf status number size (now (name .entry))) ⌝ }
+{
+    let at = put_label(out, at, status, number);
+    let at = text::put(out, at, b' ');
+    let at = text::put_decimal(out, at, size);
+    let at = text::put(out, at, b' ');
+    let at = put_name(out, at, name);
+    text::put(out, at, b'\n')
+}
+
+// The file number of a saved entry, "-" for another.
+fn put_label(out: &mut [u8], at: usize, status: u64, number: u64) -> usize
+    ensures { λ r. ⌜ buffer (now (out .exit)) r ≡ putOf (buffer (now (out .entry)) at) (label status number) ⌝ }
+{
+    if entries::is_saved(status) {
+        return text::put_decimal(out, at, number);
+    }
+    text::put(out, at, b'-')
+}
+
+// The units of a name, each as a character.
+fn put_name<'a, 'b>(out: &'a mut [u8], start: usize, name: &'b [u8]) -> usize
+    ensures { λ r. ⌜ buffer (now (out .exit)) r ≡ putOf (buffer (now (out .entry)) start) (map shownOf (unitsOf (now (name .entry)))) ⌝ }
+{
+    let mut at = start;
+    let mut i: usize = 0;
+    while 2 <= name.len() - i {
+        at = text::put(out, at, shown(little_endian::read16(name, i)));
+        i += 2;
+    }
+    at
+}
+
+// The character of a name unit: itself from 32 to 126, else "?".
+fn shown(unit: u16) -> u8
+    ensures { λ r. ⌜ r ≡ shownOf unit ⌝ }
+{
+    if unit < 32 {
+        return b'?';
+    }
+    if 126 < unit {
+        return b'?';
+    }
+    unit as u8
+}
+
+// How many saved entries there are with one entry more, where there were k.
+fn saved_after(k: u64, status: u64) -> u64
+    requires { ⌜ k + 1 < 2 ^ 64 ⌝ }
+    ensures { λ r. ⌜ r ≡ savedAfter k status ⌝ }
+{
+    if entries::is_saved(status) {
+        return k + 1;
+    }
+    k
+}

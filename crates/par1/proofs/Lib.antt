@@ -1,0 +1,5 @@
+pub mod CheckingLaws
+pub mod EqualLaws
+pub mod HashLaws
+pub mod PartLaws
+pub mod ReadingLaws

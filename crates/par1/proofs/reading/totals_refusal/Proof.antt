@@ -1,0 +1,123 @@
+-- `par1::reading::totals_refusal` meets its contract.
+-- Assumes nothing.
+use mathlib.Core.Path.{_≡_, refl, sym, ap, ap₂, _∙_, subst}
+use mathlib.Core.Logic.{⊎-elim}
+use Prim.Native.Nat.{ℕ, _≤_, _<_, _-_, _+_, _*_}
+use native.Mathlib.Omega.{arith}
+use lib.ListN.{length, getD, set, length-set}
+use mathlib.Core.List.{List}
+use denote.Ref.{now}
+use borrow.Author.Tests.{not-true, not-false, ne-eqb, eq-eqb, lt-leb, le-leb}
+use mathlib.Core.Bool.{true}
+use lib.Dec.{eqb}
+use Rattle.par1.specs.Layout.{setHashOf, numberOf, countOf, dataSizeOf}
+use Rattle.par1.specs.Hashes.{equal, setHash}
+use Rattle.par1.specs.Rules.{numberAllowed, dataAllowed}
+use Rattle.par1.specs.Reading.{entriesIn, totalsRefusal}
+use Rattle.entries.specs.Walk.{entriesOf}
+use borrow.Author.Needs.{needs}
+use Rattle.par1.proofs.reading.totals_refusal.Statement.{statement}
+use Rattle.par1.proofs.reading.totals_refusal.Tie as tie
+
+-- ---- what each test says, and what it tells where it passed
+
+passed-6 : (c : tie.Else1) → eqb (c .before .before .before .before .before .args .totals .entries) (countOf (now (c .before .before .before .before .before .args .file))) ≡ true
+passed-6 c = eq-eqb _ _ (c .if1 .left ∙ c .before .before .read64 .ensures)
+
+number-test : (c : tie.After-number-allowed)
+    → c .number-allowed .result ≡ numberAllowed (numberOf (now (c .before .before .before .before .before .before .before .args .file))) (c .before .before .before .before .before .before .before .args .totals .saved)
+number-test c =
+    c .number-allowed .ensures ∙ ap (λ (n : ℕ). numberAllowed n (c .before .before .before .before .before .before .before .args .totals .saved)) (c .before .read642 .ensures)
+
+passed-7 : (c : tie.Else2) → numberAllowed (numberOf (now (c .before .before .before .before .before .before .before .before .args .file))) (c .before .before .before .before .before .before .before .before .args .totals .saved) ≡ true
+passed-7 c = sym (number-test (c .before)) ∙ not-false (c .before .number-allowed .result) (c .if2 .left)
+
+set-test : (c : tie.After-matches-set)
+    → c .matches-set .result ≡ equal (setHashOf (now (c .before .before .before .before .before .before .before .before .before .before .args .file))) (setHash (entriesIn (now (c .before .before .before .before .before .before .before .before .before .before .args .file))))
+set-test c =
+    c .matches-set .ensures
+    ∙ ap (λ (l : List ℕ). equal (setHashOf (now (c .before .before .before .before .before .before .before .before .before .before .args .file))) (setHash (entriesOf l .pieces))) (c .before .before .before .before .before .before .before .before .before .before .pre .1)
+
+passed-8 : (c : tie.Else3)
+    → equal (setHashOf (now (c .before .before .before .before .before .before .before .before .before .before .before .args .file))) (setHash (entriesIn (now (c .before .before .before .before .before .before .before .before .before .before .before .args .file)))) ≡ true
+passed-8 c = sym (set-test (c .before)) ∙ not-false (c .before .matches-set .result) (c .if3 .left)
+
+data-test : (c : tie.After-data-allowed)
+    → c .data-allowed .result ≡ dataAllowed (numberOf (now (c .before .before .before .before .before .before .before .before .before .before .before .before .before .args .file))) (c .before .before .before .before .before .before .before .before .before .before .before .before .before .args .totals .greatest) (dataSizeOf (now (c .before .before .before .before .before .before .before .before .before .before .before .before .before .args .file)))
+data-test c =
+    c .data-allowed .ensures
+    ∙ ap₂ (λ (n k : ℕ). dataAllowed n (c .before .before .before .before .before .before .before .before .before .before .before .before .before .args .totals .greatest) k) (c .before .before .before .before .before .before .before .read642 .ensures) (c .before .read643 .ensures)
+
+read64-requires : tie.Need-read64-requires
+read64-requires c κs = search needs
+
+returns : tie.Need-returns
+unfolding totalsRefusal
+returns c = simp (ne-eqb _ _ (λ e. c .if1 .taken (e ∙ sym (c .before .before .read64 .ensures))))
+
+read64-requires-2 : tie.Need-read64-requires-2
+read64-requires-2 c κs = search needs
+
+number-allowed-requires : tie.Need-number-allowed-requires
+number-allowed-requires c κs = search needs
+
+returns-2 : tie.Need-returns-2
+unfolding totalsRefusal
+returns-2 c = simp (passed-6 (c .before .before .before), sym (number-test (c .before)) ∙ not-true (c .before .number-allowed .result) (c .if2 .taken))
+
+sub-matches-set : tie.Need-sub-matches-set
+sub-matches-set c = search needs
+
+part-matches-set-start : tie.Need-part-matches-set-start
+part-matches-set-start c = search needs
+
+part-matches-set-end : tie.Need-part-matches-set-end
+part-matches-set-end c = omega (arith, c .before .before .before .before .before .before .before .before .pre .0)
+
+matches-set-requires : tie.Need-matches-set-requires
+matches-set-requires c κs = search needs
+
+returns-3 : tie.Need-returns-3
+unfolding totalsRefusal
+returns-3 c =
+    let b = c .before .before .before in
+    simp (passed-6 (b .before .before .before), passed-7 b, sym (set-test (c .before)) ∙ not-true (c .before .matches-set .result) (c .if3 .taken))
+
+read64-requires-3 : tie.Need-read64-requires-3
+read64-requires-3 c κs = search needs
+
+data-allowed-requires : tie.Need-data-allowed-requires
+data-allowed-requires c κs = search needs
+
+returns-4 : tie.Need-returns-4
+unfolding totalsRefusal
+returns-4 c =
+    let d = c .before .before .before in
+    let b = d .before .before .before in
+    simp (passed-6 (b .before .before .before), passed-7 b, passed-8 d, sym (data-test (c .before)) ∙ not-true (c .before .data-allowed .result) (c .if4 .taken))
+
+returns-5 : tie.Need-returns-5
+unfolding totalsRefusal
+returns-5 c =
+    let d = c .before .before .before in
+    let b = d .before .before .before in
+    simp (passed-6 (b .before .before .before), passed-7 b, passed-8 d, sym (data-test (c .before)) ∙ not-false (c .before .data-allowed .result) (c .if4 .left))
+
+pub totals-refusal-spec : {M : Type 1} → statement M
+totals-refusal-spec =
+    tie.close
+    (tie.spec
+    read64-requires
+    returns
+    read64-requires-2
+    number-allowed-requires
+    returns-2
+    sub-matches-set
+    part-matches-set-start
+    part-matches-set-end
+    matches-set-requires
+    returns-3
+    read64-requires-3
+    data-allowed-requires
+    returns-4
+    returns-5)

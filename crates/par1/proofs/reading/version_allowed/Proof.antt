@@ -1,0 +1,18 @@
+-- `par1::reading::version_allowed` meets its contract.
+-- Assumes nothing.
+use mathlib.Core.Path.{_≡_, refl, sym, ap, ap₂, _∙_, subst}
+use mathlib.Core.Logic.{⊎-elim}
+use Prim.Native.Nat.{ℕ, _≤_, _<_, _-_, _+_, _*_}
+use native.Mathlib.Omega.{arith}
+use lib.ListN.{length, getD, set, length-set}
+use Rattle.par1.specs.Rules.{versionAllowed}
+use borrow.Author.Needs.{needs}
+use Rattle.par1.proofs.reading.version_allowed.Statement.{statement}
+use Rattle.par1.proofs.reading.version_allowed.Tie as tie
+
+returns : tie.Need-returns
+unfolding versionAllowed
+returns c = refl
+
+pub version-allowed-spec : {M : Type 1} → statement M
+version-allowed-spec = tie.close (tie.spec returns)

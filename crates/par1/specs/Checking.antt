@@ -1,0 +1,33 @@
+-- What checking contents against an entry gives (document 01, "Checking tests 6 (the lent entry, which fills its slice), then 15").
+--
+--   loneRefusal e    the refusal of an entry e that stands alone, 0 where it keeps the rules and fills e
+--   checkOf e m      the refusal of the contents m by the entry e, 0 where they are those of its file
+-- Assumes nothing.
+use Prim.Native.Nat.{ℕ}
+use mathlib.Core.Bool.{_&&_}
+use mathlib.Core.List.{List}
+use lib.Dec.{eqb}
+use lib.ListN.{length}
+use Rattle.md5.specs.Digest.{md5}
+use Rattle.entries.specs.Entry.{sizeOf, md5Of, md5Of16k}
+use Rattle.entries.specs.Walk.{faultNumber, firstOf}
+use Rattle.entries.specs.declared.Fault.the-variants as fault
+use Rattle.entries.specs.declared.Item.{Item}
+use Rattle.entries.specs.declared.Item.the-variants as item
+use Rattle.par1.specs.Hashes.{equal, md5First}
+use Rattle.par1.specs.Rules.{test, orElse}
+
+-- an entry that is shorter than its slice, and no entry, have a wrong entry size
+abbrev pub itemRefusal : ℕ → Item → ℕ
+itemRefusal n (item.Entry length status size) = test (faultNumber fault.Size) (eqb length n) 0
+itemRefusal n item.End = faultNumber fault.Size
+itemRefusal n (item.Fault f) = faultNumber f
+
+unfoldable pub loneRefusal : List ℕ → ℕ
+loneRefusal e = itemRefusal (length e) (firstOf e)
+
+-- "15: rebuilt bytes differ in length, MD5 or 16k MD5 from the entry"
+unfoldable pub checkOf : List ℕ → List ℕ → ℕ
+checkOf e m =
+    orElse (loneRefusal e)
+    (test 15 (eqb (sizeOf e) (length m) && equal (md5Of e) (md5 m) && equal (md5Of16k e) (md5First m)) 0)

@@ -1,0 +1,5 @@
+pub mod Layout
+pub mod Hashes
+pub mod Rules
+pub mod Reading
+pub mod Checking

@@ -1,0 +1,18 @@
+// Lists the index file or volume on standard input (document 01, "What comes back"): thin over the crate `listing`.
+use libc::STDIN_FILENO;
+use libc::STDOUT_FILENO;
+use text::Reply;
+
+fn main() {
+    // one byte more than the longest input, so that a longer one is seen
+    let mut input = [0u8; 65537];
+    let length = io::read_full(STDIN_FILENO, &mut input);
+    // a listing is shorter than its file
+    let mut lines = [0u8; 65536];
+    let Reply::Written(end) = listing::list_input(&input[..length], &mut lines) else {
+        return;
+    };
+    if end <= 65536 {
+        io::write_all(STDOUT_FILENO, &lines[..end]);
+    }
+}
