@@ -27,6 +27,15 @@ uint32_t par1_coefficient(uint64_t file, uint64_t volume, uint8_t *out, size_t o
 /* Adds weight times the fragment to the buffer, byte by byte, for as many bytes as both have. Refuses nothing. */
 void par1_mul_add(uint8_t weight, const uint8_t *fragment, size_t fragment_len, uint8_t *buffer, size_t buffer_len);
 
+/* What an index file or volume holds, into the first 56 bytes of `out`: seven numbers of 64 bits, lowest byte first: program identifier,
+ * volume number (0 for an index), entries, saved entries, list size, data start, data size. The list starts at byte 96. Refuses with the
+ * number of the first test that holds, 1 to 9, then with 14 where `out` is shorter. */
+uint32_t par1_read(const uint8_t *file, size_t file_len, uint8_t *out, size_t out_len);
+
+/* Whether `contents` are those of the file that `entry` describes. Refuses with 6 where the entry breaks a rule or does not fill its
+ * bytes, then with 15 where length, MD5 or 16k MD5 differ. */
+uint32_t par1_check(const uint8_t *entry, size_t entry_len, const uint8_t *contents, size_t contents_len);
+
 #ifdef __cplusplus
 }
 #endif

@@ -4,6 +4,8 @@ extern "C" {
     fn par1_md5(bytes: *const u8, bytes_len: usize, out: *mut u8, out_len: usize) -> u32;
     fn par1_inverse(x: u8, out: *mut u8, out_len: usize) -> u32;
     fn par1_coefficient(file: u64, volume: u64, out: *mut u8, out_len: usize) -> u32;
+    fn par1_read(file: *const u8, file_len: usize, out: *mut u8, out_len: usize) -> u32;
+    fn par1_check(entry: *const u8, entry_len: usize, contents: *const u8, contents_len: usize) -> u32;
     fn par1_mul_add(weight: u8, fragment: *const u8, fragment_len: usize, buffer: *mut u8, buffer_len: usize);
 }
 
@@ -35,4 +37,12 @@ pub fn coefficient(file: u64, volume: u64, room: &[u8]) -> (u32, Vec<u8>) {
 
 pub fn mul_add(weight: u8, fragment: &[u8], buffer: &mut [u8]) {
     unsafe { par1_mul_add(weight, fragment.as_ptr(), fragment.len(), buffer.as_mut_ptr(), buffer.len()) }
+}
+
+pub fn read(file: &[u8], room: &[u8]) -> (u32, Vec<u8>) {
+    lent(room, |out, len| unsafe { par1_read(file.as_ptr(), file.len(), out, len) })
+}
+
+pub fn check(entry: &[u8], contents: &[u8]) -> u32 {
+    unsafe { par1_check(entry.as_ptr(), entry.len(), contents.as_ptr(), contents.len()) }
 }

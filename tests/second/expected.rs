@@ -1,6 +1,6 @@
 //! What document 01 says of each call: its number, and the room after it.
 
-use crate::{field, md5};
+use crate::{field, md5, par1};
 
 /// A refusal changes nothing; 14 where the room is shorter than what is to be written; else 0, and the room's first bytes.
 fn written(value: Result<Vec<u8>, u32>, room: &[u8]) -> (u32, Vec<u8>) {
@@ -22,4 +22,8 @@ pub fn inverse(x: u8, room: &[u8]) -> (u32, Vec<u8>) {
 pub fn coefficient(f: u64, v: u64, room: &[u8]) -> (u32, Vec<u8>) {
     let out_of_range = f == 0 || v == 0 || f as u128 + v as u128 > 255;
     written(if out_of_range { Err(10) } else { Ok(vec![field::coefficient(f as u8, v as u8)]) }, room)
+}
+
+pub fn read(file: &[u8], room: &[u8]) -> (u32, Vec<u8>) {
+    written(par1::read(file).map(|parts| parts.iter().flat_map(|x| x.to_le_bytes()).collect()), room)
 }

@@ -6,10 +6,12 @@
 mod calls;
 mod compare_field;
 mod compare_md5;
+mod compare_par1;
 mod compare_parity;
 mod expected;
 mod field;
 mod md5;
+mod par1;
 
 /// How many calls agreed, and how many differed.
 pub struct Counts {
@@ -47,8 +49,12 @@ impl Random {
 fn main() {
     let mut counts = Counts { passed: 0, failed: 0 };
     let mut random = Random(2026);
-    let parts: [(&str, fn(&mut Counts, &mut Random)); 3] =
-        [("md5", compare_md5::run), ("field", compare_field::run), ("parity", compare_parity::run)];
+    let parts: [(&str, fn(&mut Counts, &mut Random)); 4] = [
+        ("md5", compare_md5::run),
+        ("field", compare_field::run),
+        ("parity", compare_parity::run),
+        ("par1", compare_par1::run),
+    ];
     for (name, run) in parts {
         let before = counts.passed + counts.failed;
         run(&mut counts, &mut random);

@@ -1,1 +1,3 @@
 pub mod Byte
+pub mod Numbers
+pub mod Parts

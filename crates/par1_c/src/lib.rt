@@ -5,8 +5,14 @@ ghost use Rattle.gf256.specs.Answer.{inverseAnswer};
 ghost use Rattle.md5.specs.Digest.{digestInto};
 ghost use Rattle.parity.specs.Coefficient.{coefficientAnswer};
 ghost use Rattle.parity.specs.MulAdd.{mulAdd};
+ghost use Rattle.par1.specs.Checking.{checkOf};
+ghost use Rattle.par1.specs.Reading.{readOf};
 ghost use Rattle.par1_c.specs.Byte.{byteInto};
+ghost use Rattle.par1_c.specs.Parts.{partsBytes, readInto};
+ghost use lib.Seq.{sets};
 use gf256::Answer;
+use par1::Parts;
+use par1::Reading;
 
 // The MD5 of `bytes` over the first 16 bytes of `out`.
 #[no_mangle]
@@ -40,6 +46,22 @@ pub extern "C" fn par1_mul_add(weight: u8, fragment: &[u8], buffer: &mut [u8])
     parity::mul_add(weight, fragment, buffer)
 }
 
+// The parts of an index file or volume over the first 56 bytes of `out`.
+#[no_mangle]
+pub extern "C" fn par1_read(file: &[u8], out: &mut [u8]) -> u32
+    ensures { λ r. ⌜ (r, now (out .exit)) ≡ readInto (readOf (now (file .entry))) (now (out .entry)) ⌝ }
+{
+    put_reading(par1::read(file), out)
+}
+
+// Whether the contents are those of the entry's file.
+#[no_mangle]
+pub extern "C" fn par1_check(entry: &[u8], contents: &[u8]) -> u32
+    ensures { λ r. ⌜ r ≡ checkOf (now (entry .entry)) (now (contents .entry)) ⌝ }
+{
+    par1::check(entry, contents)
+}
+
 // The byte that an answer is, over the first byte of `out`.
 fn put_answer(answer: Answer, out: &mut [u8]) -> u32
     ensures { λ r. ⌜ (r, now (out .exit)) ≡ byteInto answer (now (out .entry)) ⌝ }
@@ -56,4 +78,35 @@ fn put_answer(answer: Answer, out: &mut [u8]) -> u32
             return 0;
         }
     }
+}
+
+// The parts that a reading gives, over the first 56 bytes of `out`.
+fn put_reading(reading: Reading, out: &mut [u8]) -> u32
+    ensures { λ r. ⌜ (r, now (out .exit)) ≡ readInto reading (now (out .entry)) ⌝ }
+{
+    match reading {
+        Reading::Refused(number) => {
+            return number;
+        }
+        Reading::Accepted(parts) => {
+            if out.len() < 56 {
+                return 14;
+            }
+            put_parts(parts, out);
+            return 0;
+        }
+    }
+}
+
+// The parts as numbers, one after another.
+fn put_parts(parts: Parts, out: &mut [u8])
+    ensures { λ _. ⌜ now (out .exit) ≡ sets (now (out .entry)) 0 (partsBytes parts) ⌝ }
+{
+    little_endian::write64(out, 0, parts.program as u64);
+    little_endian::write64(out, 8, parts.number);
+    little_endian::write64(out, 16, parts.entries);
+    little_endian::write64(out, 24, parts.saved);
+    little_endian::write64(out, 32, parts.list_size);
+    little_endian::write64(out, 40, parts.data_start);
+    little_endian::write64(out, 48, parts.data_size);
 }

@@ -1,0 +1,24 @@
+-- `par1_c::par1_read` meets its contract.
+-- Assumes nothing.
+use mathlib.Core.Path.{ap, _∙_}
+use denote.Ref.{now}
+use Rattle.par1.specs.declared.reading.Reading.{Reading}
+use Rattle.par1_c.specs.Parts.{readInto}
+use borrow.Author.Needs.{needs}
+use Rattle.par1_c.proofs.par1_read.Statement.{statement}
+use Rattle.par1_c.proofs.par1_read.Tie as tie
+
+read-requires : tie.Need-read-requires
+read-requires c κs = search needs
+
+put-reading-requires : tie.Need-put-reading-requires
+put-reading-requires c κs = search needs
+
+same-length : tie.Need-same-length
+same-length c = search needs
+
+returns : tie.Need-returns
+returns c = c .before .before .put-reading .ensures ∙ ap (λ (r : Reading). readInto r (now (c .before .before .before .before .before .before .before .args .out))) (c .before .before .before .before .read .ensures)
+
+pub par1-read-spec : {M : Type 1} → statement M
+par1-read-spec = tie.close (tie.spec read-requires put-reading-requires same-length returns)

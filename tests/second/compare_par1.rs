@@ -1,0 +1,149 @@
+//! Par 1.0 files: volumes and indices that the second program writes, whole, damaged at every byte of the header and the list, cut
+//! short and extended; with fields of any 64-bit number; random bytes; files of another client.
+
+use crate::{calls, expected, par1, Counts, Random};
+
+/// A name of one unit or more, at times with a unit that is not allowed or an odd byte.
+fn name(random: &mut Random) -> Vec<u8> {
+    let mut name: Vec<u8> = vec![];
+    for _ in 0..1 + random.below(9) {
+        let unit = if random.below(8) == 0 { random.below(65536) } else { 48 + random.below(75) };
+        name.extend((unit as u16).to_le_bytes());
+    }
+    if random.below(40) == 0 {
+        name.push(7);
+    }
+    name
+}
+
+/// Contents of a length that matters: empty, short, round the 16k hash.
+fn contents(random: &mut Random) -> Vec<u8> {
+    let n = [0, 1, 5, 57, 58, 300, 16383, 16384, 16385][random.below(9)];
+    random.bytes(n)
+}
+
+fn list(random: &mut Random) -> Vec<u8> {
+    let mut list = vec![];
+    for _ in 0..random.below(5) {
+        let (m, status) = (contents(random), random.below(4) as u64);
+        list.extend(par1::write_entry(&m, status, &name(random)).unwrap_or_default());
+    }
+    list
+}
+
+/// A file that is accepted: an index or a volume.
+fn file(random: &mut Random) -> Vec<u8> {
+    loop {
+        let list = list(random);
+        let volume = random.below(4) as u64;
+        let greatest = par1::entries(&list).unwrap_or_default().iter().map(|e| e.size).max().unwrap_or(0);
+        let size = if volume == 0 { 2 * random.below(20) } else { greatest as usize };
+        let data = random.bytes(size);
+        if let Ok(file) = par1::write_volume(random.below(1 << 31) as u32, volume, &list, &data) {
+            return file;
+        }
+    }
+}
+
+fn read(counts: &mut Counts, what: &str, file: &[u8], room: usize) {
+    let room = vec![3; room];
+    counts.same(|| format!("reading {what}, {} bytes", file.len()), calls::read(file, &room), expected::read(file, &room));
+}
+
+/// The control hash of a damaged file put right, so that the tests after it are reached.
+fn rehashed(mut file: Vec<u8>) -> Vec<u8> {
+    if file.len() >= 32 {
+        let hash = crate::md5::digest(&file[32..]);
+        file[16..32].copy_from_slice(&hash);
+    }
+    file
+}
+
+fn damaged(counts: &mut Counts, random: &mut Random) {
+    for _ in 0..60 {
+        let whole = file(random);
+        read(counts, "a whole file", &whole, 60);
+        for room in [0, 55, 56] {
+            read(counts, "into little room", &whole, room);
+        }
+        for at in 0..whole.len().min(400) {
+            let mut one = whole.clone();
+            one[at] ^= 1 << random.below(8);
+            read(counts, "one bit changed", &one, 60);
+            read(counts, "one bit changed, rehashed", &rehashed(one), 60);
+        }
+        for field in (48..96).step_by(8) {
+            for number in [0, 1, 2, 96, 255, 1 << 32, u64::MAX - 1, u64::MAX, random.below(1 << 16) as u64] {
+                let mut one = whole.clone();
+                one[field..field + 8].copy_from_slice(&number.to_le_bytes());
+                read(counts, "a field changed", &rehashed(one), 60);
+            }
+        }
+        for n in [0, 1, 95, 96, 97, whole.len() - 1] {
+            read(counts, "cut short", &whole[..n.min(whole.len())], 60);
+        }
+        read(counts, "extended", &[&whole[..], &[0]].concat(), 60);
+        let n = random.below(300);
+        read(counts, "random bytes", &random.bytes(n), 60);
+    }
+}
+
+/// The numbers of saved files and of the volume at the ends of their ranges.
+fn many_files(counts: &mut Counts, random: &mut Random) {
+    for n in [1, 2, 128, 253, 254, 255] {
+        let list = par1::write_entry(b"", 1, b"A\0").unwrap().repeat(n);
+        for volume in [0, 1, 2, 127, 128, 254, 255, 256, u64::MAX] {
+            if let Ok(whole) = par1::write_volume(random.below(9) as u32, 0, &list[..list.len().min(58 * 254)], &[]) {
+                let mut one = whole;
+                one[48..56].copy_from_slice(&volume.to_le_bytes());
+                read(counts, "another volume number", &rehashed(one), 60);
+            }
+        }
+        let all = [&vec![0; 96][..], &list].concat();
+        read(counts, "a list and no header", &all, 60);
+    }
+}
+
+fn other_client(counts: &mut Counts) {
+    for name in ["trip.par", "trip.p01", "trip.p02", "trip.p03"] {
+        let file = std::fs::read(format!("tests/data/trip/{name}")).expect("test data");
+        counts.same(|| format!("{name} is accepted"), calls::read(&file, &[0; 56]).0, 0);
+        read(counts, name, &file, 56);
+    }
+    let index = std::fs::read("tests/data/trip/trip.par").expect("test data");
+    for (name, at) in [("A.LOG", 96), ("B.LOG", 162)] {
+        let contents = std::fs::read(format!("tests/data/trip/{name}")).expect("test data");
+        let entry = &index[at..at + 66];
+        counts.same(|| format!("{name} against its entry"), calls::check(entry, &contents), 0);
+    }
+}
+
+fn check(counts: &mut Counts, random: &mut Random) {
+    for _ in 0..400 {
+        let m = contents(random);
+        let entry = par1::write_entry(&m, random.below(4) as u64, &name(random)).unwrap_or(random.bytes(70));
+        let mut same = |what: &str, e: &[u8], m: &[u8]| {
+            counts.same(|| format!("checking {what}"), calls::check(e, m), par1::check(e, m));
+        };
+        same("the contents", &entry, &m);
+        same("longer contents", &entry, &[&m[..], &[0]].concat());
+        same("shorter contents", &entry, &m[..m.len().saturating_sub(1)]);
+        same("an entry cut short", &entry[..entry.len() - 1], &m);
+        same("an entry with a byte more", &[&entry[..], &[0]].concat(), &m);
+        let mut other = m.clone();
+        if let Some(last) = other.last_mut() {
+            *last ^= 1;
+        }
+        same("other contents", &entry, &other);
+        let mut changed = entry.clone();
+        changed[random.below(entry.len())] ^= 1 << random.below(8);
+        same("another entry", &changed, &m);
+    }
+}
+
+pub fn run(counts: &mut Counts, random: &mut Random) {
+    damaged(counts, random);
+    many_files(counts, random);
+    other_client(counts);
+    check(counts, random);
+}
