@@ -32,6 +32,17 @@ void par1_mul_add(uint8_t weight, const uint8_t *fragment, size_t fragment_len, 
  * number of the first test that holds, 1 to 9, then with 14 where `out` is shorter. */
 uint32_t par1_read(const uint8_t *file, size_t file_len, uint8_t *out, size_t out_len);
 
+/* Writes the entry of a file with these contents, status and name (in 16-bit units, two bytes each) over the first 56 + name_len bytes of
+ * `out`. Refuses with 6 where the contents are above 16,777,216 bytes, the status is above 3 or the name is not allowed, then with 14. */
+uint32_t par1_write_entry(const uint8_t *contents, size_t contents_len, uint64_t status, const uint8_t *name, size_t name_len, uint8_t *out,
+                          size_t out_len);
+
+/* Writes a volume, or an index where number is 0, from its list of entries and its data, over the first 96 + list_len + data_len bytes of
+ * `out`. Refuses with 6 (the list), 7 (numbers), 9 (the size of the data), 1 (the length), 14, in this order. Whether the data is the
+ * parity of the files is the caller's. */
+uint32_t par1_write_volume(uint32_t program, uint64_t number, const uint8_t *list, size_t list_len, const uint8_t *data, size_t data_len,
+                           uint8_t *out, size_t out_len);
+
 /* Whether `contents` are those of the file that `entry` describes. Refuses with 6 where the entry breaks a rule or does not fill its
  * bytes, then with 15 where length, MD5 or 16k MD5 differ. */
 uint32_t par1_check(const uint8_t *entry, size_t entry_len, const uint8_t *contents, size_t contents_len);

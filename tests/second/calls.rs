@@ -5,6 +5,8 @@ extern "C" {
     fn par1_inverse(x: u8, out: *mut u8, out_len: usize) -> u32;
     fn par1_coefficient(file: u64, volume: u64, out: *mut u8, out_len: usize) -> u32;
     fn par1_read(file: *const u8, file_len: usize, out: *mut u8, out_len: usize) -> u32;
+    fn par1_write_entry(contents: *const u8, contents_len: usize, status: u64, name: *const u8, name_len: usize, out: *mut u8, out_len: usize) -> u32;
+    fn par1_write_volume(program: u32, number: u64, list: *const u8, list_len: usize, data: *const u8, data_len: usize, out: *mut u8, out_len: usize) -> u32;
     fn par1_check(entry: *const u8, entry_len: usize, contents: *const u8, contents_len: usize) -> u32;
     fn par1_mul_add(weight: u8, fragment: *const u8, fragment_len: usize, buffer: *mut u8, buffer_len: usize);
 }
@@ -45,4 +47,14 @@ pub fn read(file: &[u8], room: &[u8]) -> (u32, Vec<u8>) {
 
 pub fn check(entry: &[u8], contents: &[u8]) -> u32 {
     unsafe { par1_check(entry.as_ptr(), entry.len(), contents.as_ptr(), contents.len()) }
+}
+
+pub fn write_entry(contents: &[u8], status: u64, name: &[u8], room: &[u8]) -> (u32, Vec<u8>) {
+    let (m, n) = (contents, name);
+    lent(room, |out, len| unsafe { par1_write_entry(m.as_ptr(), m.len(), status, n.as_ptr(), n.len(), out, len) })
+}
+
+pub fn write_volume(program: u32, number: u64, list: &[u8], data: &[u8], room: &[u8]) -> (u32, Vec<u8>) {
+    let (l, d) = (list, data);
+    lent(room, |out, len| unsafe { par1_write_volume(program, number, l.as_ptr(), l.len(), d.as_ptr(), d.len(), out, len) })
 }

@@ -1,5 +1,6 @@
 //! Par 1.0 files: volumes and indices that the second program writes, whole, damaged at every byte of the header and the list, cut
-//! short and extended; with fields of any 64-bit number; random bytes; files of another client.
+//! short and extended; with fields of any 64-bit number; random bytes; files of another client; entries and volumes written, and
+//! accepted files written again from their parts.
 
 use crate::{calls, expected, par1, Counts, Random};
 
@@ -109,12 +110,59 @@ fn other_client(counts: &mut Counts) {
         let file = std::fs::read(format!("tests/data/trip/{name}")).expect("test data");
         counts.same(|| format!("{name} is accepted"), calls::read(&file, &[0; 56]).0, 0);
         read(counts, name, &file, 56);
+        again(counts, &file);
     }
     let index = std::fs::read("tests/data/trip/trip.par").expect("test data");
     for (name, at) in [("A.LOG", 96), ("B.LOG", 162)] {
         let contents = std::fs::read(format!("tests/data/trip/{name}")).expect("test data");
         let entry = &index[at..at + 66];
         counts.same(|| format!("{name} against its entry"), calls::check(entry, &contents), 0);
+    }
+}
+
+/// An accepted file written again from its parts.
+fn again(counts: &mut Counts, file: &[u8]) {
+    let Ok([program, number, _, _, list, start, _]) = par1::read(file) else { return };
+    let (list, data) = (&file[96..96 + list as usize], &file[start as usize..]);
+    let got = calls::write_volume(program as u32, number, list, data, &vec![7; file.len() + 3]);
+    counts.same(|| format!("a file of {} bytes written again", file.len()), got, (0, [file, &[7; 3]].concat()));
+}
+
+fn write(counts: &mut Counts, random: &mut Random) {
+    for round in 0..2000 {
+        let (m, n) = (contents(random), name(random));
+        let status = [0, 1, 2, 3, 4, 1 << 32, u64::MAX][random.below(7)];
+        let n = if round % 50 == 0 { vec![] } else { n };
+        let room = vec![7; (56 + n.len() + 3).saturating_sub(random.below(7))];
+        let what = || format!("entry of {} bytes, status {status}, name {n:?}", m.len());
+        counts.same(what, calls::write_entry(&m, status, &n, &room), expected::write_entry(&m, status, &n, &room));
+    }
+    for _ in 0..1000 {
+        let mut l = list(random);
+        if random.below(5) == 0 && !l.is_empty() {
+            let at = random.below(l.len());
+            l[at] ^= 1 << random.below(8);
+        }
+        let greatest = par1::entries(&l).unwrap_or_default().iter().map(|e| e.size).max().unwrap_or(0);
+        let number = [0, 1, 2, 252, 253, 254, 255, 256, u64::MAX][random.below(9)];
+        let size = if number == 0 { random.below(9) } else { greatest as usize + random.below(2) };
+        let data = random.bytes(size);
+        let room = vec![7; (96 + l.len() + size + 2).saturating_sub(random.below(6))];
+        let what = || format!("volume {number} of a list of {} bytes", l.len());
+        counts.same(what, calls::write_volume(9, number, &l, &data, &room), expected::write_volume(9, number, &l, &data, &room));
+        again(counts, &file(random));
+    }
+    let limit = vec![0; 33_554_432 - 96 + 2];
+    for size in [limit.len() - 4, limit.len() - 2, limit.len()] {
+        let what = || format!("an index with {size} bytes of comment");
+        let room = vec![7; 33_554_432];
+        counts.same(what, calls::write_volume(0, 0, &[], &limit[..size], &room), expected::write_volume(0, 0, &[], &limit[..size], &room));
+    }
+    let contents = vec![1; 16_777_217];
+    for size in [16_777_216, 16_777_217] {
+        let what = || format!("entry of {size} bytes");
+        let got = calls::write_entry(&contents[..size], 1, b"A\0", &[7; 60]);
+        counts.same(what, got, expected::write_entry(&contents[..size], 1, b"A\0", &[7; 60]));
     }
 }
 
@@ -146,4 +194,5 @@ pub fn run(counts: &mut Counts, random: &mut Random) {
     many_files(counts, random);
     other_client(counts);
     check(counts, random);
+    write(counts, random);
 }

@@ -27,3 +27,11 @@ pub fn coefficient(f: u64, v: u64, room: &[u8]) -> (u32, Vec<u8>) {
 pub fn read(file: &[u8], room: &[u8]) -> (u32, Vec<u8>) {
     written(par1::read(file).map(|parts| parts.iter().flat_map(|x| x.to_le_bytes()).collect()), room)
 }
+
+pub fn write_entry(contents: &[u8], status: u64, name: &[u8], room: &[u8]) -> (u32, Vec<u8>) {
+    written(par1::write_entry(contents, status, name), room)
+}
+
+pub fn write_volume(program: u32, number: u64, list: &[u8], data: &[u8], room: &[u8]) -> (u32, Vec<u8>) {
+    written(par1::write_volume(program, number, list, data), room)
+}

@@ -1,18 +1,21 @@
 -- What the first entry of a list is, from the tests in turn, and what the answer tells.
 --
---   Sized n m      an entry of n bytes may stand at the front of m bytes, in numbers
+--   and-both           what a conjunction tells
+--   Sized n m, sized   an entry of n bytes may stand at the front of m bytes, in numbers
 --   first-end, first-size, first-file-size, first-name, first-entry     firstOf, by what the tests found
---   IsEntry, IsFault, is-end, is-entry, is-fault                      what each answer of firstOf tells
+--   IsEntry, IsFault, is-end, is-entry, is-fault      what each answer of firstOf tells
+--   EntryAt, entry-at, end-at, fault-at               the same at a position of a list
 -- Assumes nothing.
-use mathlib.Core.Path.{_≡_, refl, sym, _∙_, subst}
+use mathlib.Core.Path.{_≡_, refl, sym, ap, _∙_, subst}
 use mathlib.Core.Bool.{Bool, true, false, cond, _&&_}
 use mathlib.Core.List.{List, [], _∷_}
-use Prim.Native.Nat.{ℕ, _%_, _≤_, _<_}
+use Prim.Native.Nat.{ℕ, _+_, _-_, _%_, _≤_, _<_}
 use native.Mathlib.Omega.{arith}
 use lib.Dec.{leb, eqb}
-use lib.ListN.{length, take}
+use lib.ListN.{length, take, drop, length-drop}
 use lib.Seq.{length-take-le}
 use borrow.Author.Tests.{leb-true, eqb-true}
+use Rattle.pieces.proofs.CutLaws.{part-to-end}
 use Rattle.entries.specs.Entry.{entrySize, statusOf, sizeOf, nameOf, unitsOf, nameAllowed, fileSizeAllowed, sizeAllowed, bodyAllowed, entryAllowed, lengthOf}
 use Rattle.entries.specs.Walk.{faultOf, itemOf, firstOf}
 use Rattle.entries.specs.declared.Fault.{Fault}
@@ -22,7 +25,7 @@ use Rattle.entries.specs.declared.Item.the-variants as item
 
 -- ---- the tests, as facts
 
-and-both : (a b : Bool) → (a && b) ≡ true → (a ≡ true) × (b ≡ true)
+pub and-both : (a b : Bool) → (a && b) ≡ true → (a ≡ true) × (b ≡ true)
 and-both true b e = (refl, e)
 and-both false b e = absurd (let z : _≡_ {A = ℕ} 0 1 = cc in omega arith)
 
@@ -149,3 +152,26 @@ module _ {s : List ℕ} where
     where
       by : View s (item.Fault f) → IsFault s f
       by (view-fault i) = i
+
+-- ---- at a position of a list, as a loop over it meets them
+
+-- an entry of n bytes stands at the position
+pub record EntryAt (s : List ℕ) (at n status size : ℕ) : Type 0 where
+  pub entry : IsEntry (drop at s) n status size
+  pub low : 58 ≤ n
+  pub fits : at + n ≤ length s
+
+module _ (s : List ℕ) (at : ℕ) {i : Item} (answer : i ≡ firstOf (take (length s - at) (drop at s))) where
+  answer-is : i ≡ firstOf (drop at s)
+  answer-is = answer ∙ ap firstOf (part-to-end s at)
+
+  pub entry-at : {n status size : ℕ} → i ≡ item.Entry n status size → EntryAt s at n status size
+  entry-at e =
+      let found = is-entry (sym e ∙ answer-is) in
+      record { entry = found; low = found .low; fits = omega (arith, found .low, found .high, length-drop at s) }
+
+  pub end-at : i ≡ item.End → drop at s ≡ []
+  end-at e = is-end (sym e ∙ answer-is)
+
+  pub fault-at : {f : Fault} → i ≡ item.Fault f → IsFault (drop at s) f
+  fault-at e = is-fault (sym e ∙ answer-is)

@@ -1,4 +1,5 @@
 pub mod EntryLaws
+mod Examples
 pub mod NameLaws
 pub mod NumberingLaws
 pub mod WalkLaws

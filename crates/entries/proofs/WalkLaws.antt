@@ -4,7 +4,7 @@
 --   walkFrom t c   the totals t and those of the entries c, where nothing is left after them; or the fault there
 --   walk-start     the walk from no entries at all
 --   walk-more, walk-end, walk-fault    a step of the walk, by what is at the front
---   is-filled      what a walk to the end tells
+--   is-filled, walk-count, walk-saved    what a walk to the end tells
 --   add-added      an entry more is one entry more, and one saved entry more at most
 -- Assumes nothing.
 use mathlib.Core.Path.{_≡_, refl, sym, ap, ap₂, _∙_}
@@ -117,10 +117,17 @@ pub record Filled (s : List ℕ) (t : Totals) : Type 0 where
   pub totals-are : t ≡ totalsOf (entriesOf s .pieces)
   pub rest-none : entriesOf s .rest ≡ []
 
-pub is-filled : (s : List ℕ) {t : Totals} → walked.Entries t ≡ walkOf s → Filled s t
+pub is-filled : (s : List ℕ) {t : Totals} → walkOf s ≡ walked.Entries t → Filled s t
 unfolding walkOf
 is-filled s {t} e = by (entriesOf s .rest) refl e
   where
-    by : (r : List ℕ) → r ≡ entriesOf s .rest → walked.Entries t ≡ walkedTo (totalsOf (entriesOf s .pieces)) r → Filled s t
+    by : (r : List ℕ) → r ≡ entriesOf s .rest → walkedTo (totalsOf (entriesOf s .pieces)) r ≡ walked.Entries t → Filled s t
     by [] n e = record { totals-are = cc; rest-none = sym n }
     by (b ∷ r) n e = absurd (let z : _≡_ {A = ℕ} 0 1 = cc in omega arith)
+
+module _ (s : List ℕ) {t : Totals} (e : walkOf s ≡ walked.Entries t) where
+  pub walk-count : t .entries ≡ length (entriesOf s .pieces)
+  walk-count = ap (λ (u : Totals). u .entries) (is-filled s e .totals-are)
+
+  pub walk-saved : t .saved ≡ length (savedOf (entriesOf s .pieces))
+  walk-saved = ap (λ (u : Totals). u .saved) (is-filled s e .totals-are)

@@ -11,8 +11,16 @@ pub const MAX_FILE_SIZE: u64 = 16777216;
 // The shortest entry: 56 bytes of fields, and a name of one unit.
 const MIN_ENTRY_SIZE: u64 = 58;
 
-// Where the name begins in an entry.
-const NAME_START: usize = 56;
+// Where the fields of an entry lie; its own size is at 0, and the name goes to its end.
+pub const STATUS_AT: usize = 8;
+
+pub const FILE_SIZE_AT: usize = 16;
+
+pub const MD5_AT: usize = 24;
+
+pub const MD5_16K_AT: usize = 40;
+
+pub const NAME_AT: usize = 56;
 
 // The rule that an entry breaks: that on its own size, on its file's size, or on its name.
 pub enum Fault {
@@ -58,14 +66,14 @@ pub fn first(list: &[u8]) -> Item
     }
     let length = entry_size as usize;
     let entry = &list[..length];
-    let size = little_endian::read64(entry, 16);
+    let size = little_endian::read64(entry, FILE_SIZE_AT);
     if size > MAX_FILE_SIZE {
         return Item::Fault(Fault::FileSize);
     }
-    if !name_allowed(&entry[NAME_START..]) {
+    if !name_allowed(&entry[NAME_AT..]) {
         return Item::Fault(Fault::Name);
     }
-    let status = little_endian::read64(entry, 8);
+    let status = little_endian::read64(entry, STATUS_AT);
     Item::Entry {
         length,
         status,

@@ -3,10 +3,10 @@
 --   lone-passed     an entry that stands alone and passes has its fields and a name
 --   check-refused, check-lone    what checking gives, from the refusal of the entry
 -- Assumes nothing.
-use mathlib.Core.Path.{_≡_, refl, sym, ap, _∙_}
+use mathlib.Core.Path.{_≡_, refl}
 use mathlib.Core.Bool.{_&&_}
 use mathlib.Core.List.{List}
-use Prim.Native.Nat.{ℕ, zero, suc, _≤_}
+use Prim.Native.Nat.{ℕ, _≤_}
 use native.Mathlib.Omega.{arith}
 use lib.Dec.{eqb}
 use lib.ListN.{length}
@@ -20,7 +20,7 @@ use Rattle.entries.proofs.EntryLaws.{is-entry}
 use Rattle.par1.specs.Hashes.{equal, md5First}
 use Rattle.par1.specs.Rules.{test}
 use Rattle.par1.specs.Checking.{itemRefusal, loneRefusal, checkOf}
-use Rattle.par1.proofs.ReadingLaws.{test-passed, fault-some, or-else}
+use Rattle.par1.proofs.RuleLaws.{test-passed, fault-some, or-else}
 
 pub lone-passed : (e : List ℕ) → loneRefusal e ≡ 0 → 58 ≤ length e
 unfolding loneRefusal

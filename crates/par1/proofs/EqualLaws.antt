@@ -1,6 +1,5 @@
 -- The test whether two lists are equal.
 --
---   and-both                    what a conjunction tells
 --   equal-same, equal-true      it passes for equal lists, and only for them
 --   equal-lengths               it fails where the lengths differ
 --   equal-end, equal-more       the test from a position on
@@ -8,13 +7,14 @@
 use mathlib.Core.Path.{_≡_, refl, sym, ap, ap₂, _∙_}
 use mathlib.Core.Bool.{Bool, true, false, _&&_}
 use mathlib.Core.List.{List, [], _∷_}
-use Prim.Native.Nat.{ℕ, zero, suc, _+_, _≤_, _<_}
+use Prim.Native.Nat.{ℕ, suc, _+_, _≤_, _<_}
 use native.Mathlib.Numerals.{add-one}
 use native.Mathlib.Omega.{arith}
 use lib.Dec.{eqb}
 use lib.ListN.{length, drop, getD, drop-of-length-le}
 use lib.Seq.{drop-cons}
 use borrow.Author.Tests.{eqb-true, eq-eqb}
+use Rattle.entries.proofs.EntryLaws.{and-both}
 use Rattle.par1.specs.Hashes.{equal}
 
 pub equal-refl : (s : List ℕ) → equal s s ≡ true
@@ -24,10 +24,6 @@ equal-refl (a ∷ s) = simp (eq-eqb a a refl, equal-refl s)
 
 pub equal-same : {s t : List ℕ} → s ≡ t → equal s t ≡ true
 equal-same {s} {t} e = ap (equal s) (sym e) ∙ equal-refl s
-
-pub and-both : (a b : Bool) → (a && b) ≡ true → (a ≡ true) × (b ≡ true)
-and-both true b e = (refl, e)
-and-both false b e = absurd (let z : _≡_ {A = ℕ} 0 1 = cc in omega arith)
 
 pub equal-true : (s t : List ℕ) → equal s t ≡ true → s ≡ t
 unfolding equal

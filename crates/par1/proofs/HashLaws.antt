@@ -1,5 +1,6 @@
 -- The hashes, as the code works them out.
 --
+--   length-md5, length-set-hash    a hash is 16 bytes
 --   pushedOver h es   the running hash h after the entries es
 --   set-start         from no bytes at all, its end is the set hash
 --   hash-part         the part of a list that is the hash of the entry at a position
@@ -10,11 +11,12 @@ use mathlib.Core.Bool.{Bool, true, false, cond}
 use mathlib.Core.List.{List, [], _∷_, _++_, append-assoc, append-nil, map, flatten}
 use Prim.Native.Nat.{ℕ, _+_, _-_, _≤_}
 use native.Mathlib.Omega.{arith}
-use lib.ListN.{length, take, drop, take-append-drop}
+use lib.ListN.{length, take, drop}
 use lib.Seq.{drop-drop}
 use Rattle.md5.specs.declared.Md5.{Md5}
 use Rattle.md5.specs.Digest.{md5}
 use Rattle.md5.specs.Running.{stateOf, pushed, finished}
+use Rattle.md5.proofs.Output.{length-output}
 use Rattle.md5.proofs.Running.{push-state, finish-state}
 use Rattle.pieces.proofs.CutLaws.{cut-stop, cut-none}
 use Rattle.entries.specs.declared.Fault.{Fault}
@@ -25,6 +27,14 @@ use Rattle.entries.proofs.EntryLaws.{IsEntry, IsFault}
 use Rattle.entries.proofs.WalkLaws.{entries-more}
 use Rattle.par1.specs.Hashes.{setHash}
 use Rattle.par1.proofs.PartLaws.{part-take}
+
+pub length-md5 : (m : List ℕ) → length (md5 m) ≡ 16
+unfolding md5
+length-md5 m = length-output _
+
+pub length-set-hash : (es : List (List ℕ)) → length (setHash es) ≡ 16
+unfolding setHash
+length-set-hash es = length-md5 _
 
 -- ---- the set hash
 

@@ -1,81 +1,36 @@
 -- What the tests of reading tell, and what reading gives from them.
 --
---   and-both, test-passed    what a conjunction and a test that passed tell
---   fault-some               every fault has a refusal
---   Laid, laid, not-laid, laid-out   a right layout, in numbers
 --   HeaderPassed, header-passed      what tests 1 to 5, passed, tell
 --   TotalsPassed, totals-passed      what the tests after the walk, passed, tell
---   list-refusal             after the header the list decides
+--   header-none, totals-none         and the tests pass where that holds
+--   header-refusal, list-refusal     the header decides, or after it the list
 --   read-refused, read-accepted      what reading gives, from the refusal
+--   Passed, passed-none, read-tells  the tests that an accepted file passed
 -- Assumes nothing.
 use mathlib.Core.Path.{_≡_, refl, sym, ap, _∙_}
-use mathlib.Core.Bool.{Bool, true, false, _&&_}
+use mathlib.Core.Bool.{true}
 use mathlib.Core.List.{List}
-use Prim.Native.Nat.{ℕ, zero, suc, _+_, _≤_, _<_}
+use Prim.Native.Nat.{ℕ, zero, suc}
 use native.Mathlib.Omega.{arith}
-use lib.Dec.{leb, eqb}
+use lib.Dec.{eqb}
 use lib.ListN.{length}
-use borrow.Author.Tests.{leb-true, eqb-true, eq-eqb}
-use Rattle.entries.specs.Walk.{faultNumber, walkOf}
+use borrow.Author.Tests.{eqb-true, eq-eqb}
+use Rattle.pieces.specs.Pieces.{ifZero}
+use Rattle.entries.specs.Walk.{walkOf}
 use Rattle.entries.specs.declared.Fault.{Fault}
-use Rattle.entries.specs.declared.Fault.the-variants.{Size, FileSize, Name}
 use Rattle.entries.specs.declared.Totals.{Totals}
-use Rattle.little_endian.specs.Bytes.{fromLe}
-use Rattle.par1.specs.Layout.{signature, version, signatureOf, versionOf, controlHashOf, setHashOf, numberOf, countOf, listStartOf, listSizeOf, dataStartOf, dataSizeOf, listOf}
+use Rattle.entries.specs.declared.Walked.{Walked}
+use Rattle.entries.specs.declared.Walked.the-variants as walked
+use Rattle.par1.specs.Layout.{signature, version, signatureOf, versionOf, controlHashOf, setHashOf, numberOf, countOf, dataSizeOf, listOf}
 use Rattle.par1.specs.Hashes.{equal, setHash, controlHash}
-use Rattle.par1.specs.Rules.{test, orElse, lengthAllowed, versionAllowed, layoutAllowed, numberAllowed, dataAllowed}
+use Rattle.par1.specs.Rules.{orElse, lengthAllowed, versionAllowed, layoutAllowed, numberAllowed, dataAllowed}
 use Rattle.par1.specs.Reading.{entriesIn, headerRefusal, totalsRefusal, listRefusal, refusalOf, partsOf, readOf}
+use Rattle.par1.specs.declared.reading.Parts.{Parts}
 use Rattle.par1.specs.declared.reading.Reading.the-variants.{Accepted, Refused}
-use Rattle.par1.proofs.EqualLaws.{and-both, equal-true}
-
--- ---- tests
-
-pub test-passed : (n : ℕ) (ok : Bool) (m : ℕ) → 0 < n → test n ok m ≡ 0 → (ok ≡ true) × (m ≡ 0)
-test-passed n true m h e = (refl, e)
-test-passed n false m h e = absurd (omega arith)
-
-pub fault-some : (f : Fault) → 0 < faultNumber f
-fault-some Size = omega arith
-fault-some FileSize = omega arith
-fault-some Name = omega arith
+use Rattle.par1.proofs.EqualLaws.{equal-true, equal-same}
+use Rattle.par1.proofs.RuleLaws.{test-passed, or-else, fault-some, Between, between, long-enough, Laid, laid, laid-out}
 
 -- ---- the header
-
-pub signature-is : signature ≡ 0x524150
-unfolding signature fromLe
-signature-is = refl
-
-pub record Laid (f : List ℕ) : Type 0 where
-  pub list-start : listStartOf f ≡ 96
-  pub data-start : dataStartOf f ≡ 96 + listSizeOf f
-  pub data-end : dataStartOf f + dataSizeOf f ≡ length f
-
-pub laid : (f : List ℕ) → layoutAllowed f ≡ true → Laid f
-unfolding layoutAllowed
-laid f e =
-    let both = and-both (eqb (listStartOf f) 96 && eqb (dataStartOf f) (96 + listSizeOf f)) _ e in
-    let starts = and-both (eqb (listStartOf f) 96) (eqb (dataStartOf f) (96 + listSizeOf f)) (both .0) in
-    record { list-start = eqb-true _ _ (starts .0); data-start = eqb-true _ _ (starts .1); data-end = eqb-true _ _ (both .1) }
-
-by-layout : (f : List ℕ) (b : Bool) → b ≡ layoutAllowed f → (Laid f → ⊥) → layoutAllowed f ≡ false
-by-layout f true e h = absurd (h (laid f (sym e)))
-by-layout f false e h = sym e
-
-pub not-laid : (f : List ℕ) → (Laid f → ⊥) → layoutAllowed f ≡ false
-not-laid f = by-layout f (layoutAllowed f) refl
-
-pub laid-out : (f : List ℕ) → Laid f → layoutAllowed f ≡ true
-unfolding layoutAllowed
-laid-out f l = simp (eq-eqb _ _ (l .list-start), eq-eqb _ _ (l .data-start), eq-eqb _ _ (l .data-end))
-
-pub record Between (n : ℕ) : Type 0 where
-  pub low : 96 ≤ n
-  pub high : n ≤ 33554432
-
-pub between : (n : ℕ) → lengthAllowed n ≡ true → Between n
-unfolding lengthAllowed
-between n e =
-    let both = and-both (leb 96 n) (leb n 33554432) e in record { low = leb-true _ _ (both .0); high = leb-true _ _ (both .1) }
 
 pub record HeaderPassed (f : List ℕ) : Type 0 where
   pub size : Between (length f)
@@ -100,6 +55,12 @@ header-passed f e =
       control-is = equal-true _ _ (five .0);
     }
 
+pub header-none : (f : List ℕ) → HeaderPassed f → headerRefusal f ≡ 0
+unfolding headerRefusal versionAllowed
+header-none f p =
+    simp
+    (long-enough (length f) (p .size .low) (p .size .high), eq-eqb _ _ (p .begins), eq-eqb _ _ (p .version-is), laid-out f (p .layout), equal-same (p .control-is))
+
 -- ---- the list
 
 pub record TotalsPassed (f : List ℕ) (t : Totals) : Type 0 where
@@ -117,11 +78,11 @@ totals-passed f t e =
     let nine = test-passed 9 (dataAllowed (numberOf f) (t .greatest) (dataSizeOf f)) _ (omega arith) (eight .1) in
     record { count-is = eqb-true _ _ (six .0); number-right = seven .0; set-is = equal-true _ _ (eight .0); data-right = nine .0 }
 
--- ---- reading
+pub totals-none : (f : List ℕ) (t : Totals) → TotalsPassed f t → totalsRefusal f t ≡ 0
+unfolding totalsRefusal
+totals-none f t p = simp (eq-eqb _ _ (p .count-is), p .number-right, equal-same (p .set-is), p .data-right)
 
-pub or-else : (n m : ℕ) → (n ≡ 0 → ⊥) → orElse n m ≡ n
-or-else zero m h = absurd (h refl)
-or-else (suc n) m h = refl
+-- ---- reading
 
 pub header-refusal : (f : List ℕ) → (headerRefusal f ≡ 0 → ⊥) → refusalOf f ≡ headerRefusal f
 unfolding refusalOf
@@ -139,3 +100,42 @@ read-refused f (suc n) e h = simp (sym e)
 pub read-accepted : (f : List ℕ) → refusalOf f ≡ 0 → readOf f ≡ Accepted (partsOf f)
 unfolding readOf
 read-accepted f e = simp e
+
+-- ---- an accepted file
+
+-- the file f passed all tests, and t are the totals of its list
+pub record Passed (f : List ℕ) : Type 0 where
+  pub header : HeaderPassed f
+  pub totals-of : Totals
+  pub walk-is : walkOf (listOf f) ≡ walked.Entries totals-of
+  pub totals : TotalsPassed f totals-of
+
+pub passed-none : (f : List ℕ) → Passed f → refusalOf f ≡ 0
+passed-none f p =
+    list-refusal f (header-none f (p .header)) ∙ ap (listRefusal f) (p .walk-is) ∙ totals-none f (p .totals-of) (p .totals)
+
+none-passed : (f : List ℕ) → refusalOf f ≡ 0 → Passed f
+unfolding refusalOf
+none-passed f e = by (headerRefusal f) refl e
+  where
+    list : (w : Walked) → w ≡ walkOf (listOf f) → headerRefusal f ≡ 0 → listRefusal f w ≡ 0 → Passed f
+    list (walked.Entries t) w h e =
+        record { header = header-passed f h; totals-of = t; walk-is = sym w; totals = totals-passed f t e }
+    list (walked.Fault k) w h e = absurd (omega (arith, fault-some k))
+
+    by : (n : ℕ) → n ≡ headerRefusal f → orElse n (listRefusal f (walkOf (listOf f))) ≡ 0 → Passed f
+    by zero h e = list (walkOf (listOf f)) refl (sym h) e
+    by (suc n) h e = absurd (omega arith)
+
+-- what an accepted file tells
+pub record ReadAccepted (f : List ℕ) (p : Parts) : Type 0 where
+  pub tests : Passed f
+  pub parts-are : p ≡ partsOf f
+
+pub read-tells : (f : List ℕ) (p : Parts) → readOf f ≡ Accepted p → ReadAccepted f p
+unfolding readOf
+read-tells f p e = by (refusalOf f) refl e
+  where
+    by : (n : ℕ) → n ≡ refusalOf f → ifZero n (Accepted (partsOf f)) (Refused n) ≡ Accepted p → ReadAccepted f p
+    by zero n e = record { tests = none-passed f (sym n); parts-are = cc }
+    by (suc m) n e = absurd (let z : _≡_ {A = ℕ} 0 1 = cc in omega arith)

@@ -3,3 +3,6 @@ pub mod Hashes
 pub mod Rules
 pub mod Reading
 pub mod Checking
+pub mod Writing
+pub mod EntryWriting
+pub mod VolumeWriting

@@ -13,13 +13,16 @@ pub fn check(entry: &[u8], contents: &[u8]) -> u32
     if refusal != 0 {
         return refusal;
     }
-    if little_endian::read64(entry, 16) != contents.len() as u64 {
+    if little_endian::read64(entry, entries::FILE_SIZE_AT) != contents.len() as u64 {
         return 15;
     }
-    if !hashes::matches(&entry[24..40], contents) {
+    if !hashes::matches(&entry[entries::MD5_AT..entries::MD5_16K_AT], contents) {
         return 15;
     }
-    if !hashes::matches(&entry[40..56], hashes::first_part(contents)) {
+    if !hashes::matches(
+        &entry[entries::MD5_16K_AT..entries::NAME_AT],
+        hashes::first_part(contents),
+    ) {
         return 15;
     }
     0

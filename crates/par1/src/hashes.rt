@@ -53,7 +53,11 @@ pub fn of_set(list: &[u8]) -> [u8; 16]
                 status,
                 size: _,
             } => {
-                hash = with_entry(hash, status, &list[at + 24..at + 40]);
+                hash = with_entry(
+                    hash,
+                    status,
+                    &list[at + entries::MD5_AT..at + entries::MD5_16K_AT],
+                );
                 at += length;
             }
             Item::End => return hash.finish(),

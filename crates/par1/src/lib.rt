@@ -2,11 +2,18 @@
 // (document 01, "What comes back").
 mod checking;
 mod comparing;
+mod entry_writing;
 mod hashes;
+mod layout;
 mod reading;
 mod rules;
+mod volume_writing;
+mod writing;
 
 pub use checking::check;
+pub use entry_writing::write_entry;
 pub use reading::Parts;
 pub use reading::Reading;
 pub use reading::read;
+pub use volume_writing::write_volume;
+pub use writing::Writing;

@@ -6,6 +6,7 @@ ghost use Rattle.par1.specs.Layout.{listOf};
 ghost use Rattle.par1.specs.Rules.{lengthAllowed, versionAllowed, layoutAllowed};
 ghost use Rattle.par1.specs.Reading.{headerRefusal, totalsRefusal, readOf};
 use crate::hashes;
+use crate::layout;
 use crate::rules;
 use entries::Totals;
 use entries::Walked;
@@ -27,13 +28,6 @@ pub enum Reading {
     Refused(u32),
 }
 
-const HEADER_LENGTH: usize = 96;
-
-// "PAR" and five zero bytes, as a number.
-const SIGNATURE: u64 = 0x524150;
-
-const VERSION: u32 = 65536;
-
 // The parts of `file`, or the number of the first test that it fails.
 pub fn read(file: &[u8]) -> Reading
     ensures { λ r. ⌜ r ≡ readOf (now (file .entry)) ⌝ }
@@ -42,9 +36,9 @@ pub fn read(file: &[u8]) -> Reading
     if refusal != 0 {
         return Reading::Refused(refusal);
     }
-    let list_size = little_endian::read64(file, 72);
-    let list_end = HEADER_LENGTH + list_size as usize;
-    let list = &file[HEADER_LENGTH..list_end];
+    let list_size = little_endian::read64(file, layout::LIST_SIZE_AT);
+    let list_end = layout::HEADER_LENGTH + list_size as usize;
+    let list = &file[layout::HEADER_LENGTH..list_end];
     match entries::walk(list) {
         Walked::Entries(totals) => {
             let refusal = totals_refusal(file, list, totals);
@@ -52,13 +46,13 @@ pub fn read(file: &[u8]) -> Reading
                 return Reading::Refused(refusal);
             }
             Reading::Accepted(Parts {
-                program: little_endian::read32(file, 12),
-                number: little_endian::read64(file, 48),
-                entries: little_endian::read64(file, 56),
+                program: little_endian::read32(file, layout::PROGRAM_AT),
+                number: little_endian::read64(file, layout::NUMBER_AT),
+                entries: little_endian::read64(file, layout::COUNT_AT),
                 saved: totals.saved,
                 list_size,
-                data_start: little_endian::read64(file, 80),
-                data_size: little_endian::read64(file, 88),
+                data_start: little_endian::read64(file, layout::DATA_START_AT),
+                data_size: little_endian::read64(file, layout::DATA_SIZE_AT),
             })
         }
         Walked::Fault(fault) => Reading::Refused(entries::fault_number(fault)),
@@ -72,16 +66,19 @@ fn header_refusal(file: &[u8]) -> u32
     if !length_allowed(file.len()) {
         return 1;
     }
-    if little_endian::read64(file, 0) != SIGNATURE {
+    if little_endian::read64(file, 0) != layout::SIGNATURE {
         return 2;
     }
-    if !version_allowed(little_endian::read32(file, 8)) {
+    if !version_allowed(little_endian::read32(file, layout::VERSION_AT)) {
         return 3;
     }
     if !layout_allowed(file) {
         return 4;
     }
-    if !hashes::matches(&file[16..32], &file[32..]) {
+    if !hashes::matches(
+        &file[layout::CONTROL_HASH_AT..layout::SET_HASH_AT],
+        &file[layout::SET_HASH_AT..],
+    ) {
         return 5;
     }
     0
@@ -92,17 +89,21 @@ fn totals_refusal(file: &[u8], list: &[u8], totals: Totals) -> u32
     requires { ⌜ (96 ≤ length (now file)) × (now list ≡ listOf (now file)) ⌝ }
     ensures { λ r. ⌜ r ≡ totalsRefusal (now (file .entry)) totals ⌝ }
 {
-    if totals.entries != little_endian::read64(file, 56) {
+    if totals.entries != little_endian::read64(file, layout::COUNT_AT) {
         return 6;
     }
-    let number = little_endian::read64(file, 48);
+    let number = little_endian::read64(file, layout::NUMBER_AT);
     if !rules::number_allowed(number, totals.saved) {
         return 7;
     }
-    if !hashes::matches_set(&file[32..48], list) {
+    if !hashes::matches_set(&file[layout::SET_HASH_AT..layout::NUMBER_AT], list) {
         return 8;
     }
-    if !rules::data_allowed(number, totals.greatest, little_endian::read64(file, 88)) {
+    if !rules::data_allowed(
+        number,
+        totals.greatest,
+        little_endian::read64(file, layout::DATA_SIZE_AT),
+    ) {
         return 9;
     }
     0
@@ -111,7 +112,7 @@ fn totals_refusal(file: &[u8], list: &[u8], totals: Totals) -> u32
 fn length_allowed(length: usize) -> bool
     ensures { λ r. ⌜ r ≡ lengthAllowed length ⌝ }
 {
-    if length < HEADER_LENGTH {
+    if length < layout::HEADER_LENGTH {
         return false;
     }
     length <= rules::MAX_LENGTH
@@ -120,28 +121,28 @@ fn length_allowed(length: usize) -> bool
 fn version_allowed(version: u32) -> bool
     ensures { λ r. ⌜ r ≡ versionAllowed version ⌝ }
 {
-    version == VERSION
+    version == layout::VERSION
 }
 
 // Whether list and data lie where they must.
 fn layout_allowed(file: &[u8]) -> bool
     ensures { λ r. ⌜ r ≡ layoutAllowed (now (file .entry)) ⌝ }
 {
-    if little_endian::read64(file, 64) != 96 {
+    if little_endian::read64(file, layout::LIST_START_AT) != layout::LIST_START {
         return false;
     }
-    let data_start = little_endian::read64(file, 80);
-    if data_start < 96 {
+    let data_start = little_endian::read64(file, layout::DATA_START_AT);
+    if data_start < layout::LIST_START {
         return false;
     }
-    if data_start - 96 != little_endian::read64(file, 72) {
+    if data_start - layout::LIST_START != little_endian::read64(file, layout::LIST_SIZE_AT) {
         return false;
     }
     let length = file.len() as u64;
     if length < data_start {
         return false;
     }
-    if length - data_start != little_endian::read64(file, 88) {
+    if length - data_start != little_endian::read64(file, layout::DATA_SIZE_AT) {
         return false;
     }
     true

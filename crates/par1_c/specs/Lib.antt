@@ -1,3 +1,4 @@
 pub mod Byte
 pub mod Numbers
 pub mod Parts
+pub mod Writings

@@ -6,13 +6,17 @@ ghost use Rattle.md5.specs.Digest.{digestInto};
 ghost use Rattle.parity.specs.Coefficient.{coefficientAnswer};
 ghost use Rattle.parity.specs.MulAdd.{mulAdd};
 ghost use Rattle.par1.specs.Checking.{checkOf};
+ghost use Rattle.par1.specs.EntryWriting.{writeEntryOf};
 ghost use Rattle.par1.specs.Reading.{readOf};
+ghost use Rattle.par1.specs.VolumeWriting.{writeVolumeOf};
 ghost use Rattle.par1_c.specs.Byte.{byteInto};
 ghost use Rattle.par1_c.specs.Parts.{partsBytes, readInto};
+ghost use Rattle.par1_c.specs.Writings.{writingNumber, numbered};
 ghost use lib.Seq.{sets};
 use gf256::Answer;
 use par1::Parts;
 use par1::Reading;
+use par1::Writing;
 
 // The MD5 of `bytes` over the first 16 bytes of `out`.
 #[no_mangle]
@@ -52,6 +56,28 @@ pub extern "C" fn par1_read(file: &[u8], out: &mut [u8]) -> u32
     ensures { λ r. ⌜ (r, now (out .exit)) ≡ readInto (readOf (now (file .entry))) (now (out .entry)) ⌝ }
 {
     put_reading(par1::read(file), out)
+}
+
+// Writes the entry of a file with these contents, status and name over the first bytes of `out`.
+#[no_mangle]
+pub extern "C" fn par1_write_entry(contents: &[u8], status: u64, name: &[u8], out: &mut [u8]) -> u32
+    ensures { λ r. ⌜ (r, now (out .exit)) ≡ numbered (writeEntryOf (now (contents .entry)) status (now (name .entry)) (now (out .entry))) ⌝ }
+{
+    writing_number(par1::write_entry(contents, status, name, out))
+}
+
+// Writes a volume, or an index where the number is 0, over the first bytes of `out`.
+#[no_mangle]
+pub extern "C" fn par1_write_volume(
+    program: u32,
+    number: u64,
+    list: &[u8],
+    data: &[u8],
+    out: &mut [u8],
+) -> u32
+    ensures { λ r. ⌜ (r, now (out .exit)) ≡ numbered (writeVolumeOf program number (now (list .entry)) (now («data» .entry)) (now (out .entry))) ⌝ }
+{
+    writing_number(par1::write_volume(program, number, list, data, out))
 }
 
 // Whether the contents are those of the entry's file.
@@ -109,4 +135,14 @@ fn put_parts(parts: Parts, out: &mut [u8])
     little_endian::write64(out, 32, parts.list_size);
     little_endian::write64(out, 40, parts.data_start);
     little_endian::write64(out, 48, parts.data_size);
+}
+
+// The number of the answer of a writing call.
+fn writing_number(writing: Writing) -> u32
+    ensures { λ r. ⌜ r ≡ writingNumber writing ⌝ }
+{
+    match writing {
+        Writing::Written(_) => 0,
+        Writing::Refused(number) => number,
+    }
 }

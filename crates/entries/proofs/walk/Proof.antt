@@ -3,15 +3,14 @@
 use mathlib.Core.Path.{_≡_, sym, ap, ap₂, _∙_}
 use Prim.Native.Nat.{ℕ, _≤_, _-_}
 use native.Mathlib.Omega.{arith}
-use lib.ListN.{length, drop, length-drop}
+use lib.ListN.{length, drop}
 use mathlib.Core.List.{List}
 use denote.Ref.{now}
 use lib.Seq.{drop-drop}
-use Rattle.entries.specs.Walk.{firstOf, entriesOf, walkOf}
+use Rattle.entries.specs.Walk.{entriesOf, walkOf}
 use Rattle.entries.specs.declared.Totals.{Totals}
-use Rattle.entries.proofs.EntryLaws.{IsEntry, is-end, is-entry, is-fault}
+use Rattle.entries.proofs.EntryLaws.{EntryAt, entry-at, end-at, fault-at}
 use Rattle.entries.proofs.WalkLaws.{walkFrom, walk-start, walk-more, walk-end, walk-fault, add-added}
-use Rattle.pieces.proofs.CutLaws.{part-to-end}
 use borrow.Author.Needs.{needs}
 use Rattle.entries.proofs.walk.Statement.{statement}
 use Rattle.entries.proofs.walk.Tie as tie
@@ -23,24 +22,13 @@ Inv-loop list totals₀ at₀ totals at =
 abbrev μ-loop : tie.MeasureT-loop
 μ-loop list totals₀ at₀ totals at = length list - at
 
--- the answer is about what remains of the list
-first-is : (c : tie.After-first Inv-loop μ-loop)
-    → c .first .result ≡ firstOf (drop (c .before .before .loop .at) (now (c .before .before .before .before .args .list)))
-first-is c =
-    c .first .ensures ∙ ap firstOf (part-to-end (now (c .before .before .before .before .args .list)) (c .before .before .loop .at))
-
--- the entry that it gives
+-- the entry at hand
 entry-in : (c : tie.After-known-told Inv-loop μ-loop)
-    → IsEntry
-    (drop (c .before .before .before .before .before .loop .at) (now (c .before .before .before .before .before .before .before .args .list)))
+    → EntryAt (now (c .before .before .before .before .before .before .before .args .list)) (c .before .before .before .before .before .loop .at)
     (c .before .length .given .0 .0)
     (c .before .length .given .0 .1 .0)
     (c .before .length .given .0 .1 .1 .0)
-entry-in c = is-entry (sym (c .before .length .given .1) ∙ first-is (c .before .before .before))
-
-length-left : (c : tie.At-loop Inv-loop μ-loop)
-    → length (drop (c .loop .at) (now (c .before .before .args .list))) ≡ length (now (c .before .before .args .list)) - c .loop .at
-length-left c = length-drop (c .loop .at) (now (c .before .before .args .list))
+entry-in c = entry-at _ _ (c .before .before .before .first .ensures) (c .before .length .given .1)
 
 loop-holds : tie.Need-loop-holds Inv-loop μ-loop
 loop-holds c = (omega arith, omega arith, omega arith, walk-start (now (c .before .args .list)))
@@ -64,10 +52,10 @@ added-requires : tie.Need-added-requires Inv-loop μ-loop
 added-requires c κs = search needs
 
 add-at : tie.Need-add-at Inv-loop μ-loop
-add-at c = let i = entry-in (c .before) in omega (arith, i .high, length-left (c .before .before .before .before .before .before))
+add-at c = omega (arith, entry-in (c .before) .fits)
 
 loop-less : tie.Need-loop-less Inv-loop μ-loop
-loop-less c = let i = entry-in (c .before) in omega (arith, i .low, i .high, length-left (c .before .before .before .before .before .before))
+loop-less c = let i = entry-in (c .before) in omega (arith, i .low, i .fits)
 
 loop-again : tie.Need-loop-again Inv-loop μ-loop
 loop-again c =
@@ -76,10 +64,10 @@ loop-again c =
     let s : List ℕ = now (c .before .before .before .before .before .before .before .before .args .list) in
     let more = add-added (l .totals) (c .before .before .length .given .0 .1 .0) (c .before .before .length .given .0 .1 .1 .0) in
     let sum = c .added .ensures in (
-      omega (arith, i .high, length-drop (l .at) s),
+      omega (arith, i .fits),
       omega (arith, i .low, ap (λ (t : Totals). t .entries) sum, more .entries-is),
       omega (arith, i .low, ap (λ (t : Totals). t .saved) sum, more .saved-most),
-      ap₂ (λ (t : Totals) (q : List ℕ). walkFrom t (entriesOf q)) sum (sym (drop-drop _ (l .at) s)) ∙ walk-more (l .totals) i ∙ l .inv .3,
+      ap₂ (λ (t : Totals) (q : List ℕ). walkFrom t (entriesOf q)) sum (sym (drop-drop _ (l .at) s)) ∙ walk-more (l .totals) (i .entry) ∙ l .inv .3,
     )
 
 enum-told : tie.Need-enum-told Inv-loop μ-loop
@@ -88,8 +76,9 @@ enum-told c = search needs
 returns : tie.Need-returns Inv-loop μ-loop
 returns c =
     let b = c .before .before .before .before in
-    let e = is-end (sym (c .enum-told .given .1) ∙ first-is (c .before .before)) in
-    sym (walk-end (b .loop .totals) e) ∙ b .loop .inv .3
+    let s : List ℕ = now (b .before .before .args .list) in
+    let end = end-at s (b .loop .at) (c .before .before .first .ensures) (c .enum-told .given .1) in
+    sym (walk-end (b .loop .totals) end) ∙ b .loop .inv .3
 
 enum-known-fault : tie.Need-enum-known-fault Inv-loop μ-loop
 enum-known-fault c = search needs
@@ -97,8 +86,9 @@ enum-known-fault c = search needs
 returns-2 : tie.Need-returns-2 Inv-loop μ-loop
 returns-2 c =
     let b = c .before .before .before .before .before in
-    let f = is-fault (sym (c .before .fault .given .1) ∙ first-is (c .before .before .before)) in
-    sym (walk-fault (b .loop .totals) f) ∙ b .loop .inv .3
+    let s : List ℕ = now (b .before .before .args .list) in
+    let fault = fault-at s (b .loop .at) (c .before .before .before .first .ensures) (c .before .fault .given .1) in
+    sym (walk-fault (b .loop .totals) fault) ∙ b .loop .inv .3
 
 pub walk-spec : {M : Type 1} → statement M
 walk-spec =

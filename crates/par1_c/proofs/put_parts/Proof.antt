@@ -3,6 +3,7 @@
 use Rattle.par1_c.specs.Parts.{partsBytes}
 use Rattle.par1_c.proofs.NumberLaws.{last-number, then-number}
 use denote.Ref.{now}
+use mathlib.Core.Path.{refl}
 use borrow.Author.Needs.{needs}
 use Rattle.par1_c.proofs.put_parts.Statement.{statement}
 use Rattle.par1_c.proofs.put_parts.Tie as tie
@@ -44,14 +45,12 @@ returns c =
     let third = fourth .before .before .before .before in
     let second = third .before .before .before .before in
     let first = second .before .before .before .before in
-    let a = first .before .before .before .before .args in
-    let p = a .parts in
-    then-number (now (a .out)) 0 _ (first .write64 .ensures) _
-    (then-number (first .write64 .last .0) 8 _ (second .write642 .ensures) _
-    (then-number (second .write642 .last .0) 16 _ (third .write643 .ensures) _
-    (then-number (third .write643 .last .0) 24 _ (fourth .write644 .ensures) _
-    (then-number (fourth .write644 .last .0) 32 _ (fifth .write645 .ensures) _
-    (then-number (fifth .write645 .last .0) 40 _ (sixth .write646 .ensures) _
+    then-number (now (first .before .before .before .before .args .out)) 0 _ _ refl (first .write64 .ensures)
+    (then-number (first .write64 .last .0) 8 _ _ refl (second .write642 .ensures)
+    (then-number (second .write642 .last .0) 16 _ _ refl (third .write643 .ensures)
+    (then-number (third .write643 .last .0) 24 _ _ refl (fourth .write644 .ensures)
+    (then-number (fourth .write644 .last .0) 32 _ _ refl (fifth .write645 .ensures)
+    (then-number (fifth .write645 .last .0) 40 _ _ refl (sixth .write646 .ensures)
     (last-number (sixth .write646 .last .0) 48 _ (seventh .write647 .ensures)))))))
 
 pub put-parts-spec : {M : Type 1} → statement M

@@ -1,15 +1,10 @@
--- `par1::checking::lone_refusal` meets its contract.
+-- `par1::checking::lone_refusal` meets its contract: the cases of what the slice begins with.
 -- Assumes nothing.
-use mathlib.Core.Path.{_≡_, refl, sym, ap, ap₂, _∙_, subst}
-use mathlib.Core.Logic.{⊎-elim}
-use Prim.Native.Nat.{ℕ, _≤_, _<_, _-_, _+_, _*_}
-use native.Mathlib.Omega.{arith}
-use lib.ListN.{length, getD, set, length-set}
-use mathlib.Core.List.{List}
+use mathlib.Core.Path.{_≡_, sym, ap, _∙_}
+use lib.ListN.{length}
 use denote.Ref.{now}
-use borrow.Author.Tests.{not-true, not-false, ne-eqb, eq-eqb, lt-leb, le-leb}
+use borrow.Author.Tests.{ne-eqb, eq-eqb}
 use Rattle.par1.specs.Rules.{test}
-use Rattle.entries.specs.Walk.{firstOf}
 use lib.Dec.{eqb}
 use Rattle.par1.specs.Checking.{itemRefusal, loneRefusal}
 use borrow.Author.Needs.{needs}

@@ -1,17 +1,13 @@
--- `par1::comparing::same` meets its contract.
+-- `par1::comparing::same` meets its contract. The loop's invariant: the test on what remains of both decides.
 -- Assumes nothing.
-use mathlib.Core.Path.{_≡_, refl, sym, ap, ap₂, _∙_, subst}
-use mathlib.Core.Logic.{⊎-elim}
-use Prim.Native.Nat.{ℕ, _≤_, _<_, _-_, _+_, _*_}
+use mathlib.Core.Path.{_≡_, refl, sym, _∙_}
+use Prim.Native.Nat.{_≤_, _-_}
 use native.Mathlib.Omega.{arith}
-use lib.ListN.{length, getD, set, length-set}
-use mathlib.Core.List.{List}
+use lib.ListN.{length, drop}
 use denote.Ref.{now}
-use borrow.Author.Tests.{not-true, not-false, ne-eqb, eq-eqb, lt-leb, le-leb}
-use lib.ListN.{drop}
+use borrow.Author.Tests.{ne-eqb, eq-eqb}
 use Rattle.par1.specs.Hashes.{equal}
 use Rattle.par1.proofs.EqualLaws.{equal-lengths, equal-more, equal-end}
-use borrow.Author.Needs.{needs}
 use Rattle.par1.proofs.comparing.same.Statement.{statement}
 use Rattle.par1.proofs.comparing.same.Tie as tie
 

@@ -1,25 +1,20 @@
--- `par1::hashes::of_set` meets its contract.
+-- `par1::hashes::of_set` meets its contract. The loop's invariant: the hash so far, pushed over the entries that remain, ends in the set hash.
 -- Assumes nothing.
-use mathlib.Core.Path.{_≡_, refl, sym, ap, ap₂, _∙_, subst}
-use mathlib.Core.Logic.{⊎-elim}
-use Prim.Native.Nat.{ℕ, _≤_, _<_, _-_, _+_, _*_}
+use mathlib.Core.Path.{_≡_, sym, ap, ap₂, _∙_}
+use Prim.Native.Nat.{ℕ, _≤_, _-_}
 use native.Mathlib.Omega.{arith}
-use lib.ListN.{length, getD, set, length-set}
+use lib.ListN.{length, drop}
 use mathlib.Core.List.{List}
 use denote.Ref.{now}
-use lib.ListN.{drop, length-drop, take}
 use lib.Seq.{drop-drop}
 use Rattle.md5.specs.declared.Md5.{Md5}
 use Rattle.md5.specs.Running.{finished, pushed}
-use Rattle.entries.specs.Entry.{md5Of, isSaved}
-use Rattle.entries.specs.Walk.{firstOf, entriesOf}
-use Rattle.entries.proofs.EntryLaws.{IsEntry, is-end, is-entry, is-fault}
-use Rattle.pieces.proofs.CutLaws.{part-to-end}
+use Rattle.entries.specs.Entry.{isSaved}
+use Rattle.entries.specs.Walk.{entriesOf}
+use Rattle.entries.proofs.EntryLaws.{EntryAt, entry-at, end-at, fault-at}
 use Rattle.par1.specs.Hashes.{setHash}
-use Rattle.par1.proofs.HashLaws.{pushedOver, set-start, set-more, set-end, set-fault}
-use Rattle.par1.proofs.PartLaws.{part-take}
+use Rattle.par1.proofs.HashLaws.{pushedOver, set-start, set-more, set-end, set-fault, hash-part}
 use mathlib.Core.Bool.{cond}
-use Rattle.par1.proofs.HashLaws.{hash-part}
 use borrow.Author.Needs.{needs}
 use Rattle.par1.proofs.hashes.of_set.Statement.{statement}
 use Rattle.par1.proofs.hashes.of_set.Tie as tie
@@ -30,24 +25,13 @@ Inv-loop list hash₀ at₀ hash at = (at ≤ length list) × (finished (pushedO
 abbrev μ-loop : tie.MeasureT-loop
 μ-loop list hash₀ at₀ hash at = length list - at
 
--- the answer is about what remains of the list
-first-is : (c : tie.After-first Inv-loop μ-loop)
-    → c .first .result ≡ firstOf (drop (c .before .before .loop .at) (now (c .before .before .before .before .before .args .list)))
-first-is c =
-    c .first .ensures ∙ ap firstOf (part-to-end (now (c .before .before .before .before .before .args .list)) (c .before .before .loop .at))
-
--- the entry that it gives
+-- the entry at hand
 entry-in : (c : tie.After-known-told Inv-loop μ-loop)
-    → IsEntry
-    (drop (c .before .before .before .before .before .loop .at) (now (c .before .before .before .before .before .before .before .before .args .list)))
+    → EntryAt (now (c .before .before .before .before .before .before .before .before .args .list)) (c .before .before .before .before .before .loop .at)
     (c .before .length .given .0 .0)
     (c .before .length .given .0 .1 .0)
     (c .before .length .given .0 .1 .1 .0)
-entry-in c = is-entry (sym (c .before .length .given .1) ∙ first-is (c .before .before .before))
-
-length-left : (c : tie.At-loop Inv-loop μ-loop)
-    → length (drop (c .loop .at) (now (c .before .before .before .args .list))) ≡ length (now (c .before .before .before .args .list)) - c .loop .at
-length-left c = length-drop (c .loop .at) (now (c .before .before .before .args .list))
+entry-in c = entry-at _ _ (c .before .before .before .first .ensures) (c .before .length .given .1)
 
 new-requires : tie.Need-new-requires Inv-loop μ-loop
 new-requires c κs = search needs
@@ -71,10 +55,10 @@ enum-known-length : tie.Need-enum-known-length Inv-loop μ-loop
 enum-known-length c = search needs
 
 add-with-entry : tie.Need-add-with-entry Inv-loop μ-loop
-add-with-entry c = let i = entry-in c in omega (arith, i .low, i .high, length-left (c .before .before .before .before .before))
+add-with-entry c = let i = entry-in c in omega (arith, i .low, i .fits)
 
 add-with-entry-2 : tie.Need-add-with-entry-2 Inv-loop μ-loop
-add-with-entry-2 c = let i = entry-in c in omega (arith, i .low, i .high, length-left (c .before .before .before .before .before))
+add-with-entry-2 c = let i = entry-in c in omega (arith, i .low, i .fits)
 
 sub-with-entry : tie.Need-sub-with-entry Inv-loop μ-loop
 sub-with-entry c = omega arith
@@ -83,16 +67,16 @@ part-with-entry-start : tie.Need-part-with-entry-start Inv-loop μ-loop
 part-with-entry-start c = omega arith
 
 part-with-entry-end : tie.Need-part-with-entry-end Inv-loop μ-loop
-part-with-entry-end c = let i = entry-in c in omega (arith, i .low, i .high, length-left (c .before .before .before .before .before))
+part-with-entry-end c = let i = entry-in c in omega (arith, i .low, i .fits)
 
 with-entry-requires : tie.Need-with-entry-requires Inv-loop μ-loop
 with-entry-requires c κs = search needs
 
 add-at : tie.Need-add-at Inv-loop μ-loop
-add-at c = let i = entry-in (c .before .before) in omega (arith, i .high, length-left (c .before .before .before .before .before .before .before))
+add-at c = omega (arith, entry-in (c .before .before) .fits)
 
 loop-less : tie.Need-loop-less Inv-loop μ-loop
-loop-less c = let i = entry-in (c .before .before) in omega (arith, i .low, i .high, length-left (c .before .before .before .before .before .before .before))
+loop-less c = let i = entry-in (c .before .before) in omega (arith, i .low, i .fits)
 
 loop-again : tie.Need-loop-again Inv-loop μ-loop
 loop-again c =
@@ -101,12 +85,11 @@ loop-again c =
     let s : List ℕ = now (c .before .before .before .before .before .before .before .before .before .before .args .list) in
     let n : ℕ = c .before .before .before .length .given .0 .0 in
     let st : ℕ = c .before .before .before .length .given .0 .1 .0 in
-    let part : take (l .at + 40 - (l .at + 24)) (drop (l .at + 24) s) ≡ md5Of (take n (drop (l .at) s)) =
-    hash-part s (l .at) n (omega (arith, i .low)) in (
-      omega (arith, i .high, length-drop (l .at) s),
+    let part = hash-part s (l .at) n (omega (arith, i .low)) in (
+      omega (arith, i .fits),
       ap₂ (λ (h : Md5) (q : List ℕ). finished (pushedOver h (entriesOf q .pieces)))
           (c .with-entry .ensures ∙ ap (λ (q : List ℕ). cond (isSaved st) (pushed (l .hash) q) (l .hash)) part) (sym (drop-drop n (l .at) s))
-          ∙ ap finished (set-more (l .hash) i) ∙ l .inv .1,
+          ∙ ap finished (set-more (l .hash) (i .entry)) ∙ l .inv .1,
     )
 
 enum-told : tie.Need-enum-told Inv-loop μ-loop
@@ -117,9 +100,10 @@ finish-requires c κs = search needs
 
 returns : tie.Need-returns Inv-loop μ-loop
 returns c =
-    let l = c .before .before .before .before .before in
-    let e = is-end (sym (c .before .enum-told .given .1) ∙ first-is (c .before .before .before)) in
-    c .finish .ensures ∙ ap finished (sym (set-end (l .loop .hash) e)) ∙ l .loop .inv .1
+    let b = c .before .before .before .before .before in
+    let s : List ℕ = now (b .before .before .before .args .list) in
+    let end = end-at s (b .loop .at) (c .before .before .before .first .ensures) (c .before .enum-told .given .1) in
+    c .finish .ensures ∙ ap finished (sym (set-end (b .loop .hash) end)) ∙ b .loop .inv .1
 
 enum-told-2 : tie.Need-enum-told-2 Inv-loop μ-loop
 enum-told-2 c = search needs
@@ -129,9 +113,10 @@ finish-requires-2 c κs = search needs
 
 returns-2 : tie.Need-returns-2 Inv-loop μ-loop
 returns-2 c =
-    let l = c .before .before .before .before .before in
-    let i = is-fault (sym (c .before .enum-told2 .given .1) ∙ first-is (c .before .before .before)) in
-    c .finish2 .ensures ∙ ap finished (sym (set-fault (l .loop .hash) i)) ∙ l .loop .inv .1
+    let b = c .before .before .before .before .before in
+    let s : List ℕ = now (b .before .before .before .args .list) in
+    let fault = fault-at s (b .loop .at) (c .before .before .before .first .ensures) (c .before .enum-told2 .given .1) in
+    c .finish2 .ensures ∙ ap finished (sym (set-fault (b .loop .hash) fault)) ∙ b .loop .inv .1
 
 pub of-set-spec : {M : Type 1} → statement M
 of-set-spec =

@@ -1,10 +1,6 @@
--- `par1::hashes::with_entry` meets its contract.
+-- `par1::hashes::with_entry` meets its contract: the two cases of whether the entry is saved.
 -- Assumes nothing.
-use mathlib.Core.Path.{_≡_, refl, sym, ap, ap₂, _∙_, subst}
-use mathlib.Core.Logic.{⊎-elim}
-use Prim.Native.Nat.{ℕ, _≤_, _<_, _-_, _+_, _*_}
-use native.Mathlib.Omega.{arith}
-use lib.ListN.{length, getD, set, length-set}
+use mathlib.Core.Path.{sym, _∙_}
 use borrow.Author.Needs.{needs}
 use Rattle.par1.proofs.hashes.with_entry.Statement.{statement}
 use Rattle.par1.proofs.hashes.with_entry.Tie as tie

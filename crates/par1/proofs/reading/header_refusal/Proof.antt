@@ -1,52 +1,64 @@
--- `par1::reading::header_refusal` meets its contract.
+-- `par1::reading::header_refusal` meets its contract: each test in its order.
 -- Assumes nothing.
-use mathlib.Core.Path.{_≡_, refl, sym, ap, ap₂, _∙_, subst}
-use mathlib.Core.Logic.{⊎-elim}
-use Prim.Native.Nat.{ℕ, _≤_, _<_, _-_, _+_, _*_}
+use mathlib.Core.Path.{_≡_, sym, ap, _∙_}
+use Prim.Native.Nat.{ℕ, _≤_}
 use native.Mathlib.Omega.{arith}
-use lib.ListN.{length, getD, set, length-set}
+use lib.ListN.{length}
 use mathlib.Core.List.{List}
 use denote.Ref.{now}
-use borrow.Author.Tests.{not-true, not-false, ne-eqb, eq-eqb, lt-leb, le-leb}
-use mathlib.Core.Bool.{true, false}
+use borrow.Author.Tests.{not-true, not-false, ne-eqb, eq-eqb}
+use mathlib.Core.Bool.{true}
 use lib.Dec.{eqb}
 use Rattle.par1.specs.Layout.{signature, signatureOf, versionOf, controlHashOf}
 use Rattle.par1.specs.Hashes.{equal, controlHash}
 use Rattle.par1.specs.Rules.{lengthAllowed, versionAllowed, layoutAllowed}
 use Rattle.par1.specs.Reading.{headerRefusal}
-use Rattle.par1.proofs.ReadingLaws.{signature-is, between}
+use Rattle.par1.proofs.RuleLaws.{signature-is, between}
 use Rattle.pieces.proofs.CutLaws.{part-to-end}
 use Rattle.md5.specs.Digest.{md5}
 use borrow.Author.Needs.{needs}
 use Rattle.par1.proofs.reading.header_refusal.Statement.{statement}
 use Rattle.par1.proofs.reading.header_refusal.Tie as tie
 
--- ---- what each test, passed, tells
+-- ---- the file, where each test has passed
 
-passed-1 : (c : tie.Else1) → lengthAllowed (length (now (c .before .before .before .args .file))) ≡ true
+abbrev file-1 : tie.Else1 → List ℕ
+file-1 c = now (c .before .before .before .args .file)
+
+abbrev file-2 : tie.Else2 → List ℕ
+file-2 c = file-1 (c .before .before)
+
+abbrev file-3 : tie.Else3 → List ℕ
+file-3 c = file-2 (c .before .before .before)
+
+abbrev file-4 : tie.Else4 → List ℕ
+file-4 c = file-3 (c .before .before)
+
+-- ---- what each test says, and tells where it has passed
+
+passed-1 : (c : tie.Else1) → lengthAllowed (length (file-1 c)) ≡ true
 passed-1 c = sym (c .before .length-allowed .ensures) ∙ not-false (c .before .length-allowed .result) (c .if1 .left)
 
-passed-2 : (c : tie.Else2) → eqb (signatureOf (now (c .before .before .before .before .before .args .file))) signature ≡ true
+passed-2 : (c : tie.Else2) → eqb (signatureOf (file-2 c)) signature ≡ true
 passed-2 c = eq-eqb _ _ (sym (c .before .read64 .ensures) ∙ c .if2 .left ∙ sym signature-is)
 
-passed-3 : (c : tie.Else3) → versionAllowed (versionOf (now (c .before .before .before .before .before .before .before .before .args .file))) ≡ true
-passed-3 c =
-    ap versionAllowed (sym (c .before .before .read32 .ensures)) ∙ sym (c .before .version-allowed .ensures)
-    ∙ not-false (c .before .version-allowed .result) (c .if3 .left)
+version-test : (c : tie.After-version-allowed) → c .version-allowed .result ≡ versionAllowed (versionOf (file-2 (c .before .before)))
+version-test c = c .version-allowed .ensures ∙ ap versionAllowed (c .before .read32 .ensures)
 
-failed-3 : (c : tie.Then3) → versionAllowed (versionOf (now (c .before .before .before .before .before .before .before .before .args .file))) ≡ false
-failed-3 c =
-    ap versionAllowed (sym (c .before .before .read32 .ensures)) ∙ sym (c .before .version-allowed .ensures)
-    ∙ not-true (c .before .version-allowed .result) (c .if3 .taken)
+passed-3 : (c : tie.Else3) → versionAllowed (versionOf (file-3 c)) ≡ true
+passed-3 c = sym (version-test (c .before)) ∙ not-false (c .before .version-allowed .result) (c .if3 .left)
 
-passed-4 : (c : tie.Else4) → layoutAllowed (now (c .before .before .before .before .before .before .before .before .before .before .args .file)) ≡ true
+passed-4 : (c : tie.Else4) → layoutAllowed (file-4 c) ≡ true
 passed-4 c = sym (c .before .layout-allowed .ensures) ∙ not-false (c .before .layout-allowed .result) (c .if4 .left)
 
 control-test : (c : tie.After-matches)
-    → c .matches .result ≡ equal (controlHashOf (now (c .before .before .before .before .before .before .before .before .before .before .before .before .before .args .file))) (controlHash (now (c .before .before .before .before .before .before .before .before .before .before .before .before .before .args .file)))
+    → let f = file-4 (c .before .before .before) in c .matches .result ≡ equal (controlHashOf f) (controlHash f)
 control-test c =
-    let f : List ℕ = now (c .before .before .before .before .before .before .before .before .before .before .before .before .before .args .file) in
+    let f : List ℕ = file-4 (c .before .before .before) in
     c .matches .ensures ∙ ap (λ (t : List ℕ). equal (controlHashOf f) (md5 t)) (part-to-end f 32)
+
+low : (c : tie.Else4) → 96 ≤ length (file-4 c)
+low c = between (length (file-4 c)) (passed-1 (c .before .before .before .before .before .before .before)) .low
 
 length-allowed-requires : tie.Need-length-allowed-requires
 length-allowed-requires c κs = search needs
@@ -70,14 +82,19 @@ version-allowed-requires c κs = search needs
 
 returns-3 : tie.Need-returns-3
 unfolding headerRefusal
-returns-3 c = simp (passed-1 (c .before .before .before .before .before), passed-2 (c .before .before .before), failed-3 c)
+returns-3 c =
+    let two = c .before .before .before in
+    simp (passed-1 (two .before .before), passed-2 two, sym (version-test (c .before)) ∙ not-true (c .before .version-allowed .result) (c .if3 .taken))
 
 layout-allowed-requires : tie.Need-layout-allowed-requires
 layout-allowed-requires c κs = search needs
 
 returns-4 : tie.Need-returns-4
 unfolding headerRefusal
-returns-4 c = simp (passed-1 (c .before .before .before .before .before .before .before), passed-2 (c .before .before .before .before .before), passed-3 (c .before .before), sym (c .before .layout-allowed .ensures) ∙ not-true (c .before .layout-allowed .result) (c .if4 .taken))
+returns-4 c =
+    let three = c .before .before in
+    let two = three .before .before .before in
+    simp (passed-1 (two .before .before), passed-2 two, passed-3 three, sym (c .before .layout-allowed .ensures) ∙ not-true (c .before .layout-allowed .result) (c .if4 .taken))
 
 sub-matches : tie.Need-sub-matches
 sub-matches c = search needs
@@ -86,13 +103,13 @@ part-matches-start : tie.Need-part-matches-start
 part-matches-start c = search needs
 
 part-matches-end : tie.Need-part-matches-end
-part-matches-end c = omega (arith, between _ (passed-1 (c .before .before .before .before .before .before .before)) .low)
+part-matches-end c = omega (arith, low c)
 
 sub-matches-2 : tie.Need-sub-matches-2
-sub-matches-2 c = omega (arith, between _ (passed-1 (c .before .before .before .before .before .before .before .before)) .low)
+sub-matches-2 c = omega (arith, low (c .before))
 
 part-matches-start-2 : tie.Need-part-matches-start-2
-part-matches-start-2 c = omega (arith, between _ (passed-1 (c .before .before .before .before .before .before .before .before)) .low)
+part-matches-start-2 c = omega (arith, low (c .before))
 
 part-matches-end-2 : tie.Need-part-matches-end-2
 part-matches-end-2 c = search needs
@@ -103,14 +120,18 @@ matches-requires c κs = search needs
 returns-5 : tie.Need-returns-5
 unfolding headerRefusal
 returns-5 c =
-    let b = c .before .before .before .before in
-    simp (passed-1 (b .before .before .before .before .before .before .before), passed-2 (b .before .before .before .before .before), passed-3 (b .before .before), passed-4 b, sym (control-test (c .before)) ∙ not-true (c .before .matches .result) (c .if5 .taken))
+    let four = c .before .before .before .before in
+    let three = four .before .before in
+    let two = three .before .before .before in
+    simp (passed-1 (two .before .before), passed-2 two, passed-3 three, passed-4 four, sym (control-test (c .before)) ∙ not-true (c .before .matches .result) (c .if5 .taken))
 
 returns-6 : tie.Need-returns-6
 unfolding headerRefusal
 returns-6 c =
-    let b = c .before .before .before .before in
-    simp (passed-1 (b .before .before .before .before .before .before .before), passed-2 (b .before .before .before .before .before), passed-3 (b .before .before), passed-4 b, sym (control-test (c .before)) ∙ not-false (c .before .matches .result) (c .if5 .left))
+    let four = c .before .before .before .before in
+    let three = four .before .before in
+    let two = three .before .before .before in
+    simp (passed-1 (two .before .before), passed-2 two, passed-3 three, passed-4 four, sym (control-test (c .before)) ∙ not-false (c .before .matches .result) (c .if5 .left))
 
 pub header-refusal-spec : {M : Type 1} → statement M
 header-refusal-spec =

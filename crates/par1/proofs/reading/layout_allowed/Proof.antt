@@ -1,12 +1,9 @@
--- `par1::reading::layout_allowed` meets its contract.
+-- `par1::reading::layout_allowed` meets its contract: a test that fails rules the layout out, and all of them make it.
 -- Assumes nothing.
-use mathlib.Core.Path.{_≡_, refl, sym, ap, ap₂, _∙_, subst}
-use mathlib.Core.Logic.{⊎-elim}
-use Prim.Native.Nat.{ℕ, _≤_, _<_, _-_, _+_, _*_}
+use mathlib.Core.Path.{sym, _∙_}
 use native.Mathlib.Omega.{arith}
-use lib.ListN.{length, getD, set, length-set}
 use denote.Ref.{now}
-use Rattle.par1.proofs.ReadingLaws.{not-laid, laid-out}
+use Rattle.par1.proofs.RuleLaws.{not-laid, laid-out}
 use borrow.Author.Needs.{needs}
 use Rattle.par1.proofs.reading.layout_allowed.Statement.{statement}
 use Rattle.par1.proofs.reading.layout_allowed.Tie as tie

@@ -1,13 +1,7 @@
 -- `par1::reading::length_allowed` meets its contract.
 -- Assumes nothing.
-use mathlib.Core.Path.{_≡_, refl, sym, ap, ap₂, _∙_, subst}
-use mathlib.Core.Logic.{⊎-elim}
-use Prim.Native.Nat.{ℕ, _≤_, _<_, _-_, _+_, _*_}
-use native.Mathlib.Omega.{arith}
-use lib.ListN.{length, getD, set, length-set}
-use borrow.Author.Tests.{not-true, not-false, ne-eqb, eq-eqb, lt-leb, le-leb}
+use borrow.Author.Tests.{lt-leb, le-leb}
 use Rattle.par1.specs.Rules.{lengthAllowed}
-use borrow.Author.Needs.{needs}
 use Rattle.par1.proofs.reading.length_allowed.Statement.{statement}
 use Rattle.par1.proofs.reading.length_allowed.Tie as tie
 

@@ -1,20 +1,18 @@
--- `par1::reading::read` meets its contract.
+-- `par1::read` meets its contract: the header decides, then the walk over the list, then its totals.
 -- Assumes nothing.
-use mathlib.Core.Path.{_≡_, refl, sym, ap, ap₂, _∙_, subst}
-use mathlib.Core.Logic.{⊎-elim}
-use Prim.Native.Nat.{ℕ, _≤_, _<_, _-_, _+_, _*_}
+use mathlib.Core.Path.{_≡_, sym, ap, _∙_}
+use Prim.Native.Nat.{ℕ, _-_, _+_}
 use native.Mathlib.Omega.{arith}
-use lib.ListN.{length, getD, set, length-set}
+use lib.ListN.{take, drop}
 use mathlib.Core.List.{List}
 use denote.Ref.{now}
-use Rattle.par1.proofs.ReadingLaws.{HeaderPassed, header-passed, header-refusal, list-refusal, read-refused, read-accepted, TotalsPassed, totals-passed, fault-some}
-use lib.ListN.{take, drop}
-use Rattle.entries.specs.Numbering.{savedOf}
+use Rattle.par1.proofs.ReadingLaws.{HeaderPassed, header-passed, header-refusal, list-refusal, read-refused, read-accepted}
+use Rattle.par1.proofs.RuleLaws.{fault-some}
 use Rattle.entries.specs.Walk.{walkOf}
-use Rattle.entries.specs.declared.Totals.{Totals}
-use Rattle.entries.proofs.WalkLaws.{is-filled}
+use Rattle.entries.specs.declared.Walked.{Walked}
+use Rattle.entries.proofs.WalkLaws.{walk-saved}
 use Rattle.par1.specs.Layout.{listSizeOf, listOf}
-use Rattle.par1.specs.Reading.{entriesIn, headerRefusal, totalsRefusal, listRefusal, refusalOf}
+use Rattle.par1.specs.Reading.{headerRefusal, listRefusal, refusalOf}
 use borrow.Author.Needs.{needs}
 use Rattle.par1.proofs.reading.read.Statement.{statement}
 use Rattle.par1.proofs.reading.read.Tie as tie
@@ -27,20 +25,21 @@ passed : (c : tie.Else1) → HeaderPassed (now (c .before .before .before .args 
 passed c = header-passed _ (none-yet c)
 
 -- the list is the file's
-list-is : (c : tie.After-walk)
-    → take (96 + c .before .before .read64 .result - 96) (drop 96 (now (c .before .before .before .before .before .before .args .file))) ≡ listOf (now (c .before .before .before .before .before .before .args .file))
-list-is c =
-    let n : 96 + c .before .before .read64 .result - 96 ≡ listSizeOf (now (c .before .before .before .before .before .before .args .file)) = omega (arith, c .before .before .read64 .ensures) in
-    ap (λ (k : ℕ). take k (drop 96 (now (c .before .before .before .before .before .before .args .file)))) n
+abbrev file-of : tie.After-walk → List ℕ
+file-of c = now (c .before .before .before .before .before .before .args .file)
 
-walk-is : (c : tie.After-walk) → c .walk .result ≡ walkOf (listOf (now (c .before .before .before .before .before .before .args .file)))
+list-is : (c : tie.After-walk) → take (96 + c .before .before .read64 .result - 96) (drop 96 (file-of c)) ≡ listOf (file-of c)
+list-is c =
+    let n : 96 + c .before .before .read64 .result - 96 ≡ listSizeOf (file-of c) = omega (arith, c .before .before .read64 .ensures) in
+    ap (λ (k : ℕ). take k (drop 96 (file-of c))) n
+
+walk-is : (c : tie.After-walk) → c .walk .result ≡ walkOf (listOf (file-of c))
 walk-is c = c .walk .ensures ∙ ap walkOf (list-is c)
 
--- after a walk to the end the totals decide
-entries-refusal : (c : tie.After-known-told) → refusalOf (now (c .before .before .before .before .before .before .before .before .before .args .file)) ≡ totalsRefusal (now (c .before .before .before .before .before .before .before .before .before .args .file)) (c .before .totals .given .0 .0)
-entries-refusal c =
-    let w = c .before .before .before in
-    list-refusal _ (none-yet (w .before .before .before)) ∙ ap (listRefusal (now (c .before .before .before .before .before .before .before .before .before .args .file))) (sym (walk-is w) ∙ c .before .totals .given .1)
+-- the walk decides
+walk-refusal : (c : tie.After-walk) {w : Walked} → c .walk .result ≡ w → refusalOf (file-of c) ≡ listRefusal (file-of c) w
+walk-refusal c e =
+    list-refusal (file-of c) (none-yet (c .before .before .before)) ∙ ap (listRefusal (file-of c)) (sym (walk-is c) ∙ e)
 
 header-refusal-requires : tie.Need-header-refusal-requires
 header-refusal-requires c κs = search needs
@@ -78,8 +77,9 @@ totals-refusal-requires c κs =
 
 returns-2 : tie.Need-returns-2
 returns-2 c =
-    let f : List ℕ = now (c .before .before .before .before .before .before .before .before .before .before .before .args .file) in
-    sym (read-refused f _ (c .before .totals-refusal .ensures ∙ sym (entries-refusal (c .before .before))) (c .if2 .taken))
+    let k = c .before .before in
+    let w = k .before .before .before in
+    sym (read-refused (file-of w) _ (c .before .totals-refusal .ensures ∙ sym (walk-refusal w (k .before .totals .given .1))) (c .if2 .taken))
 
 read32-requires : tie.Need-read32-requires
 read32-requires c κs = search needs
@@ -104,22 +104,21 @@ fault-number-requires c κs = search needs
 
 returns-3 : tie.Need-returns-3
 returns-3 c =
-    let f : List ℕ = now (c .before .before .before .before .before .before .before .before .before .before .before .before .before .before .before .before .args .file) in
-    let k = c .before .before .before .before .before .before .before in
+    let r = c .before .before .before .before in
+    let k = r .before .before .before in
     let w = k .before .before .before in
-    let none : refusalOf f ≡ 0 = entries-refusal k ∙ sym (c .before .before .before .before .before .before .totals-refusal .ensures) ∙ c .before .before .before .before .before .if2 .left in
-    let filled = is-filled (listOf f) (sym (k .before .totals .given .1) ∙ walk-is w) .totals-are in
-    let saved : k .before .totals .given .0 .0 .saved ≡ length (savedOf (entriesIn f)) = ap (λ (t : Totals). t .saved) filled in
-    sym (read-accepted f none
-    ∙ cc (saved, w .before .before .read64 .ensures, c .before .before .before .before .read32 .ensures, c .before .before .before .read642 .ensures, c .before .before .read643 .ensures, c .before .read644 .ensures, c .read645 .ensures))
+    let walked = k .before .totals .given .1 in
+    let none : refusalOf (file-of w) ≡ 0 = walk-refusal w walked ∙ sym (r .before .before .totals-refusal .ensures) ∙ r .before .if2 .left in
+    let saved = walk-saved (listOf (file-of w)) (sym (walk-is w) ∙ walked) in
+    sym (read-accepted (file-of w) none
+    ∙ cc (saved, w .before .before .read64 .ensures, r .read32 .ensures, c .before .before .before .read642 .ensures, c .before .before .read643 .ensures, c .before .read644 .ensures, c .read645 .ensures))
 
 returns-4 : tie.Need-returns-4
 returns-4 c =
-    let f : List ℕ = now (c .before .before .before .before .before .before .before .before .before .before .args .file) in
     let w = c .before .before .before .before in
-    let refused = list-refusal f (none-yet (w .before .before .before)) ∙ ap (listRefusal f) (sym (walk-is w) ∙ c .before .before .fault .given .1) in
     let number = c .fault-number .ensures in
-    sym (read-refused f _ (number ∙ sym refused) (λ z. omega (arith, fault-some (c .before .before .fault .given .0 .0), number)))
+    sym (read-refused (file-of w) _ (number ∙ sym (walk-refusal w (c .before .before .fault .given .1)))
+    (λ z. omega (arith, fault-some (c .before .before .fault .given .0 .0), number)))
 
 pub read-spec : {M : Type 1} → statement M
 read-spec =

@@ -1,52 +1,73 @@
--- `par1::reading::totals_refusal` meets its contract.
+-- `par1::reading::totals_refusal` meets its contract: each test in its order.
 -- Assumes nothing.
-use mathlib.Core.Path.{_≡_, refl, sym, ap, ap₂, _∙_, subst}
-use mathlib.Core.Logic.{⊎-elim}
-use Prim.Native.Nat.{ℕ, _≤_, _<_, _-_, _+_, _*_}
+use mathlib.Core.Path.{_≡_, sym, ap, ap₂, _∙_}
+use Prim.Native.Nat.{ℕ}
 use native.Mathlib.Omega.{arith}
-use lib.ListN.{length, getD, set, length-set}
 use mathlib.Core.List.{List}
 use denote.Ref.{now}
-use borrow.Author.Tests.{not-true, not-false, ne-eqb, eq-eqb, lt-leb, le-leb}
+use borrow.Author.Tests.{not-true, not-false, ne-eqb, eq-eqb}
 use mathlib.Core.Bool.{true}
 use lib.Dec.{eqb}
 use Rattle.par1.specs.Layout.{setHashOf, numberOf, countOf, dataSizeOf}
 use Rattle.par1.specs.Hashes.{equal, setHash}
 use Rattle.par1.specs.Rules.{numberAllowed, dataAllowed}
 use Rattle.par1.specs.Reading.{entriesIn, totalsRefusal}
+use Rattle.entries.specs.declared.Totals.{Totals}
 use Rattle.entries.specs.Walk.{entriesOf}
 use borrow.Author.Needs.{needs}
 use Rattle.par1.proofs.reading.totals_refusal.Statement.{statement}
 use Rattle.par1.proofs.reading.totals_refusal.Tie as tie
 
--- ---- what each test says, and what it tells where it passed
+-- ---- the file and the totals, where each test has passed
 
-passed-6 : (c : tie.Else1) → eqb (c .before .before .before .before .before .args .totals .entries) (countOf (now (c .before .before .before .before .before .args .file))) ≡ true
+abbrev file-6 : tie.Else1 → List ℕ
+file-6 c = now (c .before .before .before .before .before .args .file)
+
+abbrev totals-6 : tie.Else1 → Totals
+totals-6 c = c .before .before .before .before .before .args .totals
+
+abbrev file-7 : tie.Else2 → List ℕ
+file-7 c = file-6 (c .before .before .before)
+
+abbrev totals-7 : tie.Else2 → Totals
+totals-7 c = totals-6 (c .before .before .before)
+
+abbrev file-8 : tie.Else3 → List ℕ
+file-8 c = file-7 (c .before .before .before)
+
+abbrev totals-8 : tie.Else3 → Totals
+totals-8 c = totals-7 (c .before .before .before)
+
+-- ---- what each test says, and tells where it has passed
+
+passed-6 : (c : tie.Else1) → eqb (totals-6 c .entries) (countOf (file-6 c)) ≡ true
 passed-6 c = eq-eqb _ _ (c .if1 .left ∙ c .before .before .read64 .ensures)
 
 number-test : (c : tie.After-number-allowed)
-    → c .number-allowed .result ≡ numberAllowed (numberOf (now (c .before .before .before .before .before .before .before .args .file))) (c .before .before .before .before .before .before .before .args .totals .saved)
+    → let e = c .before .before in c .number-allowed .result ≡ numberAllowed (numberOf (file-6 e)) (totals-6 e .saved)
 number-test c =
-    c .number-allowed .ensures ∙ ap (λ (n : ℕ). numberAllowed n (c .before .before .before .before .before .before .before .args .totals .saved)) (c .before .read642 .ensures)
+    c .number-allowed .ensures ∙ ap (λ (n : ℕ). numberAllowed n (totals-6 (c .before .before) .saved)) (c .before .read642 .ensures)
 
-passed-7 : (c : tie.Else2) → numberAllowed (numberOf (now (c .before .before .before .before .before .before .before .before .args .file))) (c .before .before .before .before .before .before .before .before .args .totals .saved) ≡ true
+passed-7 : (c : tie.Else2) → numberAllowed (numberOf (file-7 c)) (totals-7 c .saved) ≡ true
 passed-7 c = sym (number-test (c .before)) ∙ not-false (c .before .number-allowed .result) (c .if2 .left)
 
 set-test : (c : tie.After-matches-set)
-    → c .matches-set .result ≡ equal (setHashOf (now (c .before .before .before .before .before .before .before .before .before .before .args .file))) (setHash (entriesIn (now (c .before .before .before .before .before .before .before .before .before .before .args .file))))
+    → let f = file-7 (c .before .before) in c .matches-set .result ≡ equal (setHashOf f) (setHash (entriesIn f))
 set-test c =
+    let e = c .before .before in
     c .matches-set .ensures
-    ∙ ap (λ (l : List ℕ). equal (setHashOf (now (c .before .before .before .before .before .before .before .before .before .before .args .file))) (setHash (entriesOf l .pieces))) (c .before .before .before .before .before .before .before .before .before .before .pre .1)
+    ∙ ap (λ (l : List ℕ). equal (setHashOf (file-7 e)) (setHash (entriesOf l .pieces))) (e .before .before .before .before .before .before .before .before .pre .1)
 
-passed-8 : (c : tie.Else3)
-    → equal (setHashOf (now (c .before .before .before .before .before .before .before .before .before .before .before .args .file))) (setHash (entriesIn (now (c .before .before .before .before .before .before .before .before .before .before .before .args .file)))) ≡ true
+passed-8 : (c : tie.Else3) → equal (setHashOf (file-8 c)) (setHash (entriesIn (file-8 c))) ≡ true
 passed-8 c = sym (set-test (c .before)) ∙ not-false (c .before .matches-set .result) (c .if3 .left)
 
 data-test : (c : tie.After-data-allowed)
-    → c .data-allowed .result ≡ dataAllowed (numberOf (now (c .before .before .before .before .before .before .before .before .before .before .before .before .before .args .file))) (c .before .before .before .before .before .before .before .before .before .before .before .before .before .args .totals .greatest) (dataSizeOf (now (c .before .before .before .before .before .before .before .before .before .before .before .before .before .args .file)))
+    → let e = c .before .before in
+    c .data-allowed .result ≡ dataAllowed (numberOf (file-8 e)) (totals-8 e .greatest) (dataSizeOf (file-8 e))
 data-test c =
+    let e = c .before .before in
     c .data-allowed .ensures
-    ∙ ap₂ (λ (n k : ℕ). dataAllowed n (c .before .before .before .before .before .before .before .before .before .before .before .before .before .args .totals .greatest) k) (c .before .before .before .before .before .before .before .read642 .ensures) (c .before .read643 .ensures)
+    ∙ ap₂ (λ (n k : ℕ). dataAllowed n (totals-8 e .greatest) k) (e .before .before .before .before .before .read642 .ensures) (c .before .read643 .ensures)
 
 read64-requires : tie.Need-read64-requires
 read64-requires c κs = search needs

@@ -1,13 +1,7 @@
--- `par1::rules::data_allowed` meets its contract.
+-- `par1::rules::data_allowed` meets its contract: the index, and the volumes.
 -- Assumes nothing.
-use mathlib.Core.Path.{_≡_, refl, sym, ap, ap₂, _∙_, subst}
-use mathlib.Core.Logic.{⊎-elim}
-use Prim.Native.Nat.{ℕ, _≤_, _<_, _-_, _+_, _*_}
-use native.Mathlib.Omega.{arith}
-use lib.ListN.{length, getD, set, length-set}
-use borrow.Author.Tests.{not-true, not-false, ne-eqb, eq-eqb, lt-leb, le-leb}
+use borrow.Author.Tests.{ne-eqb, eq-eqb}
 use Rattle.par1.specs.Rules.{dataAllowed}
-use borrow.Author.Needs.{needs}
 use Rattle.par1.proofs.rules.data_allowed.Statement.{statement}
 use Rattle.par1.proofs.rules.data_allowed.Tie as tie
 

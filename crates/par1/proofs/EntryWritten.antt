@@ -1,0 +1,143 @@
+-- Condition 2, for entries: a written entry walks back to its fields, and checking accepts the contents that it was written from.
+--
+--   EntryBack e m st name     the entry e is that of a file with the contents m, the status st and the name
+--   entry-written             every written entry is that of its file
+-- Assumes nothing.
+use mathlib.Core.Path.{_≡_, refl, sym, ap, ap₂, _∙_, subst}
+use mathlib.Core.Bool.{true, _&&_}
+use mathlib.Core.List.{List, [], _∷_, _++_, append-nil}
+use Prim.Native.Nat.{ℕ, _+_, _%_, _^_, _<_, _≤_}
+use native.Mathlib.Omega.{arith}
+use lib.Dec.{leb, eqb}
+use lib.ListN.{length, take, drop, length-append}
+use lib.Seq.{take-append-seam, drop-append-seam}
+use borrow.Author.Tests.{leb-true, eqb-true, eq-eqb, le-leb}
+use Rattle.pieces.specs.Pieces.{before}
+use Rattle.little_endian.specs.Bytes.{toLe}
+use Rattle.little_endian.proofs.Numbers.{length-toLe}
+use Rattle.little_endian.proofs.Reading.{leAt-append}
+use Rattle.md5.specs.Digest.{md5}
+use Rattle.entries.specs.Entry.{entrySize, statusOf, sizeOf, md5Of, md5Of16k, nameOf, unitsOf, nameAllowed, fileSizeAllowed, sizeAllowed}
+use Rattle.entries.specs.Walk.{firstOf, entriesOf}
+use Rattle.entries.specs.declared.Item.the-variants.{Entry}
+use Rattle.entries.proofs.EntryLaws.{and-both, first-entry, is-entry}
+use Rattle.entries.proofs.WalkLaws.{entries-more}
+use Rattle.par1.specs.Hashes.{md5First}
+use Rattle.par1.specs.Checking.{itemRefusal, loneRefusal, checkOf}
+use Rattle.par1.specs.EntryWriting.{entryBytes, nameBytesAllowed, entryRefusal, writeEntryOf}
+use Rattle.par1.specs.declared.writing.Writing.the-variants.{Written}
+use Rattle.par1.proofs.CheckingLaws.{check-lone}
+use Rattle.par1.proofs.EntryWritingLaws.{length-entry, entry-passed}
+use Rattle.par1.proofs.EqualLaws.{equal-same}
+use Rattle.par1.proofs.HashLaws.{length-md5}
+use Rattle.par1.proofs.PartLaws.{At, at-part, at-next, at-number, at-last}
+use Rattle.par1.proofs.WritingLaws.{write-tells}
+
+-- whatever follows the entry
+pub record EntryBack (e m : List ℕ) (status : ℕ) (name : List ℕ) : Type 0 where
+  pub first-is : (rest : List ℕ) → firstOf (e ++ rest) ≡ Entry (length e) status (length m)
+  pub entries-are : (rest : List ℕ) → entriesOf (e ++ rest) ≡ before e (entriesOf rest)
+  pub md5-is : md5Of e ≡ md5 m
+  pub md5-first-is : md5Of16k e ≡ md5First m
+  pub name-is : nameOf e ≡ name
+  pub check-is : checkOf e m ≡ 0
+
+-- ---- the fields of the bytes of an entry, and of what follows
+
+record EntryFields (s m : List ℕ) (status : ℕ) (name : List ℕ) : Type 0 where
+  entry-size : entrySize s ≡ 56 + length name
+  status-is : statusOf s ≡ status
+  size-is : sizeOf s ≡ length m
+  md5-is : md5Of s ≡ md5 m
+  md5-first-is : md5Of16k s ≡ md5First m
+  named : drop 56 s ≡ name
+
+entry-fields : (m : List ℕ) (status : ℕ) (name : List ℕ) → status < 2 ^ 64 → length m < 2 ^ 64 → 56 + length name < 2 ^ 64
+    → EntryFields (entryBytes m status name) m status name
+unfolding entryBytes
+entry-fields m status name s n k =
+    let e : List ℕ = entryBytes m status name in
+    let at0 : At e 0 (toLe 8 (56 + length name) ∷ toLe 8 status ∷ toLe 8 (length m) ∷ md5 m ∷ md5First m ∷ name ∷ []) = record { joined = refl } in
+    let at8 = at-next 8 (length-toLe 8 (56 + length name)) at0 in
+    let at16 = at-next 8 (length-toLe 8 status) at8 in
+    let at24 = at-next 8 (length-toLe 8 (length m)) at16 in
+    let at40 = at-next 16 (length-md5 m) at24 in
+    record {
+      entry-size = at-number 8 (56 + length name) (omega arith) at0;
+      status-is = at-number 8 status (omega arith) at8;
+      size-is = at-number 8 (length m) (omega arith) at16;
+      md5-is = at-part 16 (length-md5 m) at24;
+      md5-first-is = at-part 16 (length-md5 (take 16384 m)) at40;
+      named = at-last (at-next 16 (length-md5 (take 16384 m)) at40);
+    }
+
+-- ---- the rules
+
+-- a name that is written has whole units, one or more, each of them allowed
+record Named (name : List ℕ) : Type 0 where
+  some : 2 ≤ length name
+  even : length name % 2 ≡ 0
+  allowed : nameAllowed (unitsOf name) ≡ true
+
+named-right : (name : List ℕ) → nameBytesAllowed name ≡ true → Named name
+unfolding nameBytesAllowed
+named-right name e =
+    let both = and-both (leb 2 (length name) && eqb (length name % 2) 0) (nameAllowed (unitsOf name)) e in
+    let two = and-both (leb 2 (length name)) (eqb (length name % 2) 0) (both .0) in
+    record { some = leb-true _ _ (two .0); even = eqb-true _ _ (two .1); allowed = both .1 }
+
+size-right : (n m : ℕ) → n % 2 ≡ 0 → 58 ≤ n → n ≤ m → sizeAllowed n m ≡ true
+unfolding sizeAllowed
+size-right n m even low high = simp (eq-eqb (n % 2) 0 even, le-leb 58 n low, le-leb n m high)
+
+module _ {e m : List ℕ} {status : ℕ} {name : List ℕ} (size : length e ≡ 56 + length name) (d : EntryFields e m status name)
+    (right : Named name) (short : fileSizeAllowed (length m) ≡ true) where
+  walked-back : (rest : List ℕ) → firstOf (e ++ rest) ≡ Entry (length e) status (length m)
+  walked-back rest =
+      let s : List ℕ = e ++ rest in
+      let total : length s ≡ length e + length rest = length-append e rest in
+      let own : take (length e) s ≡ e = take-append-seam e rest in
+      let told : length e ≡ entrySize s = sym (leAt-append 8 e rest 0 (omega (arith, right .some)) ∙ d .entry-size ∙ sym size) in
+      let allowed = size-right (length e) (length s) (omega (arith, right .even)) (omega (arith, right .some)) (omega arith) in
+      let file-size : fileSizeAllowed (sizeOf (take (length e) s)) ≡ true = ap (λ (l : List ℕ). fileSizeAllowed (sizeOf l)) own ∙ ap fileSizeAllowed (d .size-is) ∙ short in
+      let name-right = ap (λ (l : List ℕ). nameAllowed (unitsOf (nameOf l))) own ∙ ap (λ (l : List ℕ). nameAllowed (unitsOf l)) (d .named) ∙ right .allowed in
+      first-entry s (omega (arith, right .some)) told allowed file-size name-right
+      ∙ ap (λ (l : List ℕ). Entry (length l) (statusOf l) (sizeOf l)) own
+      ∙ ap₂ (λ (x y : ℕ). Entry (length e) x y) (d .status-is) (d .size-is)
+
+  listed-back : (rest : List ℕ) → entriesOf (e ++ rest) ≡ before e (entriesOf rest)
+  listed-back rest =
+      entries-more (is-entry (sym (walked-back rest)))
+      ∙ ap₂ (λ (p q : List ℕ). before p (entriesOf q)) (take-append-seam e rest) (drop-append-seam e rest)
+
+  lone-back : loneRefusal e ≡ 0
+  unfolding loneRefusal
+  lone-back =
+      ap (itemRefusal (length e)) (ap firstOf (sym (append-nil e)) ∙ walked-back []) ∙ simp (eq-eqb (length e) (length e) refl)
+
+  checked-back : checkOf e m ≡ 0
+  checked-back = check-lone e m lone-back ∙ simp (eq-eqb _ _ (d .size-is), equal-same (d .md5-is), equal-same (d .md5-first-is))
+
+  entry-back : EntryBack e m status name
+  entry-back =
+      record {
+        first-is = walked-back;
+        entries-are = listed-back;
+        md5-is = d .md5-is;
+        md5-first-is = d .md5-first-is;
+        name-is = d .named;
+        check-is = checked-back;
+      }
+
+pub entry-written : (m : List ℕ) (status : ℕ) (name out : List ℕ) {n : ℕ} {room : List ℕ} → length out < 2 ^ 64
+    → writeEntryOf m status name out ≡ (Written n, room) → EntryBack (take n room) m status name
+unfolding writeEntryOf
+entry-written m status name out {n} {room} few e =
+    let s : List ℕ = entryBytes m status name in
+    let told = write-tells (entryRefusal (length m) status name (length out)) s out e in
+    let passed = entry-passed (length m) status name (length out) (told .none) in
+    let status-small : status ≤ 3 = leb-true status 3 (passed .status-right) in
+    let short : length m ≤ 16777216 = leb-true (length m) 16777216 (passed .size-right) in
+    let d = entry-fields m status name (omega arith) (omega arith) (omega (arith, passed .fits)) in
+    let back = entry-back (length-entry m status name) d (named-right name (passed .name-right)) (passed .size-right) in
+    subst (λ (l : List ℕ). EntryBack l m status name) (sym (told .written-is)) back

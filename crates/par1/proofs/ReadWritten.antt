@@ -1,0 +1,122 @@
+-- Condition 2, first half: reading what was written returns the parts.
+--
+--   ReadBack f p v list area     the file f is read as volume v of the program p, with this list and this data
+--   ListPassed, list-passed      what the tests of writing, passed, tell
+--   read-written                 every written volume is read back
+-- Assumes nothing.
+use mathlib.Core.Path.{_≡_, refl, sym, ap, ap₂, _∙_, subst}
+use mathlib.Core.List.{List}
+use Prim.Native.Nat.{ℕ, _+_, _^_, _<_}
+use native.Mathlib.Omega.{arith}
+use lib.ListN.{length, take}
+use Rattle.pieces.proofs.CutLaws.{cut-count}
+use Rattle.entries.specs.Entry.{lengthOf}
+use Rattle.entries.specs.Numbering.{savedOf}
+use Rattle.entries.specs.Walk.{entriesOf, walkOf}
+use Rattle.entries.specs.declared.Totals.{Totals}
+use Rattle.entries.specs.declared.Walked.{Walked}
+use Rattle.entries.specs.declared.Walked.the-variants as walked
+use Rattle.entries.proofs.WalkLaws.{walk-count}
+use Rattle.md5.specs.Digest.{md5}
+use Rattle.par1.specs.Layout.{listOf, dataOf}
+use Rattle.par1.specs.Hashes.{setHash}
+use Rattle.par1.specs.Rules.{numberAllowed, dataAllowed}
+use Rattle.par1.specs.Reading.{partsOf, readOf}
+use Rattle.par1.specs.VolumeWriting.{volumeBytes, walkRefusal, writeVolumeOf}
+use Rattle.par1.specs.declared.reading.Parts.{Parts}
+use Rattle.par1.specs.declared.reading.Reading.the-variants.{Accepted}
+use Rattle.par1.specs.declared.writing.Writing.the-variants.{Written}
+use Rattle.par1.proofs.ReadingLaws.{HeaderPassed, TotalsPassed, Passed, passed-none, read-accepted}
+use Rattle.par1.proofs.RuleLaws.{Between, fault-some}
+use Rattle.par1.proofs.VolumeFields.{Fields, volume-fields}
+use Rattle.par1.proofs.VolumeWritingLaws.{VolumePassed, volume-passed, length-volume}
+use Rattle.par1.proofs.WritingLaws.{write-tells}
+
+abbrev pub partsFor : ℕ → ℕ → List ℕ → List ℕ → Parts
+partsFor program number list area =
+    let es : List (List ℕ) = entriesOf list .pieces in
+    record {
+      program = program;
+      number = number;
+      entries = length es;
+      saved = length (savedOf es);
+      «list_size» = length list;
+      «data_start» = 96 + length list;
+      «data_size» = length area;
+    }
+
+pub record ReadBack (f : List ℕ) (program number : ℕ) (list area : List ℕ) : Type 0 where
+  pub read-is : readOf f ≡ Accepted (partsFor program number list area)
+  pub list-is : listOf f ≡ list
+  pub data-is : dataOf f ≡ area
+
+-- the list of a written volume was walked to its end
+pub record ListPassed (number : ℕ) (list : List ℕ) (area room : ℕ) : Type 0 where
+  pub totals-of : Totals
+  pub walk-is : walkOf list ≡ walked.Entries totals-of
+  pub tests : VolumePassed number totals-of (length list) area room
+
+pub list-passed : (number : ℕ) (list : List ℕ) (area room : ℕ) → walkRefusal number (walkOf list) (length list) area room ≡ 0
+    → ListPassed number list area room
+list-passed number list area room e = by (walkOf list) refl e
+  where
+    by : (w : Walked) → w ≡ walkOf list → walkRefusal number w (length list) area room ≡ 0 → ListPassed number list area room
+    by (walked.Entries t) w e = record { totals-of = t; walk-is = sym w; tests = volume-passed number t (length list) area room e }
+    by (walked.Fault k) w e = absurd (omega (arith, fault-some k))
+
+-- a file with the fields of a written volume passes the tests of reading
+module _ {number : ℕ} {list : List ℕ} (area : List ℕ) {room : ℕ} (accepted : ListPassed number list (length area) room)
+    (f : List ℕ) (program : ℕ) {body : List ℕ} (d : Fields f program body (length (entriesOf list .pieces)) number list area)
+    (size : length f ≡ 96 + length list + length area) where
+  written-header : HeaderPassed f
+  written-header =
+      record {
+        size = subst Between (sym size) (accepted .tests .size);
+        begins = d .begins;
+        version-is = d .version-is;
+        layout = record {
+          list-start = d .list-start;
+          data-start = omega (arith, d .data-start, d .list-size);
+          data-end = omega (arith, d .data-start, d .data-size, size);
+        };
+        control-is = d .control-is ∙ ap md5 (sym (d .hashed-is));
+      }
+
+  written-totals : TotalsPassed f (accepted .totals-of)
+  written-totals =
+      let t : Totals = accepted .totals-of in
+      record {
+        count-is = walk-count list (accepted .walk-is) ∙ sym (d .count-is);
+        number-right = ap (λ (v : ℕ). numberAllowed v (t .saved)) (d .number-is) ∙ accepted .tests .number-right;
+        set-is = d .set-is ∙ ap (λ (l : List ℕ). setHash (entriesOf l .pieces)) (sym (d .list-is));
+        data-right = ap₂ (λ (v k : ℕ). dataAllowed v (t .greatest) k) (d .number-is) (d .data-size) ∙ accepted .tests .data-right;
+      }
+
+  written-passed : Passed f
+  written-passed =
+      record {
+        header = written-header;
+        totals-of = accepted .totals-of;
+        walk-is = ap walkOf (d .list-is) ∙ accepted .walk-is;
+        totals = written-totals;
+      }
+
+  written-parts : partsOf f ≡ partsFor program number list area
+  written-parts = cc
+
+pub read-written : {program number : ℕ} (list area out : List ℕ) {n : ℕ} {room : List ℕ} → program < 2 ^ 32 → number < 2 ^ 64
+    → writeVolumeOf program number list area out ≡ (Written n, room) → ReadBack (take n room) program number list area
+unfolding writeVolumeOf volumeBytes
+read-written {program} {number} list area out {n} {room} p v e =
+    let told = write-tells (walkRefusal number (walkOf list) (length list) (length area) (length out)) (volumeBytes program number list area) out e in
+    let accepted = list-passed number list (length area) (length out) (told .none) in
+    let f : List ℕ = take n room in
+    let size : length f ≡ 96 + length list + length area = ap length (told .written-is) ∙ length-volume program number list area in
+    let few : length (entriesOf list .pieces) < 2 ^ 64 = omega (arith, cut-count lengthOf list, accepted .tests .size .high) in
+    let d = volume-fields f program (length (entriesOf list .pieces)) number list area (told .written-is) p v few (omega (arith, accepted .tests .size .high)) in
+    let read = read-accepted f (passed-none f (written-passed area accepted f program d size)) in
+    record {
+      read-is = read ∙ ap Accepted (written-parts area accepted f program d size);
+      list-is = d .list-is;
+      data-is = d .data-is;
+    }

@@ -1,0 +1,110 @@
+-- Condition 2, second half: an accepted file written again from its parts has the same bytes.
+--
+--   volume-again     the bytes of the volume that is made of the parts of an accepted file
+--   written-read     writing it
+-- Assumes nothing.
+use mathlib.Core.Path.{_≡_, sym, ap, _∙_, subst}
+use mathlib.Core.List.{List, [], _∷_, _++_, append-assoc, append-nil, flatten}
+use Prim.Native.Nat.{ℕ, _+_, _≤_}
+use native.Mathlib.Omega.{arith}
+use lib.ListN.{length, take, drop, length-drop}
+use lib.Seq.{length-take-le, take-all}
+use Rattle.little_endian.specs.Bytes.{Bytes, toLe}
+use Rattle.entries.specs.declared.Totals.{Totals}
+use Rattle.entries.specs.declared.Walked.{Walked}
+use Rattle.entries.proofs.WalkLaws.{walk-count}
+use Rattle.md5.specs.Digest.{md5}
+use Rattle.par1.specs.Layout.{signature, version, programOf, hashedOf, numberOf, countOf, listSizeOf, dataStartOf, dataSizeOf, listOf, dataOf}
+use Rattle.par1.specs.Hashes.{setHash}
+use Rattle.par1.specs.Rules.{dataAllowed}
+use Rattle.par1.specs.Reading.{entriesIn, readOf}
+use Rattle.par1.specs.VolumeWriting.{numberBytes, bodyBytes, headBytes, volumeBytes, walkRefusal, writeVolumeOf}
+use Rattle.par1.specs.declared.reading.Parts.{Parts}
+use Rattle.par1.specs.declared.reading.Reading.the-variants.{Accepted}
+use Rattle.par1.specs.declared.writing.Writing.the-variants.{Written}
+use Rattle.par1.proofs.PartLaws.{split, split-number}
+use Rattle.par1.proofs.ReadingLaws.{Passed, read-tells}
+use Rattle.par1.proofs.RuleLaws.{Between}
+use Rattle.par1.proofs.VolumeWritingLaws.{volume-none}
+use Rattle.par1.proofs.WritingLaws.{outcome-written}
+
+nested-head : (a b c d e : List ℕ) → flatten (a ∷ b ∷ c ∷ d ∷ []) ++ e ≡ a ++ (b ++ (c ++ (d ++ e)))
+unfolding flatten
+nested-head a b c d e = simp (append-assoc, append-nil)
+
+nested-body : (s a b c d e f l t : List ℕ)
+    → flatten (s ∷ flatten (a ∷ b ∷ c ∷ d ∷ e ∷ f ∷ []) ∷ l ∷ t ∷ [])
+    ≡ s ++ (a ++ (b ++ (c ++ (d ++ (e ++ (f ++ (l ++ t)))))))
+unfolding flatten
+nested-body s a b c d e f l t = simp (append-assoc, append-nil)
+
+module _ (f : List ℕ) (bytes : Bytes f) (tests : Passed f) where
+  list-fits : 96 + listSizeOf f ≤ length f
+  list-fits = omega (arith, tests .header .layout .data-start, tests .header .layout .data-end)
+
+  list-length : length (listOf f) ≡ listSizeOf f
+  list-length = length-take-le (listSizeOf f) (drop 96 f) (omega (arith, length-drop 96 f, list-fits))
+
+  data-length : length (dataOf f) ≡ dataSizeOf f
+  data-length =
+      omega (arith, length-drop (96 + listSizeOf f) f, tests .header .layout .data-start, tests .header .layout .data-end)
+
+  count : length (entriesIn f) ≡ countOf f
+  count = sym (walk-count (listOf f) (tests .walk-is)) ∙ tests .totals .count-is
+
+  body-again : bodyBytes (length (entriesIn f)) (numberOf f) (listOf f) (dataOf f) ≡ hashedOf f
+  unfolding bodyBytes numberBytes
+  body-again =
+      let l : List ℕ = listOf f in
+      let area : List ℕ = dataOf f in
+      let low : 96 ≤ length f = tests .header .size .low in
+      let starts : 96 + length l ≡ dataStartOf f = omega (arith, list-length, tests .header .layout .data-start) in
+      nested-body (setHash (entriesIn f)) (toLe 8 (numberOf f)) (toLe 8 (length (entriesIn f))) (toLe 8 96) (toLe 8 (length l)) (toLe 8 (96 + length l))
+      (toLe 8 (length area)) l area
+      ∙ cc
+      (tests .totals .set-is, count, list-length, data-length, starts, tests .header .layout .list-start, split (listSizeOf f) 96 f, split-number 8 88 f bytes (omega arith), split-number 8 80 f bytes (omega arith), split-number 8 72 f bytes (omega arith), split-number 8 64 f bytes (omega arith), split-number 8 56 f bytes (omega arith), split-number 8 48 f bytes (omega arith), split 16 32 f)
+
+  pub volume-again : volumeBytes (programOf f) (numberOf f) (listOf f) (dataOf f) ≡ f
+  unfolding volumeBytes headBytes
+  volume-again =
+      let body : List ℕ = bodyBytes (length (entriesIn f)) (numberOf f) (listOf f) (dataOf f) in
+      let low : 96 ≤ length f = tests .header .size .low in
+      nested-head (toLe 8 signature) (toLe 4 version) (toLe 4 (programOf f)) (md5 body) body
+      ∙ cc
+      (body-again, tests .header .begins, tests .header .version-is, tests .header .control-is, split 16 16 f, split-number 4 12 f bytes (omega arith), split-number 4 8 f bytes (omega arith), split-number 8 0 f bytes (omega arith))
+
+  -- the parts that reading gives are the areas of the file
+  data-again : take (dataSizeOf f) (drop (dataStartOf f) f) ≡ dataOf f
+  data-again =
+      ap (λ (n : ℕ). take (dataSizeOf f) (drop n f)) (tests .header .layout .data-start)
+      ∙ take-all (dataSizeOf f) (dataOf f) (omega (arith, data-length))
+
+  write-again : (out : List ℕ) → length f ≤ length out
+      → writeVolumeOf (programOf f) (numberOf f) (listOf f) (dataOf f) out ≡ (Written (length f), f ++ drop (length f) out)
+  unfolding writeVolumeOf
+  write-again out room =
+      let t : Totals = tests .totals-of in
+      let l : ℕ = length (listOf f) in
+      let d : ℕ = length (dataOf f) in
+      let s : List ℕ = volumeBytes (programOf f) (numberOf f) (listOf f) (dataOf f) in
+      let size : 96 + l + d ≡ length f = omega (arith, list-length, data-length, tests .header .layout .data-start, tests .header .layout .data-end) in
+      let right =
+      volume-none (numberOf f) t l d (length out)
+      (record {
+        number-right = tests .totals .number-right;
+        data-right = ap (dataAllowed (numberOf f) (t .greatest)) data-length ∙ tests .totals .data-right;
+        size = subst Between (sym size) (tests .header .size);
+        fits = omega arith;
+      }) in
+      let none = ap (λ (w : Walked). walkRefusal (numberOf f) w l d (length out)) (tests .walk-is) ∙ right in
+      sym (outcome-written s out none (ap length (sym volume-again)) (ap (λ (u : List ℕ). u ++ drop (length u) out) (sym volume-again)))
+
+-- an accepted file, written from what reading gave, into room that holds it
+pub written-read : (f : List ℕ) (p : Parts) (out : List ℕ) → Bytes f → readOf f ≡ Accepted p → length f ≤ length out
+    → writeVolumeOf (p .program) (p .number) (take (p .«list_size») (drop 96 f)) (take (p .«data_size») (drop (p .«data_start») f)) out
+    ≡ (Written (length f), f ++ drop (length f) out)
+written-read f p out bytes e room =
+    let told = read-tells f p e in
+    ap (λ (q : Parts). writeVolumeOf (q .program) (q .number) (take (q .«list_size») (drop 96 f)) (take (q .«data_size») (drop (q .«data_start») f)) out) (told .parts-are)
+    ∙ ap (λ (d : List ℕ). writeVolumeOf (programOf f) (numberOf f) (listOf f) d out) (data-again f bytes (told .tests))
+    ∙ write-again f bytes (told .tests) out room

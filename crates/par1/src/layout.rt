@@ -1,0 +1,31 @@
+// Where the fields of a Par 1.0 header lie (document 01, "Byte layout").
+
+// "PAR" and five zero bytes, as a number at 0.
+pub const SIGNATURE: u64 = 0x524150;
+
+pub const VERSION: u32 = 65536;
+
+pub const VERSION_AT: usize = 8;
+
+pub const PROGRAM_AT: usize = 12;
+
+pub const CONTROL_HASH_AT: usize = 16;
+
+pub const SET_HASH_AT: usize = 32;
+
+pub const NUMBER_AT: usize = 48;
+
+pub const COUNT_AT: usize = 56;
+
+pub const LIST_START_AT: usize = 64;
+
+pub const LIST_SIZE_AT: usize = 72;
+
+pub const DATA_START_AT: usize = 80;
+
+pub const DATA_SIZE_AT: usize = 88;
+
+// The list starts after the header.
+pub const HEADER_LENGTH: usize = 96;
+
+pub const LIST_START: u64 = 96;
