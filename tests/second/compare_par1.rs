@@ -105,6 +105,22 @@ fn many_files(counts: &mut Counts, random: &mut Random) {
     }
 }
 
+/// Entry sizes round the least one, each in a list that it fills; and a volume of empty files.
+fn small_entries(counts: &mut Counts) {
+    let entry = par1::write_entry(b"", 1, b"A\0B\0").unwrap();
+    let whole = par1::write_volume(0, 0, &entry, &[]).unwrap();
+    for size in 54..=61 {
+        let mut one = whole[..96 + size.min(60)].to_vec();
+        one.resize(96 + size, 65);
+        one[96..104].copy_from_slice(&(size as u64).to_le_bytes());
+        one[72..80].copy_from_slice(&(size as u64).to_le_bytes());
+        one[80..88].copy_from_slice(&(96 + size as u64).to_le_bytes());
+        read(counts, &format!("an entry of {size} bytes"), &rehashed(one), 60);
+    }
+    let empty = par1::write_volume(0, 1, &entry.repeat(3), &[]).unwrap();
+    read(counts, "a volume of empty files", &empty, 56);
+}
+
 fn other_client(counts: &mut Counts) {
     for name in ["trip.par", "trip.p01", "trip.p02", "trip.p03"] {
         let file = std::fs::read(format!("tests/data/trip/{name}")).expect("test data");
@@ -192,6 +208,7 @@ fn check(counts: &mut Counts, random: &mut Random) {
 pub fn run(counts: &mut Counts, random: &mut Random) {
     damaged(counts, random);
     many_files(counts, random);
+    small_entries(counts);
     other_client(counts);
     check(counts, random);
     write(counts, random);
