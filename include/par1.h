@@ -47,6 +47,30 @@ uint32_t par1_write_volume(uint32_t program, uint64_t number, const uint8_t *lis
  * bytes, then with 15 where length, MD5 or 16k MD5 differ. */
 uint32_t par1_check(const uint8_t *entry, size_t entry_len, const uint8_t *contents, size_t contents_len);
 
+/* An inventory says what of a set of n files and their volumes is present. It is 104 bytes: 13 numbers of 64 bits, lowest byte first: n;
+ * the files present, the volumes present, the files of size 1 or more, four words each, number k being bit k mod 64 of word k div 64.
+ * Every call on one refuses with 10, first of all, bytes of another length or that no calls give. */
+
+/* Opens an inventory of n files, whose sizes are n numbers of 64 bits, nothing present, into the first 104 bytes of `out`. Refuses with 10
+ * where n is not 1 to 254 or the sizes are not n numbers, with 1 where a size is above 16,777,216, then with 14. */
+uint32_t par1_open(uint64_t n, const uint8_t *sizes, size_t sizes_len, uint8_t *out, size_t out_len);
+
+/* Adds a file or a volume to what is present, or removes it. Refuses with 10 where the number is out of range (files 1 to n, volumes 1 to
+ * 255 - n), then with 11 where it is present already, or is not. */
+uint32_t par1_add_file(uint8_t *inventory, size_t inventory_len, uint64_t file);
+uint32_t par1_remove_file(uint8_t *inventory, size_t inventory_len, uint64_t file);
+uint32_t par1_add_volume(uint8_t *inventory, size_t inventory_len, uint64_t volume);
+uint32_t par1_remove_volume(uint8_t *inventory, size_t inventory_len, uint64_t volume);
+
+/* How many files and how many volumes are present: two numbers of 64 bits, into the first 16 bytes of `out`. Refuses with 14. */
+uint32_t par1_count(const uint8_t *inventory, size_t inventory_len, uint8_t *out, size_t out_len);
+
+/* Whether a file comes back from what is present. 0: it does, and its 255 weights are the first 255 bytes of `out`, file f's at f - 1,
+ * volume v's at n + v - 1: par1_mul_add of each fragment present with its weight, in any order, into zeros of the file's size gives the
+ * file. 13: it is present. 12: it is undetermined, nothing that is present tells it. Refuses with 10 where the file is not 1 to n, and with
+ * 14, after 13 and 12, where `out` is shorter. Takes some 70 KiB of stack. */
+uint32_t par1_query(const uint8_t *inventory, size_t inventory_len, uint64_t file, uint8_t *out, size_t out_len);
+
 #ifdef __cplusplus
 }
 #endif

@@ -8,6 +8,13 @@ extern "C" {
     fn par1_write_entry(contents: *const u8, contents_len: usize, status: u64, name: *const u8, name_len: usize, out: *mut u8, out_len: usize) -> u32;
     fn par1_write_volume(program: u32, number: u64, list: *const u8, list_len: usize, data: *const u8, data_len: usize, out: *mut u8, out_len: usize) -> u32;
     fn par1_check(entry: *const u8, entry_len: usize, contents: *const u8, contents_len: usize) -> u32;
+    fn par1_open(n: u64, sizes: *const u8, sizes_len: usize, out: *mut u8, out_len: usize) -> u32;
+    fn par1_add_file(inventory: *mut u8, len: usize, file: u64) -> u32;
+    fn par1_remove_file(inventory: *mut u8, len: usize, file: u64) -> u32;
+    fn par1_add_volume(inventory: *mut u8, len: usize, volume: u64) -> u32;
+    fn par1_remove_volume(inventory: *mut u8, len: usize, volume: u64) -> u32;
+    fn par1_count(inventory: *const u8, len: usize, out: *mut u8, out_len: usize) -> u32;
+    fn par1_query(inventory: *const u8, len: usize, file: u64, out: *mut u8, out_len: usize) -> u32;
     fn par1_mul_add(weight: u8, fragment: *const u8, fragment_len: usize, buffer: *mut u8, buffer_len: usize);
 }
 
@@ -57,4 +64,27 @@ pub fn write_entry(contents: &[u8], status: u64, name: &[u8], room: &[u8]) -> (u
 pub fn write_volume(program: u32, number: u64, list: &[u8], data: &[u8], room: &[u8]) -> (u32, Vec<u8>) {
     let (l, d) = (list, data);
     lent(room, |out, len| unsafe { par1_write_volume(program, number, l.as_ptr(), l.len(), d.as_ptr(), d.len(), out, len) })
+}
+
+pub fn open(n: u64, sizes: &[u8], room: &[u8]) -> (u32, Vec<u8>) {
+    lent(room, |out, len| unsafe { par1_open(n, sizes.as_ptr(), sizes.len(), out, len) })
+}
+
+/// Adding or removing a file or a volume: the number, and the inventory after it.
+pub fn change(inventory: &[u8], volume: bool, add: bool, number: u64) -> (u32, Vec<u8>) {
+    let call = match (volume, add) {
+        (false, true) => par1_add_file,
+        (false, false) => par1_remove_file,
+        (true, true) => par1_add_volume,
+        (true, false) => par1_remove_volume,
+    };
+    lent(inventory, |bytes, len| unsafe { call(bytes, len, number) })
+}
+
+pub fn count(inventory: &[u8], room: &[u8]) -> (u32, Vec<u8>) {
+    lent(room, |out, len| unsafe { par1_count(inventory.as_ptr(), inventory.len(), out, len) })
+}
+
+pub fn query(inventory: &[u8], file: u64, room: &[u8]) -> (u32, Vec<u8>) {
+    lent(room, |out, len| unsafe { par1_query(inventory.as_ptr(), inventory.len(), file, out, len) })
 }

@@ -1,5 +1,6 @@
 //! What document 01 says of each call: its number, and the room after it.
 
+use crate::inventory::Inventory;
 use crate::{field, md5, par1};
 
 /// A refusal changes nothing; 14 where the room is shorter than what is to be written; else 0, and the room's first bytes.
@@ -34,4 +35,26 @@ pub fn write_entry(contents: &[u8], status: u64, name: &[u8], room: &[u8]) -> (u
 
 pub fn write_volume(program: u32, number: u64, list: &[u8], data: &[u8], room: &[u8]) -> (u32, Vec<u8>) {
     written(par1::write_volume(program, number, list, data), room)
+}
+
+/// The sizes are numbers of 64 bits; bytes left over make their number another one than n.
+pub fn open(n: u64, sizes: &[u8], room: &[u8]) -> (u32, Vec<u8>) {
+    let numbers: Vec<u64> = sizes.chunks_exact(8).map(|b| u64::from_le_bytes(b.try_into().unwrap())).collect();
+    let opened = if sizes.len() % 8 == 0 { Inventory::open(n, &numbers) } else { Err(10) };
+    written(opened.map(|i| i.bytes()), room)
+}
+
+pub fn change(inventory: &[u8], volume: bool, add: bool, number: u64) -> (u32, Vec<u8>) {
+    let Some(mut next) = Inventory::parse(inventory) else { return (10, inventory.to_vec()) };
+    let refusal = next.change(volume, add, number);
+    (refusal, if refusal == 0 { next.bytes() } else { inventory.to_vec() })
+}
+
+pub fn count(inventory: &[u8], room: &[u8]) -> (u32, Vec<u8>) {
+    let counts = Inventory::parse(inventory).map(|i| i.count()).ok_or(10);
+    written(counts.map(|(files, volumes)| [files.to_le_bytes(), volumes.to_le_bytes()].concat()), room)
+}
+
+pub fn query(inventory: &[u8], file: u64, room: &[u8]) -> (u32, Vec<u8>) {
+    written(Inventory::parse(inventory).ok_or(10).and_then(|i| i.query(file)), room)
 }

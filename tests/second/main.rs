@@ -1,15 +1,17 @@
 //! A second program, written from the documents alone: it compares its own answers with those of the C library's calls.
 //!
-//! `md5`, `field`, `par1` work the answers out; `expected` gives each call's number and lent bytes from them; `calls` makes the
+//! `md5`, `field`, `par1`, `inventory` work the answers out; `expected` gives each call's number and lent bytes from them; `calls` makes the
 //! library's calls, on lent bytes with guards on both sides; `compare_*` are the comparisons.
 
 mod calls;
 mod compare_field;
+mod compare_inventory;
 mod compare_md5;
 mod compare_par1;
 mod compare_parity;
 mod expected;
 mod field;
+mod inventory;
 mod md5;
 mod par1;
 
@@ -49,11 +51,12 @@ impl Random {
 fn main() {
     let mut counts = Counts { passed: 0, failed: 0 };
     let mut random = Random(2026);
-    let parts: [(&str, fn(&mut Counts, &mut Random)); 4] = [
+    let parts: [(&str, fn(&mut Counts, &mut Random)); 5] = [
         ("md5", compare_md5::run),
         ("field", compare_field::run),
         ("parity", compare_parity::run),
         ("par1", compare_par1::run),
+        ("inventory", compare_inventory::run),
     ];
     for (name, run) in parts {
         let before = counts.passed + counts.failed;

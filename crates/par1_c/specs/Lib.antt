@@ -1,4 +1,5 @@
 pub mod Byte
 pub mod Numbers
 pub mod Parts
+pub mod Inventories
 pub mod Writings

@@ -13,6 +13,9 @@ ghost use Rattle.par1_c.specs.Byte.{byteInto};
 ghost use Rattle.par1_c.specs.Parts.{partsBytes, readInto};
 ghost use Rattle.par1_c.specs.Writings.{writingNumber, numbered};
 ghost use lib.Seq.{sets};
+
+mod inventories;
+
 use gf256::Answer;
 use par1::Parts;
 use par1::Reading;

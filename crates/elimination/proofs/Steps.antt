@@ -1,0 +1,172 @@
+-- The loops of this crate, one step at a time: `-none` before the first, `-more` one further.
+--
+--   part-at                            what stands in a part of a list that was put back
+--   diagonal-more                      the diagonal
+--   product-none, product-more         a row times the matrix
+--   pivot-none, pivot-more             the search for a pivot
+--   swept-none, swept-more             the sweep
+--   weight-none, weight-more           the weights
+-- Assumes nothing.
+use mathlib.Core.Path.{_≡_, refl, sym, ap, ap₂, _∙_, subst}
+use mathlib.Core.Bool.{Bool, cond}
+use mathlib.Core.List.{List, _++_}
+use Prim.Native.Nat.{ℕ, _<_, _≤_, _+_, _*_, _-_}
+use native.Mathlib.Numerals.{add-one}
+use native.Mathlib.Omega.{arith}
+use native.Mathlib.Decide.{ℕ-discrete}
+use lib.Bits.{bitXor, xor-zero-r}
+use lib.Dec.{eqb}
+use lib.ListN.{length, getD, set, take, drop, length-drop, List·getD-append}
+use lib.Seq.{getD-set-same, getD-set-other, getD-take, getD-drop, getD-append-add, length-take-le}
+use borrow.Author.Tests.{eq-eqb, ne-eqb}
+use borrow.Rule.Slice.PartMut.{putMid, same-len-mid, take-put, drop-put}
+use Rattle.gf256.specs.Polynomial.{sumBelow}
+use Rattle.gf256.specs.Field.{product}
+use Rattle.parity.specs.MulAdd.{mulAdd}
+use Rattle.parity.proofs.MulAdds.{length-mulAdd, mulAdd-at}
+use Rattle.elimination.specs.Reduction.{entry, withDiagonal, sweptEntry, Swept, IsPivot, IsSolvable, solvable, unsolvable}
+
+-- byte j of a row that is lent
+row-at : (m : List ℕ) (i j : ℕ) → j < 256 → getD (take 256 (drop (i * 256) m)) j 0 ≡ entry m i j
+row-at m i j l = getD-take 256 (drop (i * 256) m) j 0 l ∙ getD-drop (i * 256) m j 0
+
+-- ---- the diagonal
+
+pub diagonal-more : (i : ℕ) (m m′ : List ℕ) → m′ ≡ withDiagonal i m → set m′ (i * 256 + i) 1 ≡ withDiagonal (i + 1) m
+unfolding withDiagonal
+diagonal-more i m m′ e =
+    ap (λ (l : List ℕ). set l (i * 256 + i) 1) e ∙ ap (λ (n : ℕ). withDiagonal n m) (sym (add-one i))
+
+-- ---- a row times the matrix
+
+pub product-more : (u m sum : List ℕ) (i : ℕ) → length sum ≡ 256
+    → ((j : ℕ) → j < 256 → getD sum j 0 ≡ sumBelow i (λ i. product (getD u i 0) (entry m i j)))
+    → (j : ℕ) → j < 256 → getD (mulAdd (getD u i 0) (take 256 (drop (i * 256) m)) sum) j 0
+    ≡ sumBelow (i + 1) (λ i. product (getD u i 0) (entry m i j))
+unfolding sumBelow
+product-more u m sum i e h j l =
+    mulAdd-at (getD u i 0) (take 256 (drop (i * 256) m)) sum j (omega arith)
+    ∙ ap₂ bitXor (h j l) (ap (product (getD u i 0)) (row-at m i j l))
+    ∙ ap (λ (n : ℕ). sumBelow n (λ i. product (getD u i 0) (entry m i j))) (sym (add-one i))
+
+-- ---- the search for a pivot
+
+pub pivot-more : (y : ℕ → ℕ) (owners : List ℕ) (k : ℕ) → ((j : ℕ) → j < k → getD owners j 0 ≡ 0 → y j ≡ 0)
+    → (getD owners k 0 ≡ 0 → y k ≡ 0) → (j : ℕ) → j < k + 1 → getD owners j 0 ≡ 0 → y j ≡ 0
+pivot-more y owners k h e j l o =
+    elim (ℕ-discrete j k) [
+      | yes p ↦ ap y p ∙ e (ap (λ (i : ℕ). getD owners i 0) (sym p) ∙ o)
+      | no q ↦ h j (omega arith) o
+    ]
+
+-- ---- the sweep
+
+-- a list with ys in the place of its elements from a to b
+module _ (a b : ℕ) (xs ys : List ℕ) (ha : a ≤ b) (hb : b ≤ length xs) (hy : length ys ≡ b - a) where
+  put-before : (p : ℕ) → p < a → getD (putMid a (b - a) xs ys) p 0 ≡ getD xs p 0
+  put-before p l =
+      sym (getD-take a (putMid a (b - a) xs ys) p 0 l)
+      ∙ ap (λ (zs : List ℕ). getD zs p 0) (take-put a (b - a) xs ys (omega arith)) ∙ getD-take a xs p 0 l
+
+  put-after : (p : ℕ) → b ≤ p → getD (putMid a (b - a) xs ys) p 0 ≡ getD xs p 0
+  put-after p l =
+      let e : p ≡ b + (p - b) = omega arith in
+      ap (λ (i : ℕ). getD (putMid a (b - a) xs ys) i 0) e ∙ sym (getD-drop b (putMid a (b - a) xs ys) (p - b) 0)
+      ∙ ap (λ (zs : List ℕ). getD zs (p - b) 0) (drop-put a b xs ys ha hb hy)
+      ∙ getD-drop b xs (p - b) 0 ∙ ap (λ (i : ℕ). getD xs i 0) (sym e)
+
+  put-inside : (j : ℕ) → j < length ys → getD (putMid a (b - a) xs ys) (a + j) 0 ≡ getD ys j 0
+  put-inside j l =
+      ap (λ (i : ℕ). getD (putMid a (b - a) xs ys) (i + j) 0) (sym (length-take-le a xs (omega arith)))
+      ∙ getD-append-add (take a xs) (ys ++ drop (b - a) (drop a xs)) j 0 ∙ List·getD-append ys (drop (b - a) (drop a xs)) 0 j l
+
+pub swept-none : (y : List ℕ) (k scale : ℕ) (m : List ℕ) → Swept 0 y k scale m m
+swept-none y k scale m = record { same-length = refl; rows = λ i j l. absurd (no i l); rest = λ p l. refl }
+  where
+    no : (i : ℕ) → i < 0 → ⊥
+    no i l = omega arith
+
+-- row r with the multiple w of y added to it, put back
+module _ (r : ℕ) (y : List ℕ) (k scale : ℕ) (m m′ : List ℕ) (hr : r < 256) (hk : k < 256) (hm : length m ≡ 65536)
+    (S : Swept r y k scale m m′) (w : ℕ) (hw : w ≡ product scale (entry m′ r k)) (ys : List ℕ)
+    (e : ys ≡ mulAdd w y (take (r * 256 + 256 - r * 256) (drop (r * 256) m′))) where
+  abbrev from : ℕ
+  from = r * 256
+
+  abbrev to : ℕ
+  to = r * 256 + 256
+
+  abbrev width : ℕ
+  width = r * 256 + 256 - r * 256
+
+  abbrev old : List ℕ
+  old = take width (drop from m′)
+
+  abbrev new : List ℕ
+  new = putMid from width m′ ys
+
+  abbrev swept-at : ℕ → ℕ → ℕ
+  swept-at i j = sweptEntry (λ j. getD y j 0) k scale m i j
+
+  pub swept-more : Swept (r + 1) y k scale m (putMid (r * 256) (r * 256 + 256 - r * 256) m′ ys)
+  unfolding sweptEntry
+  swept-more = record {
+    same-length = same-len-mid from width m′ ys (ap length e ∙ length-mulAdd w y old) ∙ S .same-length;
+    rows = λ i j li lj. elim (ℕ-discrete i r) [
+      | yes p ↦ ap (λ (i : ℕ). entry new i j) p ∙ here j lj ∙ ap (λ (i : ℕ). swept-at i j) (sym p)
+      | no q ↦
+          put-before from to m′ ys (omega arith) (omega arith) long (i * 256 + j) (omega arith) ∙ S .rows i j (omega arith) lj
+    ];
+    rest = λ p l. put-after from to m′ ys (omega arith) (omega arith) long p (omega arith) ∙ S .rest p (omega arith);
+  }
+    where
+      old-long : length old ≡ width
+      old-long = length-take-le width (drop from m′) (simp length-drop (omega arith))
+
+      long : length ys ≡ width
+      long = ap length e ∙ length-mulAdd w y old ∙ old-long
+
+      here : (j : ℕ) → j < 256 → entry new r j ≡ swept-at r j
+      here j l =
+          put-inside from to m′ ys (omega arith) (omega arith) long j (omega (arith, long))
+          ∙ ap (λ (zs : List ℕ). getD zs j 0) e ∙ mulAdd-at w y old j (omega (arith, old-long))
+          ∙ ap₂ (λ (x v : ℕ). bitXor x (product v (getD y j 0)))
+          (getD-take width (drop from m′) j 0 (omega arith) ∙ getD-drop from m′ j 0 ∙ S .rest (from + j) (omega arith))
+          (hw ∙ ap (product scale) (S .rest (from + k) (omega arith)))
+
+-- ---- the answer
+
+pub solvable-by : (m owners : List ℕ) (f k : ℕ) → IsPivot (entry m f) owners k → IsSolvable m owners f (eqb k 256)
+solvable-by m owners f k P =
+    elim (ℕ-discrete k 256) [
+      | yes e ↦
+          subst (IsSolvable m owners f) (sym (eq-eqb k 256 e)) (solvable (subst (IsPivot (entry m f) owners) e P))
+      | no q ↦
+          let b = P .within in
+          subst (IsSolvable m owners f) (sym (ne-eqb k 256 q)) (unsolvable k (omega arith) P)
+    ]
+
+-- ---- the weights
+
+pub weight-more : (m owners weights : List ℕ) (f k : ℕ) → length weights ≡ 256
+    → ((v : ℕ) → v < 256 → getD weights v 0 ≡ sumBelow k (λ k. cond (eqb (getD owners k 0) v) (entry m f k) 0))
+    → (o : ℕ) → o ≡ getD owners k 0
+    → (v : ℕ) → v < 256 → getD (set weights o (bitXor (getD weights o 0) (entry m f k))) v 0
+    ≡ sumBelow (k + 1) (λ k. cond (eqb (getD owners k 0) v) (entry m f k) 0)
+unfolding sumBelow
+weight-more m owners weights f k e h o q v l =
+    elim (ℕ-discrete v o) [
+      | yes p ↦
+          ap (λ (i : ℕ). getD (set weights i (bitXor (getD weights i 0) (entry m f k))) v 0) (sym p)
+          ∙ getD-set-same weights v (bitXor (getD weights v 0) (entry m f k)) 0 (omega arith)
+          ∙ step (entry m f k) (ap (λ (b : Bool). cond b (entry m f k) 0) (eq-eqb (getD owners k 0) v (sym q ∙ sym p)))
+      | no p ↦
+          getD-set-other weights o v (bitXor (getD weights o 0) (entry m f k)) 0 p ∙ sym (xor-zero-r (getD weights v 0))
+          ∙ step 0 (ap (λ (b : Bool). cond b (entry m f k) 0) (ne-eqb (getD owners k 0) v (λ z. p (sym z ∙ sym q))))
+    ]
+  where
+    step : (x : ℕ) → cond (eqb (getD owners k 0) v) (entry m f k) 0 ≡ x
+        → bitXor (getD weights v 0) x ≡ sumBelow (k + 1) (λ k. cond (eqb (getD owners k 0) v) (entry m f k) 0)
+    step x z =
+        ap₂ bitXor (h v l) (sym z)
+        ∙ ap (λ (n : ℕ). sumBelow n (λ k. cond (eqb (getD owners k 0) v) (entry m f k) 0)) (sym (add-one k))

@@ -1,0 +1,96 @@
+-- `elimination::weights` meets its contract.
+-- Assumes nothing.
+use mathlib.Core.Path.{_≡_, refl, ap, _∙_}
+use Prim.Native.Nat.{ℕ, _≤_, _<_, _-_}
+use native.Mathlib.Omega.{arith}
+use lib.ListN.{length, getD, set, length-set, getD-replicate}
+use mathlib.Core.Bool.{cond}
+use lib.Dec.{eqb}
+use Rattle.gf256.specs.Polynomial.{sumBelow}
+use Rattle.elimination.specs.Reduction.{entry, weightOf}
+use Rattle.elimination.proofs.Steps.{weight-more}
+use lib.Bits.{bitXor}
+use borrow.Author.Needs.{needs}
+use Rattle.elimination.proofs.weights.Statement.{statement}
+use Rattle.elimination.proofs.weights.Tie as tie
+
+abbrev Inv-loop : tie.InvT-loop
+Inv-loop matrix owners column from weights₀ k₀ weights k =
+    (k ≤ 256) × (length weights ≡ 256)
+    × ((v : ℕ) → v < 256 → getD weights v 0 ≡ sumBelow k (λ k. cond (eqb (getD owners k 0) v) (entry matrix column k) 0))
+
+abbrev μ-loop : tie.MeasureT-loop
+μ-loop matrix owners column from weights₀ k₀ weights k = 256 - k
+
+index-requires : tie.Need-index-requires Inv-loop μ-loop
+index-requires c κs = search needs
+
+mul-from : tie.Need-mul-from Inv-loop μ-loop
+mul-from c = omega arith
+
+loop-holds : tie.Need-loop-holds Inv-loop μ-loop
+unfolding sumBelow
+loop-holds c = (omega arith, refl, λ j l. getD-replicate 256 j 0 0 l)
+
+element-copy-out-index : tie.Need-element-copy-out-index Inv-loop μ-loop
+element-copy-out-index c = omega arith
+
+index-requires-2 : tie.Need-index-requires-2 Inv-loop μ-loop
+index-requires-2 c κs = search needs
+
+array-read-weights : tie.Need-array-read-weights Inv-loop μ-loop
+array-read-weights c = omega arith
+
+add-weights : tie.Need-add-weights Inv-loop μ-loop
+add-weights c = omega arith
+
+element-copy-out-weights : tie.Need-element-copy-out-weights Inv-loop μ-loop
+element-copy-out-weights c = omega arith
+
+array-write-weights : tie.Need-array-write-weights Inv-loop μ-loop
+array-write-weights c = omega arith
+
+add-k : tie.Need-add-k Inv-loop μ-loop
+add-k c = omega arith
+
+loop-less : tie.Need-loop-less Inv-loop μ-loop
+loop-less c = omega arith
+
+loop-again : tie.Need-loop-again Inv-loop μ-loop
+loop-again c =
+    let l = c .before .before .before .before .loop in
+    let f = c .before .before .before .before .before .index .ensures .0 in
+    let a = c .before .before .before .before .before .before .args in (
+      omega arith,
+      simp length-set (l .inv .1),
+      λ v h.
+          ap (λ (f : ℕ). getD (set (l .weights) (c .before .index2 .result) (bitXor (getD (l .weights) (c .before .index2 .result) 0) (entry (a .matrix .now) f (l .k)))) v 0) f
+          ∙ weight-more (a .matrix .now) (a .owners .now) (l .weights) (a .column) (l .k) (l .inv .1) (l .inv .2) (c .before .index2 .result) (c .before .index2 .ensures .0) v h,
+    )
+
+returns : tie.Need-returns Inv-loop μ-loop
+unfolding weightOf
+returns c =
+    let l = c .before .loop in
+    let e : l .k ≡ 256 = omega arith in
+    rw e at (l .inv .2)
+
+pub weights-spec : {M : Type 1} → statement M
+weights-spec =
+    tie.close
+    (tie.spec
+    Inv-loop
+    μ-loop
+    index-requires
+    mul-from
+    loop-holds
+    element-copy-out-index
+    index-requires-2
+    array-read-weights
+    add-weights
+    element-copy-out-weights
+    array-write-weights
+    add-k
+    loop-less
+    loop-again
+    returns)

@@ -1,0 +1,125 @@
+// Elimination by columns over the bytes as a field, one row at a time.
+//
+// The state is a square matrix of 256 rows and columns, the identity at first, and an owner for each column: 0, or the
+// number of a row. Rows are numbered 1, 2, .. in the order in which they come; a row of zeros may be left out. Where n
+// columns are wanted, the others are 0 in each row. The matrix takes 65,536 bytes of the caller's stack.
+ghost use mathlib.Core.Path.{_≡_};
+ghost use Prim.Native.Nat.{ℕ, _+_, _<_, _≤_};
+ghost use lib.ListN.{length, getD};
+ghost use Rattle.parity.specs.MulAdd.{mulAdd};
+ghost use Rattle.elimination.specs.Reduction.{withDiagonal, rowProduct, IsPivot, Swept, RowAdded, IsSolvable, weightOf};
+use gf256::Answer;
+
+// Sets the diagonal to 1: makes the identity of a matrix of zeros.
+pub fn set_diagonal(matrix: &mut [u8; 65536])
+    ensures { λ _. ⌜ now (matrix .exit) ≡ withDiagonal 256 (now (matrix .entry)) ⌝ }
+{
+    let mut i: usize = 0;
+    while i < 256 {
+        matrix[i * 256 + i] = 1;
+        i += 1;
+    }
+}
+
+// Takes one row more. It is a sum of multiples of earlier rows where its product with the matrix is 0 in each column
+// that has no owner; otherwise it becomes the owner of the first such column where it is not.
+pub fn add_row(matrix: &mut [u8; 65536], owners: &mut [u8; 256], row: &[u8; 256], number: u8)
+    ensures { λ _. ⌜ RowAdded (now (row .entry)) number (now (matrix .entry)) (now (owners .entry)) (now (matrix .exit)) (now (owners .exit)) ⌝ }
+{
+    let mut y = row_times(row, matrix);
+    let k = pivot(&y, 0, owners);
+    if k < 256 {
+        let Answer::Byte(scale) = gf256::inverse(y[k]) else {
+            return;
+        };
+        y[k] = y[k] ^ 1;
+        sweep(matrix, &y, k, scale);
+        owners[k] = number;
+    }
+}
+
+// Whether weights of the rows sum them to 1 in this column and to 0 in the others.
+pub fn solvable(matrix: &[u8; 65536], owners: &[u8; 256], column: u8) -> bool
+    ensures { λ r. ⌜ IsSolvable (now (matrix .entry)) (now (owners .entry)) column r ⌝ }
+{
+    let k = pivot(matrix, index(column) * 256, owners);
+    k == 256
+}
+
+// These weights, by the numbers of the rows; what stands at 0 means nothing.
+pub fn weights(matrix: &[u8; 65536], owners: &[u8; 256], column: u8) -> [u8; 256]
+    ensures { λ r. ⌜ ((v : ℕ) → v < 256 → getD r v 0 ≡ weightOf (now (matrix .entry)) (now (owners .entry)) column v) ⌝ }
+{
+    let from = index(column) * 256;
+    let mut weights = [0u8; 256];
+    let mut k: usize = 0;
+    while k < 256 {
+        let v = index(owners[k]);
+        weights[v] = weights[v] ^ matrix[from + k];
+        k += 1;
+    }
+    weights
+}
+
+// The product of a row and the matrix.
+fn row_times(row: &[u8; 256], matrix: &[u8]) -> [u8; 256]
+    requires { ⌜ length (now matrix) ≡ 65536 ⌝ }
+    ensures { λ r. ⌜ ((j : ℕ) → j < 256 → getD r j 0 ≡ rowProduct (now (row .entry)) (now (matrix .entry)) j) ⌝ }
+{
+    let mut sum = [0u8; 256];
+    let mut i: usize = 0;
+    while i < 256 {
+        let from = i * 256;
+        let to = from + 256;
+        add_multiple(row[i], &matrix[from..to], &mut sum);
+        i += 1;
+    }
+    sum
+}
+
+// The first column that has no owner in which the row from this place on is not 0, or 256.
+fn pivot(rows: &[u8], from: usize, owners: &[u8; 256]) -> usize
+    requires { ⌜ from + 256 ≤ length (now rows) ⌝ }
+    ensures { λ r. ⌜ IsPivot (λ j. getD (now (rows .entry)) (from + j) 0) (now (owners .entry)) r ⌝ }
+{
+    let mut k: usize = 0;
+    while k < 256 {
+        if owners[k] == 0 {
+            if rows[from + k] != 0 {
+                return k;
+            }
+        }
+        k += 1;
+    }
+    k
+}
+
+// Adds to each row of the matrix a multiple of y: as its entry in column k says, scaled.
+fn sweep(matrix: &mut [u8], y: &[u8; 256], k: usize, scale: u8)
+    requires { ⌜ (length (now matrix) ≡ 65536) × (k < 256) ⌝ }
+    ensures { λ _. ⌜ Swept 256 (now (y .entry)) k scale (now (matrix .entry)) (now (matrix .exit)) ⌝ }
+{
+    let mut r: usize = 0;
+    while r < 256 {
+        let from = r * 256;
+        let to = from + 256;
+        let weight = gf256::product(scale, matrix[from + k]);
+        add_multiple(weight, y, &mut matrix[from..to]);
+        r += 1;
+    }
+}
+
+// As `mul_add`; most weights of an elimination are 0, and take no time.
+fn add_multiple(weight: u8, fragment: &[u8], buffer: &mut [u8])
+    ensures { λ _. ⌜ now (buffer .exit) ≡ mulAdd weight (now (fragment .entry)) (now (buffer .entry)) ⌝ }
+{
+    if weight != 0 {
+        parity::mul_add(weight, fragment, buffer);
+    }
+}
+
+fn index(x: u8) -> usize
+    ensures { λ r. ⌜ (r ≡ x) × (r < 256) ⌝ }
+{
+    x as usize
+}

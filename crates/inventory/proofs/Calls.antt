@@ -1,0 +1,250 @@
+-- Laws of the model.
+--
+--   after-n                   calls keep the number of files
+--   after-told                calls that add what is present, and nothing else, lead to the same state
+--   gives-one, givesAll-one   the model gives one reply at most to each call: it determines each reply
+--   gives-some                and it gives one
+-- Assumes nothing.
+use mathlib.Core.Path.{_≡_, refl, sym, ap, ap₂, _∙_, subst, fun-ext}
+use mathlib.Core.Bool.{Bool, true, false, not, cond, _&&_, _||_, false≢true}
+use mathlib.Core.List.{List, [], _∷_, _++_}
+use Prim.Native.Nat.{ℕ, _<_, _≤_}
+use native.Mathlib.Omega.{arith}
+use lib.Dec.{eqb}
+use lib.ListN.{drop}
+use borrow.Author.Tests.{eq-eqb, eqb-true}
+use Rattle.parity.specs.Parity.{isFile}
+use Rattle.inventory.specs.Recoverable.{State, isVolume}
+use Rattle.inventory.specs.Model.{Call, addFile, removeFile, addVolume, removeVolume, count, query, Reply, queried, opened, withFiles, withVolumes, insert, remove, next, after, Gives, GivesQuery, GivesMissing, undetermined, noRoom, recoverable, GivesAll}
+use Rattle.inventory.specs.Claim.{addsFile, addsVolume, OnlyAdds, Told}
+use Rattle.inventory.proofs.Tests.{and-true}
+use Rattle.inventory.proofs.Weights.{one-weights}
+
+-- ---- what calls keep
+
+-- a state of the same files as t, with what is present in range
+record Kin (t u : State) : Type 0 where
+  same-n : u .n ≡ t .n
+  same-size : u .size ≡ t .size
+  files-in-range : (f : ℕ) → u .files f ≡ true → isFile (t .n) f ≡ true
+  volumes-in-range : (v : ℕ) → u .volumes v ≡ true → isVolume (t .n) v ≡ true
+
+pick-kin : (t u v : State) (b : Bool) → Kin t u → (b ≡ true → Kin t v) → Kin t (cond b v u)
+pick-kin t u v true k h = h refl
+pick-kin t u v false k h = k
+
+insert-in-range : (P : ℕ → Bool) (s : ℕ → Bool) (f : ℕ) → P f ≡ true → ((g : ℕ) → s g ≡ true → P g ≡ true)
+    → (g : ℕ) → insert f s g ≡ true → P g ≡ true
+insert-in-range P s f p h g e = go (eqb g f) refl e
+  where
+    go : (b : Bool) → eqb g f ≡ b → (b || s g) ≡ true → P g ≡ true
+    go true q r = ap P (eqb-true g f q) ∙ p
+    go false q r = h g r
+
+next-kin : (t u : State) (c : Call) → Kin t u → Kin t (next u c)
+unfolding next
+next-kin t u (addFile f) k =
+    pick-kin t u (withFiles u (insert f (u .files))) (isFile (u .n) f && not (u .files f)) k
+    (λ e. record {
+      same-n = k .same-n;
+      same-size = k .same-size;
+      files-in-range = insert-in-range (isFile (t .n)) (u .files) f
+          (subst (λ (m : ℕ). isFile m f ≡ true) (k .same-n) (and-true (isFile (u .n) f) (not (u .files f)) e .0)) (k .files-in-range);
+      volumes-in-range = k .volumes-in-range;
+    })
+next-kin t u (removeFile f) k =
+    pick-kin t u (withFiles u (remove f (u .files))) (isFile (u .n) f && u .files f) k
+    (λ e. record {
+      same-n = k .same-n;
+      same-size = k .same-size;
+      files-in-range = λ g h. k .files-in-range g (and-true (not (eqb g f)) (u .files g) h .1);
+      volumes-in-range = k .volumes-in-range;
+    })
+next-kin t u (addVolume f) k =
+    pick-kin t u (withVolumes u (insert f (u .volumes))) (isVolume (u .n) f && not (u .volumes f)) k
+    (λ e. record {
+      same-n = k .same-n;
+      same-size = k .same-size;
+      files-in-range = k .files-in-range;
+      volumes-in-range = insert-in-range (isVolume (t .n)) (u .volumes) f
+          (subst (λ (m : ℕ). isVolume m f ≡ true) (k .same-n) (and-true (isVolume (u .n) f) (not (u .volumes f)) e .0))
+          (k .volumes-in-range);
+    })
+next-kin t u (removeVolume f) k =
+    pick-kin t u (withVolumes u (remove f (u .volumes))) (isVolume (u .n) f && u .volumes f) k
+    (λ e. record {
+      same-n = k .same-n;
+      same-size = k .same-size;
+      files-in-range = k .files-in-range;
+      volumes-in-range = λ g h. k .volumes-in-range g (and-true (not (eqb g f)) (u .volumes g) h .1);
+    })
+next-kin t u count k = k
+next-kin t u (query f room) k = k
+
+after-kin : (t u : State) (cs : List Call) → Kin t u → Kin t (after u cs)
+unfolding after
+after-kin t u [] k = k
+after-kin t u (c ∷ cs) k = after-kin t (next u c) cs (next-kin t u c k)
+
+opened-kin : (n : ℕ) (size : ℕ → ℕ) → Kin (opened n size) (opened n size)
+opened-kin n size = record {
+  same-n = refl;
+  same-size = refl;
+  files-in-range = λ f e. absurd (false≢true e);
+  volumes-in-range = λ v e. absurd (false≢true e);
+}
+
+pub after-n : (n : ℕ) (size : ℕ → ℕ) (cs : List Call) → after (opened n size) cs .n ≡ n
+after-n n size cs = after-kin (opened n size) (opened n size) cs (opened-kin n size) .same-n
+
+pub after-size : (n : ℕ) (size : ℕ → ℕ) (cs : List Call) → after (opened n size) cs .size ≡ size
+after-size n size cs = after-kin (opened n size) (opened n size) cs (opened-kin n size) .same-size
+
+pub next-n : (t : State) (c : Call) → next t c .n ≡ t .n
+unfolding next
+next-n t (addFile f) = go (isFile (t .n) f && not (t .files f))
+  where
+    go : (b : Bool) → cond b (withFiles t (insert f (t .files))) t .n ≡ t .n
+    go true = refl
+    go false = refl
+next-n t (removeFile f) = go (isFile (t .n) f && t .files f)
+  where
+    go : (b : Bool) → cond b (withFiles t (remove f (t .files))) t .n ≡ t .n
+    go true = refl
+    go false = refl
+next-n t (addVolume f) = go (isVolume (t .n) f && not (t .volumes f))
+  where
+    go : (b : Bool) → cond b (withVolumes t (insert f (t .volumes))) t .n ≡ t .n
+    go true = refl
+    go false = refl
+next-n t (removeVolume f) = go (isVolume (t .n) f && t .volumes f)
+  where
+    go : (b : Bool) → cond b (withVolumes t (remove f (t .volumes))) t .n ≡ t .n
+    go true = refl
+    go false = refl
+next-n t count = refl
+next-n t (query f room) = refl
+
+-- ---- what is present, told anew
+
+-- what is present already is there after adding it
+insert-present : (s : ℕ → Bool) (f : ℕ) → s f ≡ true → insert f s ≡ s
+insert-present s f e = fun-ext (λ g. go g (eqb g f) refl)
+  where
+    go : (g : ℕ) (b : Bool) → eqb g f ≡ b → (b || s g) ≡ s g
+    go g true q = sym (ap s (eqb-true g f q) ∙ e)
+    go g false q = refl
+
+add-file-next : (t : State) (f : ℕ) → isFile (t .n) f ≡ true → next t (addFile f) ≡ withFiles t (insert f (t .files))
+unfolding next
+add-file-next t f r =
+    ap (λ (b : Bool). cond (b && not (t .files f)) (withFiles t (insert f (t .files))) t) r ∙ go (t .files f) refl
+  where
+    go : (b : Bool) → t .files f ≡ b
+        → cond (not b) (withFiles t (insert f (t .files))) t ≡ withFiles t (insert f (t .files))
+    go true e = ap (withFiles t) (sym (insert-present (t .files) f e))
+    go false e = refl
+
+add-volume-next : (t : State) (v : ℕ) → isVolume (t .n) v ≡ true → next t (addVolume v) ≡ withVolumes t (insert v (t .volumes))
+unfolding next
+add-volume-next t v r =
+    ap (λ (b : Bool). cond (b && not (t .volumes v)) (withVolumes t (insert v (t .volumes))) t) r ∙ go (t .volumes v) refl
+  where
+    go : (b : Bool) → t .volumes v ≡ b
+        → cond (not b) (withVolumes t (insert v (t .volumes))) t ≡ withVolumes t (insert v (t .volumes))
+    go true e = ap (withVolumes t) (sym (insert-present (t .volumes) v e))
+    go false e = refl
+
+or-move : (a b c : Bool) → (b || (a || c)) ≡ ((a || b) || c)
+or-move true true c = refl
+or-move true false c = refl
+or-move false true c = refl
+or-move false false c = refl
+
+or-true : (a b : Bool) → b ≡ true → (a || b) ≡ true
+or-true true b e = refl
+or-true false b e = e
+
+or-false : (a : Bool) → (a || false) ≡ a
+or-false true = refl
+or-false false = refl
+
+abbrev holding : State → (ℕ → Bool) → (ℕ → Bool) → State
+holding t fs vs = record { n = t .n; size = t .size; files = fs; volumes = vs }
+
+after-adds : (cs : List Call) (t : State) → OnlyAdds cs
+    → ((f : ℕ) → addsFile f cs ≡ true → isFile (t .n) f ≡ true) → ((v : ℕ) → addsVolume v cs ≡ true → isVolume (t .n) v ≡ true)
+    → after t cs ≡ holding t (λ f. addsFile f cs || t .files f) (λ v. addsVolume v cs || t .volumes v)
+unfolding after OnlyAdds addsFile addsVolume
+after-adds [] t N hf hv = refl
+after-adds (addFile g ∷ cs) t N hf hv =
+    ap (λ (u : State). after u cs) (add-file-next t g (hf g (ap (λ (b : Bool). b || addsFile g cs) (eq-eqb g g refl))))
+    ∙ after-adds cs (withFiles t (insert g (t .files))) N (λ f e. hf f (or-true (eqb f g) (addsFile f cs) e)) hv
+    ∙ ap (λ (s : ℕ → Bool). holding t s (λ v. addsVolume v cs || t .volumes v))
+    (fun-ext (λ f. or-move (eqb f g) (addsFile f cs) (t .files f)))
+after-adds (removeFile g ∷ cs) t N hf hv = absurd N
+after-adds (addVolume g ∷ cs) t N hf hv =
+    ap (λ (u : State). after u cs) (add-volume-next t g (hv g (ap (λ (b : Bool). b || addsVolume g cs) (eq-eqb g g refl))))
+    ∙ after-adds cs (withVolumes t (insert g (t .volumes))) N hf (λ v e. hv v (or-true (eqb v g) (addsVolume v cs) e))
+    ∙ ap (λ (s : ℕ → Bool). holding t (λ f. addsFile f cs || t .files f) s)
+    (fun-ext (λ v. or-move (eqb v g) (addsVolume v cs) (t .volumes v)))
+after-adds (removeVolume g ∷ cs) t N hf hv = absurd N
+after-adds (count ∷ cs) t N hf hv = absurd N
+after-adds (query g room ∷ cs) t N hf hv = absurd N
+
+pub after-told : (n : ℕ) (size : ℕ → ℕ) (cs adds : List Call) → Told (after (opened n size) cs) adds
+    → after (opened n size) adds ≡ after (opened n size) cs
+after-told n size cs adds told =
+    after-adds adds (opened n size) (told .only) (λ f e. k .files-in-range f (sym (told .files f) ∙ e))
+    (λ v e. k .volumes-in-range v (sym (told .volumes v) ∙ e))
+    ∙ (λ i. record {
+      n = sym (k .same-n) i;
+      size = sym (k .same-size) i;
+      files = fun-ext (λ f. or-false (addsFile f adds) ∙ told .files f) i;
+      volumes = fun-ext (λ v. or-false (addsVolume v adds) ∙ told .volumes v) i;
+    })
+  where
+    k : Kin (opened n size) (after (opened n size) cs)
+    k = after-kin (opened n size) (opened n size) cs (opened-kin n size)
+
+-- ---- the model determines each reply
+
+module _ (rule : ℕ → ℕ → ℕ) (small : (f v : ℕ) → f < 256 → rule f v < 256) where
+  missing-one : (t : State) → t .n ≤ 254 → (f : ℕ) (room : List ℕ) (r r′ : Reply)
+      → GivesMissing rule t f room r → GivesMissing rule t f room r′ → r ≡ r′
+  missing-one t l f room r r′ (undetermined q) (undetermined q′) = refl
+  missing-one t l f room r r′ (undetermined q) (noRoom y b) = absurd (q y)
+  missing-one t l f room r r′ (undetermined q) (recoverable y b w W) = absurd (q y)
+  missing-one t l f room r r′ (noRoom y b) (undetermined q) = absurd (q y)
+  missing-one t l f room r r′ (noRoom y b) (noRoom y′ b′) = refl
+  missing-one t l f room r r′ (noRoom y b) (recoverable y′ b′ w W) = absurd (omega arith)
+  missing-one t l f room r r′ (recoverable y b w W) (undetermined q) = absurd (q y)
+  missing-one t l f room r r′ (recoverable y b w W) (noRoom y′ b′) = absurd (omega arith)
+  missing-one t l f room r r′ (recoverable y b w W) (recoverable y′ b′ w′ W′) =
+      ap (λ (v : List ℕ). queried 0 (v ++ drop 255 room)) (one-weights rule small t l f w w′ W W′)
+
+  query-one : (t : State) → t .n ≤ 254 → (f : ℕ) (room : List ℕ) (inRange has : Bool) (r r′ : Reply)
+      → GivesQuery rule t f room inRange has r → GivesQuery rule t f room inRange has r′ → r ≡ r′
+  query-one t l f room false has r r′ p q = p ∙ sym q
+  query-one t l f room true true r r′ p q = p ∙ sym q
+  query-one t l f room true false r r′ p q = missing-one t l f room r r′ p q
+
+  pub gives-one : (t : State) → t .n ≤ 254 → (c : Call) (r r′ : Reply) → Gives rule t c r → Gives rule t c r′ → r ≡ r′
+  unfolding Gives
+  gives-one t l (addFile f) r r′ p q = p ∙ sym q
+  gives-one t l (removeFile f) r r′ p q = p ∙ sym q
+  gives-one t l (addVolume v) r r′ p q = p ∙ sym q
+  gives-one t l (removeVolume v) r r′ p q = p ∙ sym q
+  gives-one t l count r r′ p q = p ∙ sym q
+  gives-one t l (query f room) r r′ p q = query-one t l f room (isFile (t .n) f) (t .files f) r r′ p q
+
+  pub givesAll-one : (t : State) → t .n ≤ 254 → (cs : List Call) (r r′ : List Reply) → GivesAll rule t cs r → GivesAll rule t cs r′ → r ≡ r′
+  unfolding GivesAll
+  givesAll-one t l [] [] [] p q = refl
+  givesAll-one t l [] [] (x ∷ r′) p q = absurd q
+  givesAll-one t l [] (x ∷ r) r′ p q = absurd p
+  givesAll-one t l (c ∷ cs) [] r′ p q = absurd p
+  givesAll-one t l (c ∷ cs) (x ∷ r) [] p q = absurd q
+  givesAll-one t l (c ∷ cs) (x ∷ r) (x′ ∷ r′) p q =
+      ap₂ (λ (y : Reply) (ys : List Reply). y ∷ ys) (gives-one t l c x x′ (p .0) (q .0))
+      (givesAll-one (next t c) (subst (λ (k : ℕ). k ≤ 254) (sym (next-n t c)) l) cs r r′ (p .1) (q .1))

@@ -1,0 +1,129 @@
+-- `inventory::Inventory::open` meets its contract.
+-- Assumes nothing.
+use mathlib.Core.Path.{_≡_, refl, sym, ap, _∙_}
+use mathlib.Core.Logic.{⊎-elim}
+use Prim.Native.Nat.{ℕ, _≤_, _<_, _-_}
+use native.Mathlib.Omega.{arith}
+use lib.ListN.{length, getD, replicate}
+use Rattle.inventory.proofs.Tests.{is-true, is-false, one-more}
+use Rattle.inventory.specs.Steps.{nonemptyOf, outcome}
+use Rattle.inventory.proofs.Outcomes.{open-out-of-range, open-miscounted, open-too-large, open-accepted, nonempty-more, nonempty-same}
+use native.Mathlib.Nat.{not-suc-le-zero}
+use mathlib.Core.List.{List}
+use borrow.Author.Needs.{needs}
+use Rattle.inventory.proofs.Inventory.open.Statement.{statement}
+use Rattle.inventory.proofs.Inventory.open.Tie as tie
+
+abbrev Inv-loop : tie.InvT-loop
+Inv-loop n sizes nonempty₀ k₀ nonempty k =
+    (k ≤ length sizes) × (nonempty ≡ nonemptyOf sizes k) × ((j : ℕ) → j < k → getD sizes j 0 ≤ 16777216)
+
+abbrev μ-loop : tie.MeasureT-loop
+μ-loop n sizes nonempty₀ k₀ nonempty k = length sizes - k
+
+is-file-requires : tie.Need-is-file-requires Inv-loop μ-loop
+is-file-requires c κs = search needs
+
+refused-opening-requires : tie.Need-refused-opening-requires Inv-loop μ-loop
+refused-opening-requires c κs = search needs
+
+returns : tie.Need-returns Inv-loop μ-loop
+returns c =
+    let a = c .before .before .before .before .args in
+    c .refused-opening .ensures
+    ∙ open-out-of-range (a .n) (a .sizes .now) (sym (c .before .before .is-file .ensures) ∙ is-false (c .before .before .is-file .result) (c .before .if1 .taken))
+
+refused-opening-requires-2 : tie.Need-refused-opening-requires-2 Inv-loop μ-loop
+refused-opening-requires-2 c κs = search needs
+
+returns-2 : tie.Need-returns-2 Inv-loop μ-loop
+returns-2 c =
+    let a = c .before .before .before .before .before .args in
+    c .refused-opening2 .ensures ∙ open-miscounted (a .n) (a .sizes .now) (c .before .if2 .taken)
+
+loop-holds : tie.Need-loop-holds Inv-loop μ-loop
+unfolding nonemptyOf
+loop-holds c = (omega arith, refl, λ j l. absurd (not-suc-le-zero l))
+
+mul-if3 : tie.Need-mul-if3 Inv-loop μ-loop
+mul-if3 c = omega arith
+
+shared-slice-read-if3 : tie.Need-shared-slice-read-if3 Inv-loop μ-loop
+shared-slice-read-if3 c = omega arith
+
+refused-opening-requires-3 : tie.Need-refused-opening-requires-3 Inv-loop μ-loop
+refused-opening-requires-3 c κs = search needs
+
+returns-3 : tie.Need-returns-3 Inv-loop μ-loop
+returns-3 c =
+    let l = c .before .before .before .before .loop in
+    let ranged = c .before .before .before .before .before .before in
+    let a = ranged .before .before .before .args in
+    let in-range = sym (ranged .before .is-file .ensures) ∙ is-true (ranged .before .is-file .result) (ranged .if1 .left) in
+    c .refused-opening3 .ensures ∙ open-too-large (a .n) (a .sizes .now) in-range (c .before .before .before .before .before .if2 .left) (l .k) (omega arith) (c .before .if3 .taken)
+
+mul-if4 : tie.Need-mul-if4 Inv-loop μ-loop
+mul-if4 c = omega arith
+
+shared-slice-read-if4 : tie.Need-shared-slice-read-if4 Inv-loop μ-loop
+shared-slice-read-if4 c = omega arith
+
+add-insert : tie.Need-add-insert Inv-loop μ-loop
+add-insert c = omega arith
+
+insert-requires : tie.Need-insert-requires Inv-loop μ-loop
+insert-requires c κs = search needs
+
+add-k : tie.Need-add-k Inv-loop μ-loop
+add-k c = omega arith
+
+loop-less : tie.Need-loop-less Inv-loop μ-loop
+loop-less c = omega arith
+
+loop-again : tie.Need-loop-again Inv-loop μ-loop
+loop-again c =
+    let l = c .before .before .before .before .before .loop in
+    let sizes = c .before .before .before .before .before .before .before .before .before .before .args .sizes .now in
+    let small : getD sizes (l .k) 0 ≤ 16777216 = c .before .before .if3 .left in (
+      omega arith,
+      ⊎-elim (λ w. w .2 ∙ w .1 .ensures ∙ nonempty-more sizes (l .nonempty) (l .k) (l .inv .1) (w .0 .taken))
+          (λ w. w .1 ∙ nonempty-same sizes (l .nonempty) (l .k) (l .inv .1) (omega (arith, w .0 .left))) (c .if4 .came),
+      one-more (λ j. getD sizes j 0 ≤ 16777216) (l .k) (l .inv .2) small,
+    )
+
+returns-4 : tie.Need-returns-4 Inv-loop μ-loop
+returns-4 c =
+    let l = c .before .loop in
+    let ranged = c .before .before .before in
+    let a = ranged .before .before .before .args in
+    let in-range = sym (ranged .before .is-file .ensures) ∙ is-true (ranged .before .is-file .result) (ranged .if1 .left) in
+    let counted : length (a .sizes .now) ≡ a .n = c .before .before .if2 .left in
+    let e : l .k ≡ a .n = omega arith in
+    ap (λ (ws : List ℕ). outcome (record { n = a .n; files = replicate 4 0; volumes = replicate 4 0; nonempty = ws }) 0)
+    (l .inv .1 ∙ ap (nonemptyOf (a .sizes .now)) e)
+    ∙ open-accepted (a .n) (a .sizes .now) in-range counted (rw e at (l .inv .2))
+
+pub open-spec : {M : Type 1} → statement M
+open-spec =
+    tie.close
+    (tie.spec
+    Inv-loop
+    μ-loop
+    is-file-requires
+    refused-opening-requires
+    returns
+    refused-opening-requires-2
+    returns-2
+    loop-holds
+    mul-if3
+    shared-slice-read-if3
+    refused-opening-requires-3
+    returns-3
+    mul-if4
+    shared-slice-read-if4
+    add-insert
+    insert-requires
+    add-k
+    loop-less
+    loop-again
+    returns-4)

@@ -1,0 +1,13 @@
+pub mod Words
+pub mod Tests
+pub mod Outcomes
+pub mod Rows
+pub mod Recovery
+pub mod Weights
+pub mod Following
+pub mod CoefficientRows
+pub mod QuerySteps
+pub mod Queries
+pub mod Representation
+pub mod Calls
+pub mod Condition

@@ -1,0 +1,95 @@
+-- What the calls hand back, case by case.
+--
+--   step-refused, step-accepted                    adding and removing
+--   first-fails, first-holds                       a row of tests
+--   open-out-of-range, open-miscounted, open-too-large, open-accepted     opening
+--   nonempty-none, nonempty-more                   the loop of opening
+-- Assumes nothing.
+use mathlib.Core.Path.{_≡_, sym, ap, ap₂, _∙_}
+use mathlib.Core.Logic.{_≢_}
+use mathlib.Core.Bool.{Bool, true, false, cond, _&&_, and-false}
+use mathlib.Core.List.{List}
+use Prim.Native.Nat.{ℕ, suc, _<_, _≤_, _+_}
+use native.Mathlib.Numerals.{add-one}
+use lib.Dec.{leb, eqb}
+use lib.ListN.{length, getD}
+use borrow.Author.Tests.{eq-eqb, ne-eqb, le-leb, lt-leb}
+use Rattle.parity.specs.Parity.{isFile}
+use Rattle.inventory.specs.Sets.{inserted}
+use Rattle.inventory.specs.Steps.{allBelow, outcome, accepted, fresh, refusedOpening, nonemptyOf, openStep}
+use Rattle.inventory.specs.declared.Inventory.{Inventory}
+use Rattle.inventory.specs.declared.Outcome.{Outcome}
+use Rattle.inventory.proofs.Tests.{all-true, all-false}
+
+-- ---- adding and removing
+
+pub step-refused : (k number : ℕ) (changed s : Inventory) → k ≡ number → k ≢ 0 → outcome s k ≡ accepted number changed s
+step-refused k number changed s e q =
+    ap (outcome s) e ∙ ap (λ (b : Bool). cond b (outcome changed 0) (outcome s number)) (sym (ne-eqb number 0 (λ z. q (e ∙ z))))
+
+pub step-accepted : (k number : ℕ) (changed s : Inventory) → k ≡ number → k ≡ 0 → outcome changed 0 ≡ accepted number changed s
+step-accepted k number changed s e z =
+    ap (λ (b : Bool). cond b (outcome changed 0) (outcome s number)) (sym (eq-eqb number 0 (sym e ∙ z)))
+
+-- the tests of the code are those of the step
+pub number-same : (number : Bool → Bool → Bool → ℕ) {a a′ b b′ c c′ : Bool} → a ≡ a′ → b ≡ b′ → c ≡ c′
+    → number a b c ≡ number a′ b′ c′
+number-same number e f g = cc
+
+-- ---- a row of tests
+
+pub first-fails : (a b : Bool) → a ≡ false → false ≡ (a && b)
+first-fails a b e = sym (ap (λ (x : Bool). x && b) e)
+
+pub first-holds : (a b r : Bool) → a ≡ true → r ≡ b → r ≡ (a && b)
+first-holds a b r e h = h ∙ sym (ap (λ (x : Bool). x && b) e)
+
+-- ---- opening
+
+abbrev fits : List ℕ → ℕ → Bool
+fits sizes i = leb (getD sizes i 0) 16777216
+
+abbrev opening : ℕ → List ℕ → Bool → Bool → Outcome
+opening n sizes counted small = cond counted (cond small (outcome (fresh n sizes) 0) (refusedOpening 1)) (refusedOpening 10)
+
+module _ (n : ℕ) (sizes : List ℕ) where
+  pub open-out-of-range : isFile 254 n ≡ false → refusedOpening 10 ≡ openStep n sizes
+  unfolding openStep
+  open-out-of-range e = sym (ap (λ (b : Bool). opening n sizes (b && eqb (length sizes) n) (allBelow n (fits sizes))) e)
+
+  pub open-miscounted : length sizes ≢ n → refusedOpening 10 ≡ openStep n sizes
+  unfolding openStep
+  open-miscounted q =
+      sym (ap (λ (b : Bool). opening n sizes (isFile 254 n && b) (allBelow n (fits sizes))) (ne-eqb (length sizes) n q)
+      ∙ ap (λ (b : Bool). opening n sizes b (allBelow n (fits sizes))) (and-false (isFile 254 n)))
+
+  module _ (r : isFile 254 n ≡ true) (c : length sizes ≡ n) where
+    counted : (isFile 254 n && eqb (length sizes) n) ≡ true
+    counted = ap₂ (λ (a b : Bool). a && b) r (eq-eqb (length sizes) n c)
+
+    pub open-too-large : (k : ℕ) → k < n → 16777216 < getD sizes k 0 → refusedOpening 1 ≡ openStep n sizes
+    unfolding openStep
+    open-too-large k l h =
+        sym (ap₂ (opening n sizes) counted (all-false n (fits sizes) k l (lt-leb (getD sizes k 0) 16777216 h)))
+
+    pub open-accepted : ((k : ℕ) → k < n → getD sizes k 0 ≤ 16777216) → outcome (fresh n sizes) 0 ≡ openStep n sizes
+    unfolding openStep
+    open-accepted h =
+        sym (ap₂ (opening n sizes) counted (all-true n (fits sizes) (λ k l. le-leb (getD sizes k 0) 16777216 (h k l))))
+
+-- ---- the loop of opening
+
+pub nonempty-more : (sizes ws : List ℕ) (k : ℕ) → ws ≡ nonemptyOf sizes k → 1 ≤ getD sizes k 0
+    → inserted (k + 1) ws ≡ nonemptyOf sizes (k + 1)
+unfolding nonemptyOf
+nonempty-more sizes ws k e h =
+    ap₂ inserted (add-one k) e
+    ∙ sym (ap (λ (b : Bool). cond b (inserted (suc k) (nonemptyOf sizes k)) (nonemptyOf sizes k)) (le-leb 1 (getD sizes k 0) h))
+    ∙ ap (nonemptyOf sizes) (sym (add-one k))
+
+pub nonempty-same : (sizes ws : List ℕ) (k : ℕ) → ws ≡ nonemptyOf sizes k → getD sizes k 0 < 1
+    → ws ≡ nonemptyOf sizes (k + 1)
+unfolding nonemptyOf
+nonempty-same sizes ws k e h =
+    e ∙ sym (ap (λ (b : Bool). cond b (inserted (suc k) (nonemptyOf sizes k)) (nonemptyOf sizes k)) (lt-leb 1 (getD sizes k 0) h))
+    ∙ ap (nonemptyOf sizes) (sym (add-one k))

@@ -1,0 +1,234 @@
+-- The reply to a query is the model's, whatever the sizes are.
+--
+--   solved-by              what the elimination answers
+--   query-out-of-range, query-present, query-undetermined, query-no-room, query-recoverable     the cases of a query
+-- Assumes nothing.
+use mathlib.Core.Path.{_≡_, refl, sym, ap, ap₂, _∙_, subst}
+use mathlib.Core.Bool.{Bool, true, false, not, cond, _&&_, true≢false, false≢true}
+use mathlib.Core.List.{List, _++_}
+use Prim.Native.Nat.{ℕ, suc, _<_, _≤_, _+_, _-_}
+use native.Mathlib.Decide.{decLt}
+use native.Mathlib.Omega.{arith}
+use lib.ListN.{length, getD, take, drop, length-drop, take-append-drop, List·getD-eq-default}
+use lib.Seq.{ext-getD, getD-take, getD-drop, length-take-le}
+use borrow.Author.Tests.{leb-false}
+use Rattle.gf256.specs.Field.{product}
+use Rattle.gf256.proofs.Polynomials.{sumBelow-same, sumBelow-none}
+use Rattle.gf256.proofs.Products.{product-zero-r}
+use Rattle.parity.specs.Coefficient.{coefficient}
+use Rattle.parity.specs.Parity.{isFile}
+use Rattle.elimination.specs.Matrix.{IsSolution, IsKernelVector}
+use Rattle.elimination.specs.Reduction.{IsSolvable, weightOf}
+use Rattle.elimination.proofs.ByteField.{Byte, byteField}
+use Rattle.elimination.proofs.Reductions.{ReducedBytes, weight-value, solvable-solution, unsolvable-kernel}
+use Rattle.inventory.specs.Sets.{member}
+use Rattle.inventory.specs.Recoverable.{State, column, place, weighted, Recoverable, IsWeights}
+use Rattle.inventory.specs.Model.{Reply, queried, query, Gives, GivesQuery, undetermined, noRoom, recoverable}
+use Rattle.inventory.specs.Steps.{isInventory}
+use Rattle.inventory.specs.Query.{stateOf, Matches, answerOf, Queried, asModel, tableOf, Solved, empty, solved, unsolved, fileWeight, Written}
+use Rattle.inventory.specs.declared.Inventory.{Inventory}
+use Rattle.inventory.specs.declared.Answer.the-variants as answer
+use Rattle.inventory.proofs.Tests.{file-in-range}
+use Rattle.inventory.proofs.Rows as R
+use Rattle.inventory.proofs.Recovery.{solution-recoverable, kernel-unrecoverable, empty-recoverable}
+use Rattle.inventory.proofs.Weights.{Weighs, solution-weighs, zero-weighs, is-weights}
+use Rattle.inventory.proofs.CoefficientRows.{few-files, coefficient-small, table-matrix}
+
+module _ (s : Inventory) (valid : isInventory s ≡ true) (f : ℕ) where
+  -- ---- what the elimination answers
+
+  pub solved-by : (m owners ws : List ℕ) (found : Bool) → isFile (s .n) f ≡ true → member (s .nonempty) f ≡ true
+      → ReducedBytes (tableOf s) m owners (255 - s .n) → IsSolvable m owners (f - 1) found
+      → ((v : ℕ) → v < 256 → getD ws v 0 ≡ weightOf m owners (f - 1) v) → Solved s f found ws
+  solved-by m owners ws true inRange e X A h =
+      let b = few-files s valid in
+      let l = file-in-range (s .n) f inRange in
+      let small : f - 1 < 256 = omega arith in
+      solved ws e _ (solvable-solution (tableOf s) m owners (255 - s .n) X (f - 1) small true A refl)
+      (λ v lv. h (suc v) (omega arith) ∙ weight-value (tableOf s) m owners (255 - s .n) X (f - 1) v small)
+  solved-by m owners ws false inRange e X A h =
+      let b = few-files s valid in
+      let l = file-in-range (s .n) f inRange in
+      let kernel = unsolvable-kernel (tableOf s) m owners (255 - s .n) X (f - 1) (omega arith) false A refl in
+      unsolved ws e (kernel .0) (kernel .1)
+
+  -- ---- the cases
+
+  module _ (room : List ℕ) where
+    as-model : (size : ℕ → ℕ) (inRange has : Bool) (r : Reply) → isFile (s .n) f ≡ inRange → member (s .files) f ≡ has
+        → GivesQuery coefficient (stateOf s size) f room inRange has r → Gives coefficient (stateOf s size) (query f room) r
+    unfolding Gives
+    as-model size inRange has r p q g =
+        subst (λ (b : Bool). GivesQuery coefficient (stateOf s size) f room b (member (s .files) f) r) (sym p)
+        (subst (λ (b : Bool). GivesQuery coefficient (stateOf s size) f room inRange b r) (sym q) g)
+
+    pub query-out-of-range : isFile (s .n) f ≡ false → Queried s f room (answer.Refused 10) room
+    unfolding answerOf
+    query-out-of-range e =
+        asModel valid 10 refl (λ size matches. as-model size false (member (s .files) f) (queried 10 room) e refl refl)
+
+    pub query-present : isFile (s .n) f ≡ true → member (s .files) f ≡ true → Queried s f room answer.Present room
+    unfolding answerOf
+    query-present e h = asModel valid 13 refl (λ size matches. as-model size true true (queried 13 room) e h refl)
+
+  module _ (inRange : isFile (s .n) f ≡ true) (missing : member (s .files) f ≡ false) (room : List ℕ) where
+    abbrev state : (ℕ → ℕ) → State
+    state size = stateOf s size
+
+    abbrev matrix : (ℕ → ℕ) → ℕ → ℕ → Byte
+    matrix size = R.matrix coefficient coefficient-small (state size) (few-files s valid)
+
+    -- file f is f - 1 and one
+    as-suc : f ≡ suc (f - 1)
+    as-suc = let l = file-in-range (s .n) f inRange in omega arith
+
+    below : f - 1 < s .n
+    below = let l = file-in-range (s .n) f inRange in omega arith
+
+    is-column : (size : ℕ → ℕ) → Matches s size → member (s .nonempty) f ≡ true → column (state size) (suc (f - 1)) ≡ true
+    is-column size matches e =
+        ap (column (state size)) (sym as-suc)
+        ∙ ap₂ (λ (a b : Bool). not a && b) missing (sym (matches f inRange) ∙ e)
+
+    is-empty : (size : ℕ → ℕ) → Matches s size → member (s .nonempty) f ≡ false → size f ≡ 0
+    is-empty size matches e =
+        let b : size f < 1 = leb-false 1 (size f) (sym (matches f inRange) ∙ e) in
+        omega arith
+
+    solution-in : (size : ℕ → ℕ) → Matches s size → (w : ℕ → Byte) → IsSolution byteField (tableOf s) 256 (255 - s .n) (f - 1) w
+        → IsSolution byteField (matrix size) 256 (255 - s .n) (f - 1) w
+    solution-in size matches w W =
+        subst (λ (A : ℕ → ℕ → Byte). IsSolution byteField A 256 (255 - s .n) (f - 1) w) (table-matrix s valid size matches) W
+
+    recovered : (ws : List ℕ) (found : Bool) → Solved s f found ws → found ≡ true → (size : ℕ → ℕ) → Matches s size
+        → Recoverable coefficient (state size) f
+    recovered ws found (empty ws′ e z) t size matches =
+        empty-recoverable coefficient (state size) f inRange (is-empty size matches e)
+    recovered ws found (solved ws′ e w W h) t size matches =
+        subst (Recoverable coefficient (state size)) (sym as-suc)
+        (solution-recoverable coefficient coefficient-small (state size) (few-files s valid) (f - 1) below w
+        (solution-in size matches w W))
+    recovered ws found (unsolved ws′ e x X) t size matches = absurd (false≢true t)
+
+    pub query-undetermined : (ws : List ℕ) (found : Bool) → Solved s f found ws → found ≡ false
+        → Queried s f room answer.Undetermined room
+    unfolding answerOf
+    query-undetermined ws found (empty ws′ e z) t = absurd (true≢false t)
+    query-undetermined ws found (solved ws′ e w W h) t = absurd (true≢false t)
+    query-undetermined ws found (unsolved ws′ e x X) t =
+        asModel valid 12 refl
+        (λ size matches.
+        as-model room size true false (queried 12 room) inRange missing
+        (undetermined
+        (λ r.
+        kernel-unrecoverable coefficient coefficient-small (state size) (few-files s valid) (f - 1) below
+        (is-column size matches e) x
+        (subst (λ (A : ℕ → ℕ → Byte). IsKernelVector byteField A 256 (255 - s .n) (f - 1) x) (table-matrix s valid size matches) X)
+        (subst (Recoverable coefficient (state size)) as-suc r))))
+
+    pub query-no-room : (ws : List ℕ) (found : Bool) → Solved s f found ws → found ≡ true → length room < 255
+        → Queried s f room (answer.Refused 14) room
+    unfolding answerOf
+    query-no-room ws found S t l =
+        asModel valid 14 refl
+        (λ size matches.
+        as-model room size true false (queried 14 room) inRange missing (noRoom (recovered ws found S t size matches) l))
+
+    -- ---- the weights in the room
+
+    module _ (ws room′ : List ℕ) (long : 255 ≤ length room) (W : Written (s .n) (s .files) ws room room′ 255)
+        (bytes : (p : ℕ) → getD room′ p 0 < 256) where
+      written : List ℕ
+      written = take 255 room′
+
+      written-long : length written ≡ 255
+      unfolding written
+      written-long = let e = W .same-length in length-take-le 255 room′ (omega arith)
+
+      written-at : (p : ℕ) → p < 255 → getD written p 0 ≡ getD room′ p 0
+      unfolding written
+      written-at p l = getD-take 255 room′ p 0 l
+
+      written-bytes : (p : ℕ) → getD written p 0 < 256
+      written-bytes p =
+          elim (decLt p 255) [
+            | yes l ↦ subst (λ (x : ℕ). x < 256) (sym (written-at p l)) (bytes p)
+            | no q ↦
+                subst (λ (x : ℕ). x < 256) (sym (List·getD-eq-default written 0 (omega (arith, written-long)))) (omega arith)
+          ]
+
+      written-rest : room′ ≡ written ++ drop 255 room
+      unfolding written
+      written-rest =
+          let e = W .same-length in
+          sym (take-append-drop 255 room′)
+          ∙ ap (λ (l : List ℕ). take 255 room′ ++ l)
+          (ext-getD 0 (drop 255 room′) (drop 255 room) (simp length-drop (ap (λ (k : ℕ). k - 255) e))
+          (λ i l. getD-drop 255 room′ i 0 ∙ W .rest (255 + i) (omega arith) ∙ sym (getD-drop 255 room i 0)))
+
+      written-volume : (v : ℕ) → v < 255 - s .n → getD written (s .n + v) 0 ≡ getD ws (suc v) 0
+      written-volume v l =
+          written-at (s .n + v) (omega arith) ∙ W .of-volumes (s .n + v) (omega arith) (omega arith)
+          ∙ ap (λ (k : ℕ). getD ws k 0) (omega arith)
+
+      -- the weight of a file by its bit
+      file-term : (b : Bool) (i v : ℕ) → member (s .files) (suc i) ≡ b
+          → product (getD ws (suc v) 0) (cond (member (s .files) (suc i)) (coefficient (suc i) (suc v)) 0)
+          ≡ cond b (product (getD ws (suc v) 0) (coefficient (suc i) (suc v))) 0
+      file-term true i v e = ap (λ (b : Bool). product (getD ws (suc v) 0) (cond b (coefficient (suc i) (suc v)) 0)) e
+      file-term false i v e =
+          ap (λ (b : Bool). product (getD ws (suc v) 0) (cond b (coefficient (suc i) (suc v)) 0)) e
+          ∙ product-zero-r (getD ws (suc v) 0)
+
+      present-weight : (size : ℕ → ℕ) (i : ℕ) → i < s .n → member (s .files) (suc i) ≡ true
+          → getD written i 0 ≡ weighted coefficient (state size) written (suc i)
+      unfolding fileWeight weighted
+      present-weight size i l e =
+          let b = few-files s valid in
+          written-at i (omega arith) ∙ W .of-files i (omega arith) l
+          ∙ sumBelow-same (255 - s .n)
+          (λ v. product (getD ws (suc v) 0) (cond (member (s .files) (suc i)) (coefficient (suc i) (suc v)) 0))
+          (λ v. product (place written (s .n + suc v)) (coefficient (suc i) (suc v)))
+          (λ v h.
+          file-term true i v e
+          ∙ ap (λ (x : ℕ). product x (coefficient (suc i) (suc v)))
+          (sym (written-volume v h) ∙ ap (λ (k : ℕ). getD written k 0) (omega arith)))
+
+      missing-weight : (i : ℕ) → i < s .n → member (s .files) (suc i) ≡ false → getD written i 0 ≡ 0
+      unfolding fileWeight
+      missing-weight i l e =
+          let b = few-files s valid in
+          written-at i (omega arith) ∙ W .of-files i (omega arith) l
+          ∙ sumBelow-same (255 - s .n)
+          (λ v. product (getD ws (suc v) 0) (cond (member (s .files) (suc i)) (coefficient (suc i) (suc v)) 0)) (λ v. 0)
+          (λ v h. file-term false i v e)
+          ∙ sumBelow-none (255 - s .n)
+
+      weights-of : (size : ℕ → ℕ) (w : ℕ → Byte) → Weighs coefficient coefficient-small (state size) (few-files s valid) f w
+          → ((v : ℕ) → v < 255 → getD ws (suc v) 0 ≡ w v .0) → IsWeights coefficient (state size) f written
+      weights-of size w weighs h =
+          is-weights coefficient coefficient-small (state size) (few-files s valid) f w weighs written written-long written-bytes
+          (λ v l. written-volume v l ∙ h v (omega arith)) (present-weight size) missing-weight
+
+      written-weights : (found : Bool) → Solved s f found ws → found ≡ true → (size : ℕ → ℕ) → Matches s size
+          → IsWeights coefficient (state size) f written
+      written-weights found (empty ws′ e z) t size matches =
+          weights-of size (λ v. byteField .𝟘)
+          (zero-weighs coefficient coefficient-small (state size) (few-files s valid) f
+          (ap₂ (λ (a b : Bool). not a && b) missing (sym (matches f inRange) ∙ e)))
+          (λ v l. z (suc v))
+      written-weights found (solved ws′ e w X h) t size matches =
+          weights-of size w
+          (subst (λ (k : ℕ). Weighs coefficient coefficient-small (state size) (few-files s valid) k w) (sym as-suc)
+          (solution-weighs coefficient coefficient-small (state size) (few-files s valid) (f - 1) w (solution-in size matches w X)))
+          h
+      written-weights found (unsolved ws′ e x X) t size matches = absurd (false≢true t)
+
+      pub query-recoverable : (found : Bool) → Solved s f found ws → found ≡ true → Queried s f room answer.Recoverable room′
+      unfolding answerOf
+      query-recoverable found S t =
+          asModel valid 0 refl
+          (λ size matches.
+          subst (λ (l : List ℕ). Gives coefficient (state size) (query f room) (queried 0 l)) (sym written-rest)
+          (as-model room size true false (queried 0 (written ++ drop 255 room)) inRange missing
+          (recoverable (recovered ws found S t size matches) long written (written-weights found S t size matches))))

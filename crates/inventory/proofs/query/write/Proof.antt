@@ -1,0 +1,95 @@
+-- `inventory::query::write` meets its contract.
+-- Assumes nothing.
+use mathlib.Core.Path.{_≡_, refl, sym, ap, _∙_, subst}
+use mathlib.Core.Logic.{⊎-elim}
+use Prim.Native.Nat.{ℕ, _≤_, _<_, _-_, _+_}
+use native.Mathlib.Omega.{arith}
+use lib.ListN.{length, getD, length-set}
+use Rattle.inventory.proofs.QuerySteps.{written-none, written-file, written-volume}
+use Rattle.inventory.specs.Query.{fileWeight, Written}
+use mathlib.Core.List.{List}
+use borrow.Author.Needs.{needs}
+use Rattle.inventory.proofs.query.write.Statement.{statement}
+use Rattle.inventory.proofs.query.write.Tie as tie
+
+abbrev Inv-loop : tie.InvT-loop
+Inv-loop weights out₀ sums n p₀ out p =
+    (p ≤ 255) × (length out ≡ length out₀)
+    × ((files : List ℕ) → ((i : ℕ) → i < 255 → getD sums i 0 ≡ fileWeight files weights (255 - n) i)
+    → Written n files weights out₀ out p)
+
+abbrev μ-loop : tie.MeasureT-loop
+μ-loop weights out₀ sums n p₀ out p = 255 - p
+
+file-weights-requires : tie.Need-file-weights-requires Inv-loop μ-loop
+file-weights-requires c κs = search needs
+
+loop-holds : tie.Need-loop-holds Inv-loop μ-loop
+loop-holds c = (omega arith, refl, λ files h. written-none _ files _ _)
+
+array-read-out : tie.Need-array-read-out Inv-loop μ-loop
+array-read-out c = omega arith
+
+slice-write-out : tie.Need-slice-write-out Inv-loop μ-loop
+slice-write-out c = omega arith
+
+add-out : tie.Need-add-out Inv-loop μ-loop
+add-out c = omega arith
+
+element-copy-out-out : tie.Need-element-copy-out-out Inv-loop μ-loop
+element-copy-out-out c = omega arith
+
+slice-write-out-2 : tie.Need-slice-write-out-2 Inv-loop μ-loop
+slice-write-out-2 c = omega arith
+
+add-p : tie.Need-add-p Inv-loop μ-loop
+add-p c = omega arith
+
+loop-less : tie.Need-loop-less Inv-loop μ-loop
+loop-less c = omega arith
+
+loop-again : tie.Need-loop-again Inv-loop μ-loop
+loop-again c =
+    let l = c .before .before .loop in
+    let a = c .before .before .before .before .before .args in
+    let inside : l .p < length (a .out .now) = omega arith in (
+      omega arith,
+      ⊎-elim (λ w. ap length (w .1) ∙ simp length-set (l .inv .1)) (λ w. ap length (w .2) ∙ simp length-set (l .inv .1)) (c .if1 .came),
+      λ files h.
+          ⊎-elim
+          (λ w. subst (λ (o : List ℕ). Written (a .s .n) files (a .weights .now) (a .out .now) o (l .p + 1)) (sym (w .1))
+          (written-file (a .s .n) files (a .weights .now) (a .out .now) (l .out) (l .p) _ inside (l .inv .2 files h) (w .0 .taken) (h (l .p) (omega arith))))
+          (λ w. subst (λ (o : List ℕ). Written (a .s .n) files (a .weights .now) (a .out .now) o (l .p + 1)) (sym (w .2))
+          (written-volume (a .s .n) files (a .weights .now) (a .out .now) (l .out) (l .p) _ inside (l .inv .2 files h) (w .0 .left) refl))
+          (c .if1 .came),
+    )
+
+same-length : tie.Need-same-length Inv-loop μ-loop
+same-length c = omega arith
+
+returns : tie.Need-returns Inv-loop μ-loop
+returns c =
+    let l = c .before .loop in
+    let a = c .before .before .before .before .args in
+    let e : l .p ≡ 255 = omega arith in
+    subst (Written (a .s .n) (a .s .files) (a .weights .now) (a .out .now) (l .out)) e
+    (l .inv .2 (a .s .files) (c .before .before .file-weights .ensures))
+
+pub write-spec : {M : Type 1} → statement M
+write-spec =
+    tie.close
+    (tie.spec
+    Inv-loop
+    μ-loop
+    file-weights-requires
+    loop-holds
+    array-read-out
+    slice-write-out
+    add-out
+    element-copy-out-out
+    slice-write-out-2
+    add-p
+    loop-less
+    loop-again
+    same-length
+    returns)

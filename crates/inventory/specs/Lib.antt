@@ -1,0 +1,6 @@
+pub mod Sets
+pub mod Recoverable
+pub mod Model
+pub mod Steps
+pub mod Query
+pub mod Claim

@@ -1,0 +1,96 @@
+-- The model (document 01, "The sheet": the tally): what each call answers, worked out from the opening and the calls alone.
+--
+--   Call, Reply                the calls, and what comes back: a number and, from a query, the room afterwards
+--   opened n size              a set of n files of these sizes, nothing present
+--   next t c                   the state after the call c
+--   after t cs                 the state after the calls cs
+--   Gives rule t c r           the model's reply to the call c is r
+--   GivesAll rule t cs rs      its replies to the calls cs, one after another, are rs
+-- Assumes nothing.
+use mathlib.Core.Path.{_≡_}
+use mathlib.Core.Bool.{Bool, true, false, not, cond, _&&_, _||_}
+use mathlib.Core.List.{List, [], _∷_, _++_}
+use Prim.Native.Nat.{ℕ, _<_, _≤_}
+use lib.Dec.{eqb}
+use lib.ListN.{length, drop}
+use Rattle.parity.specs.Parity.{isFile}
+use Rattle.inventory.specs.Sets.{sizeBelow}
+use Rattle.inventory.specs.Recoverable.{State, isVolume, Recoverable, IsWeights}
+
+-- "each call with its lent room and its arguments other than the sheet"
+pub data Call : Type 0 where
+  addFile removeFile addVolume removeVolume : ℕ → Call
+  count : Call
+  query : ℕ → List ℕ → Call
+
+-- what comes back: the number of a refusal or of an answer (0 accepted or recoverable), or two counts; and the room
+pub data Reply : Type 0 where
+  numbered : ℕ → Reply
+  counts : ℕ → ℕ → Reply
+  queried : ℕ → List ℕ → Reply
+
+-- "n, the sizes, and which files and volumes are in hand, none at first"
+abbrev pub opened : ℕ → (ℕ → ℕ) → State
+opened n size = record { n = n; size = size; files = λ f. false; volumes = λ v. false }
+
+abbrev pub withFiles : State → (ℕ → Bool) → State
+withFiles t s = record { n = t .n; size = t .size; files = s; volumes = t .volumes }
+
+abbrev pub withVolumes : State → (ℕ → Bool) → State
+withVolumes t s = record { n = t .n; size = t .size; files = t .files; volumes = s }
+
+abbrev pub insert : ℕ → (ℕ → Bool) → ℕ → Bool
+insert f s g = eqb g f || s g
+
+abbrev pub remove : ℕ → (ℕ → Bool) → ℕ → Bool
+remove f s g = not (eqb g f) && s g
+
+-- "else accepted, and f is in hand", "else accepted, and f no longer is", "A refused call changes nothing"
+unfoldable pub next : State → Call → State
+next t (addFile f) = cond (isFile (t .n) f && not (t .files f)) (withFiles t (insert f (t .files))) t
+next t (removeFile f) = cond (isFile (t .n) f && t .files f) (withFiles t (remove f (t .files))) t
+next t (addVolume v) = cond (isVolume (t .n) v && not (t .volumes v)) (withVolumes t (insert v (t .volumes))) t
+next t (removeVolume v) = cond (isVolume (t .n) v && t .volumes v) (withVolumes t (remove v (t .volumes))) t
+next t count = t
+next t (query f room) = t
+
+unfoldable pub after : State → List Call → State
+after t [] = t
+after t (c ∷ cs) = after (next t c) cs
+
+-- "10 if f is not 1 to n, 11 if f is in hand; else accepted", "10 the same, 11 if f is not in hand"
+abbrev pub adding : Bool → Bool → ℕ
+adding inRange has = cond inRange (cond has 11 0) 10
+
+abbrev pub removing : Bool → Bool → ℕ
+removing inRange has = cond inRange (cond has 0 11) 10
+
+module _ (rule : ℕ → ℕ → ℕ) where
+  -- "12 if not rebuildable; 14 if the room is below 255 bytes; else rebuildable, and the recipe becomes the room's first
+  -- 255 bytes .. other room bytes stay"
+  pub data GivesMissing (t : State) (f : ℕ) (room : List ℕ) : Reply → Type 0 where
+    undetermined : ¬ Recoverable rule t f → GivesMissing t f room (queried 12 room)
+    noRoom : Recoverable rule t f → length room < 255 → GivesMissing t f room (queried 14 room)
+    recoverable : Recoverable rule t f → 255 ≤ length room → (w : List ℕ) → IsWeights rule t f w
+        → GivesMissing t f room (queried 0 (w ++ drop 255 room))
+
+  -- "Ask about f: 10 if f is not 1 to n; 13 if in hand; .."
+  abbrev pub GivesQuery : State → ℕ → List ℕ → Bool → Bool → Reply → Type 0
+  GivesQuery t f room false has r = r ≡ queried 10 room
+  GivesQuery t f room true true r = r ≡ queried 13 room
+  GivesQuery t f room true false r = GivesMissing t f room r
+
+  unfoldable pub Gives : State → Call → Reply → Type 0
+  Gives t (addFile f) r = r ≡ numbered (adding (isFile (t .n) f) (t .files f))
+  Gives t (removeFile f) r = r ≡ numbered (removing (isFile (t .n) f) (t .files f))
+  Gives t (addVolume v) r = r ≡ numbered (adding (isVolume (t .n) v) (t .volumes v))
+  Gives t (removeVolume v) r = r ≡ numbered (removing (isVolume (t .n) v) (t .volumes v))
+  -- "how many files and how many volumes are in hand"
+  Gives t count r = r ≡ counts (sizeBelow 256 (t .files)) (sizeBelow 256 (t .volumes))
+  Gives t (query f room) r = GivesQuery t f room (isFile (t .n) f) (t .files f) r
+
+  unfoldable pub GivesAll : State → List Call → List Reply → Type 0
+  GivesAll t [] [] = Unit {0}
+  GivesAll t [] (r ∷ rs) = ⊥
+  GivesAll t (c ∷ cs) [] = ⊥
+  GivesAll t (c ∷ cs) (r ∷ rs) = Gives t c r × GivesAll (next t c) cs rs

@@ -1,0 +1,34 @@
+-- Sets of numbers below 256 in four words of 64 bits (document 01, "The sheet": "one bit for each file number").
+--
+--   member ws k       whether k is in the set: bit k mod 64 of word k div 64
+--   inserted k ws     the words with the bit of k set
+--   removed k ws      the words with the bit of k cleared
+--   sizeBelow m set   how many numbers below m are in a set
+--   Ones word r       r of the bits of a word are set
+-- Assumes nothing.
+use mathlib.Core.Path.{_≡_}
+use mathlib.Core.Bool.{Bool, cond}
+use mathlib.Core.List.{List}
+use Prim.Native.Nat.{ℕ, zero, suc, _+_, _-_, _/_, _%_, _^_, _<_, _≤_}
+use lib.Bits.{bitAnd, bitOr}
+use lib.Count.{ones}
+use lib.Dec.{eqb}
+use lib.ListN.{getD, set}
+
+unfoldable pub member : List ℕ → ℕ → Bool
+member ws k = eqb (getD ws (k / 64) 0 / 2 ^ (k % 64) % 2) 1
+
+unfoldable pub inserted : ℕ → List ℕ → List ℕ
+inserted k ws = set ws (k / 64) (bitOr (getD ws (k / 64) 0) (2 ^ (k % 64)))
+
+unfoldable pub removed : ℕ → List ℕ → List ℕ
+removed k ws = set ws (k / 64) (bitAnd (getD ws (k / 64) 0) (2 ^ 64 - 1 - 2 ^ (k % 64)))
+
+unfoldable pub sizeBelow : ℕ → (ℕ → Bool) → ℕ
+sizeBelow zero set = 0
+sizeBelow (suc m) set = sizeBelow m set + cond (set m) 1 0
+
+pub record Ones (word r : ℕ) : Type 0 where
+  pub is : r ≡ ones word
+  pub small : r ≤ 64
+  pub fits : word < 2 ^ 64

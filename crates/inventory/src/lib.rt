@@ -1,0 +1,212 @@
+// What of a set of files and parity volumes is present, and which missing files come back (document 01, "The sheet").
+ghost use mathlib.Core.Path.{_≡_};
+ghost use Rattle.inventory.specs.Steps.{openStep, refusedOpening, addNumber, removeNumber, addFileStep, removeFileStep, addVolumeStep, removeVolumeStep, countStep};
+
+mod query;
+mod ranges;
+mod sets;
+
+use ranges::is_file;
+use ranges::is_inventory;
+use ranges::is_volume;
+use sets::has;
+use sets::insert;
+use sets::remove;
+use sets::size;
+
+// The greatest size of a listed file, in bytes.
+const MAX_FILE_BYTES: u64 = 16777216;
+
+// Refusals: a size above the limit; a number out of range, or no inventory; present already, or not present.
+const SIZE: u32 = 1;
+
+const OUT_OF_RANGE: u32 = 10;
+
+const ALREADY: u32 = 11;
+
+// The number of files, and three sets of numbers, one bit each: the files present, the volumes present, and the files of
+// size 1 or more. Number k is bit k mod 64 of word k div 64.
+pub struct Inventory {
+    pub n: u64,
+    pub files: [u64; 4],
+    pub volumes: [u64; 4],
+    pub nonempty: [u64; 4],
+}
+
+// The next inventory, and 0 or the number of the refusal.
+pub struct Outcome {
+    pub next: Inventory,
+    pub number: u32,
+}
+
+// How many files and how many volumes are present.
+pub enum Counted {
+    Counts(u32, u32),
+    Refused(u32),
+}
+
+// What is known of a file; where it is recoverable its weights are in the lent bytes.
+pub enum Answer {
+    Present,
+    Recoverable,
+    Undetermined,
+    Refused(u32),
+}
+
+impl Inventory {
+    // An inventory of n files of these sizes, nothing present.
+    pub fn open(n: u64, sizes: &[u64]) -> Outcome
+        ensures { λ r. ⌜ r ≡ openStep n (now (sizes .entry)) ⌝ }
+    {
+        if !is_file(254, n) {
+            return refused_opening(OUT_OF_RANGE);
+        }
+        if sizes.len() as u64 != n {
+            return refused_opening(OUT_OF_RANGE);
+        }
+        let mut nonempty = [0u64; 4];
+        let mut k: usize = 0;
+        while k < sizes.len() {
+            if MAX_FILE_BYTES < sizes[k] {
+                return refused_opening(SIZE);
+            }
+            if 0 < sizes[k] {
+                let more = insert(nonempty, k as u64 + 1);
+                nonempty = more;
+            }
+            k += 1;
+        }
+        Outcome {
+            next: Inventory {
+                n,
+                files: [0u64; 4],
+                volumes: [0u64; 4],
+                nonempty,
+            },
+            number: 0,
+        }
+    }
+
+    pub fn add_file(mut self, file: u64) -> Outcome
+        ensures { λ r. ⌜ r ≡ addFileStep self file ⌝ }
+    {
+        let files = self.files;
+        let number = add_number(is_inventory(self), is_file(self.n, file), has(files, file));
+        if number != 0 {
+            return Outcome { next: self, number };
+        }
+        let more = insert(files, file);
+        self.files = more;
+        Outcome {
+            next: self,
+            number: 0,
+        }
+    }
+
+    pub fn remove_file(mut self, file: u64) -> Outcome
+        ensures { λ r. ⌜ r ≡ removeFileStep self file ⌝ }
+    {
+        let files = self.files;
+        let number = remove_number(is_inventory(self), is_file(self.n, file), has(files, file));
+        if number != 0 {
+            return Outcome { next: self, number };
+        }
+        let fewer = remove(files, file);
+        self.files = fewer;
+        Outcome {
+            next: self,
+            number: 0,
+        }
+    }
+
+    pub fn add_volume(mut self, volume: u64) -> Outcome
+        ensures { λ r. ⌜ r ≡ addVolumeStep self volume ⌝ }
+    {
+        let volumes = self.volumes;
+        let number = add_number(
+            is_inventory(self),
+            is_volume(self.n, volume),
+            has(volumes, volume),
+        );
+        if number != 0 {
+            return Outcome { next: self, number };
+        }
+        let more = insert(volumes, volume);
+        self.volumes = more;
+        Outcome {
+            next: self,
+            number: 0,
+        }
+    }
+
+    pub fn remove_volume(mut self, volume: u64) -> Outcome
+        ensures { λ r. ⌜ r ≡ removeVolumeStep self volume ⌝ }
+    {
+        let volumes = self.volumes;
+        let number = remove_number(
+            is_inventory(self),
+            is_volume(self.n, volume),
+            has(volumes, volume),
+        );
+        if number != 0 {
+            return Outcome { next: self, number };
+        }
+        let fewer = remove(volumes, volume);
+        self.volumes = fewer;
+        Outcome {
+            next: self,
+            number: 0,
+        }
+    }
+
+    // How many files and volumes are present.
+    pub fn count(self) -> Counted
+        ensures { λ r. ⌜ r ≡ countStep self ⌝ }
+    {
+        if !is_inventory(self) {
+            return Counted::Refused(OUT_OF_RANGE);
+        }
+        let files = self.files;
+        let volumes = self.volumes;
+        Counted::Counts(size(files), size(volumes))
+    }
+}
+
+// The inventory of zeros, handed back with a refusal.
+fn refused_opening(number: u32) -> Outcome
+    ensures { λ r. ⌜ r ≡ refusedOpening number ⌝ }
+{
+    Outcome {
+        next: Inventory {
+            n: 0,
+            files: [0u64; 4],
+            volumes: [0u64; 4],
+            nonempty: [0u64; 4],
+        },
+        number,
+    }
+}
+
+fn add_number(valid: bool, in_range: bool, has: bool) -> u32
+    ensures { λ r. ⌜ r ≡ addNumber valid in_range has ⌝ }
+{
+    if !valid {
+        return OUT_OF_RANGE;
+    }
+    if !in_range {
+        return OUT_OF_RANGE;
+    }
+    if has { ALREADY } else { 0 }
+}
+
+fn remove_number(valid: bool, in_range: bool, has: bool) -> u32
+    ensures { λ r. ⌜ r ≡ removeNumber valid in_range has ⌝ }
+{
+    if !valid {
+        return OUT_OF_RANGE;
+    }
+    if !in_range {
+        return OUT_OF_RANGE;
+    }
+    if has { 0 } else { ALREADY }
+}

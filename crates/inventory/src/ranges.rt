@@ -1,0 +1,64 @@
+// Which numbers are in range, and which inventories calls give (document 01, "What comes back", number 10).
+ghost use mathlib.Core.Path.{_≡_};
+ghost use Rattle.parity.specs.Parity.{isFile};
+ghost use Rattle.inventory.specs.Recoverable.{isVolume};
+ghost use Rattle.inventory.specs.Steps.{within, isInventory};
+use crate::Inventory;
+use crate::sets::has;
+
+// Whether opening and accepted calls could have given this inventory.
+pub fn is_inventory(s: Inventory) -> bool
+    ensures { λ r. ⌜ r ≡ isInventory s ⌝ }
+{
+    let n = s.n;
+    if !is_file(254, n) {
+        return false;
+    }
+    let files = s.files;
+    if !within(n, files) {
+        return false;
+    }
+    let nonempty = s.nonempty;
+    if !within(n, nonempty) {
+        return false;
+    }
+    let volumes = s.volumes;
+    within(255 - n, volumes)
+}
+
+pub fn is_file(n: u64, file: u64) -> bool
+    ensures { λ r. ⌜ r ≡ isFile n file ⌝ }
+{
+    if file < 1 {
+        return false;
+    }
+    file <= n
+}
+
+pub fn is_volume(n: u64, volume: u64) -> bool
+    ensures { λ r. ⌜ r ≡ isVolume n volume ⌝ }
+{
+    if volume < 1 {
+        return false;
+    }
+    if 255 < n {
+        return false;
+    }
+    volume <= 255 - n
+}
+
+// Whether each number of the set is one of 1 to m.
+fn within(m: u64, set: [u64; 4]) -> bool
+    ensures { λ r. ⌜ r ≡ within m set ⌝ }
+{
+    let mut k: u64 = 0;
+    while k < 256 {
+        if has(set, k) {
+            if !is_file(m, k) {
+                return false;
+            }
+        }
+        k += 1;
+    }
+    true
+}

@@ -1,0 +1,39 @@
+-- `par1_c::inventories::par1_query` meets its contract.
+-- Assumes nothing.
+use mathlib.Core.Path.{refl, subst}
+use borrow.Author.Tests.{eq-eqb, ne-eqb}
+use Rattle.par1_c.specs.Inventories.{otherLength, answered}
+use denote.Ref.{now}
+use Rattle.inventory.specs.Query.{Queried}
+use Rattle.inventory.specs.declared.Inventory.{Inventory}
+use borrow.Author.Needs.{needs}
+use Rattle.par1_c.proofs.inventories.par1_query.Statement.{statement}
+use Rattle.par1_c.proofs.inventories.par1_query.Tie as tie
+
+returns : tie.Need-returns
+returns c = otherLength (ne-eqb _ _ (c .if1 .taken)) refl refl
+
+loaded-requires : tie.Need-loaded-requires
+loaded-requires c κs = search needs
+
+query-requires : tie.Need-query-requires
+query-requires c κs = search needs
+
+answer-number-requires : tie.Need-answer-number-requires
+answer-number-requires c κs = search needs
+
+same-length : tie.Need-same-length
+same-length c = search needs
+
+returns-2 : tie.Need-returns-2
+returns-2 c =
+    let a = c .before .before .before .before .before .before .before .before .before .args in
+    let q = c .before .before .before .query in
+    answered (eq-eqb _ _ (c .before .before .before .before .before .before .if1 .left)) (q .result)
+    (subst (λ (s : Inventory). Queried s (a .file) (now (a .out)) (q .result) (q .last .1 .1 .0)) (c .before .before .before .before .before .loaded .ensures) (q .ensures))
+    (c .answer-number .ensures)
+
+pub par1-query-spec : {M : Type 1} → statement M
+par1-query-spec =
+    tie.close
+    (tie.spec returns loaded-requires query-requires answer-number-requires same-length returns-2)

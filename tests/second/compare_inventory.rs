@@ -1,0 +1,148 @@
+//! Inventories: random lists of calls, refused ones too, each answer and each lent byte compared; inventories that no calls give; the
+//! worked examples; and rebuilt files.
+
+use crate::inventory::{Inventory, LENGTH};
+use crate::{calls, expected, field, Counts, Random};
+
+/// Every call on these bytes as an inventory, which the second program reads as well.
+fn every_call(counts: &mut Counts, random: &mut Random, bytes: &[u8]) {
+    let numbers = [0, 1, 2, random.below(26) as u64, random.below(256) as u64, 254, 255, 256, u64::MAX];
+    for number in numbers {
+        for (volume, add) in [(false, true), (false, false), (true, true), (true, false)] {
+            let what = || format!("change {volume} {add} {number} of {bytes:?}");
+            counts.same(what, calls::change(bytes, volume, add, number), expected::change(bytes, volume, add, number));
+        }
+        let n = [0, 254, 255, 300][random.below(4)];
+        let room = random.bytes(n);
+        let what = || format!("query {number} of {bytes:?}");
+        counts.same(what, calls::query(bytes, number, &room), expected::query(bytes, number, &room));
+    }
+    for room in [0, 15, 16, 20] {
+        let room = vec![5; room];
+        counts.same(|| format!("count of {bytes:?}"), calls::count(bytes, &room), expected::count(bytes, &room));
+    }
+}
+
+fn opening(counts: &mut Counts, random: &mut Random) {
+    for n in [0, 1, 2, 24, 253, 254, 255, 256, 1 << 32, u64::MAX] {
+        for count in [n as usize % 300, 0, 1, 24, 254] {
+            for _ in 0..4 {
+                let size = |r: &mut Random| [0, 1, 16_777_216, 16_777_217, u64::MAX][r.below(if n % 2 == 0 { 5 } else { 3 })];
+                let mut sizes: Vec<u8> = (0..count).flat_map(|_| size(random).to_le_bytes()).collect();
+                if random.below(8) == 0 {
+                    sizes.push(0);
+                }
+                let n_of_room = [0, 103, 104, 110][random.below(4)];
+                let room = random.bytes(n_of_room);
+                let what = || format!("open {n} with {count} sizes");
+                counts.same(what, calls::open(n, &sizes, &room), expected::open(n, &sizes, &room));
+            }
+        }
+    }
+}
+
+/// A list of calls on one inventory; each goes to the bytes last handed back.
+fn lists(counts: &mut Counts, random: &mut Random) {
+    for round in 0..300 {
+        let n = 1 + random.below(if round % 30 == 0 { 60 } else { 10 });
+        let sizes: Vec<u8> = (0..n).flat_map(|_| (random.below(4) as u64).to_le_bytes()).collect();
+        let (_, mut bytes) = calls::open(n as u64, &sizes, &[0; LENGTH]);
+        for _ in 0..60 {
+            let (volume, add) = (random.below(2) == 0, random.below(4) > 0);
+            let number = random.below(if volume { 14 } else { n + 2 }) as u64;
+            let got = calls::change(&bytes, volume, add, number);
+            counts.same(|| format!("change {volume} {add} {number}"), got.clone(), expected::change(&bytes, volume, add, number));
+            bytes = got.1;
+            let f = random.below(n + 2) as u64;
+            let n_of_room = [254, 255, 260][random.below(3)];
+            let room = random.bytes(n_of_room);
+            counts.same(|| format!("query {f} of {bytes:?}"), calls::query(&bytes, f, &room), expected::query(&bytes, f, &room));
+        }
+        every_call(counts, random, &bytes);
+    }
+}
+
+/// Bytes that no calls give: a spare bit, an n out of range, another length.
+fn invalid(counts: &mut Counts, random: &mut Random) {
+    for _ in 0..200 {
+        let n = 1 + random.below(254);
+        let sizes: Vec<u8> = (0..n).flat_map(|_| (random.below(2) as u64).to_le_bytes()).collect();
+        let (_, mut bytes) = calls::open(n as u64, &sizes, &[0; LENGTH]);
+        bytes[random.below(LENGTH)] ^= 1 << random.below(8);
+        if n <= 12 || Inventory::parse(&bytes).is_none() {
+            every_call(counts, random, &bytes);
+        }
+    }
+    for n in [0, 1, 103, 105] {
+        every_call(counts, random, &vec![0; n]);
+    }
+    every_call(counts, random, &[0; LENGTH]);
+}
+
+/// Files rebuilt by following the weights, in a random order of the fragments, from a set whose contents are known.
+fn rebuilt(counts: &mut Counts, random: &mut Random) {
+    for _ in 0..200 {
+        let n = 1 + random.below(9);
+        let mut files = vec![];
+        for _ in 0..n {
+            let size = random.below(40);
+            files.push(random.bytes(size));
+        }
+        let sizes: Vec<u8> = files.iter().flat_map(|f| (f.len() as u64).to_le_bytes()).collect();
+        let (_, mut bytes) = calls::open(n as u64, &sizes, &[0; LENGTH]);
+        let mut fragments: Vec<(usize, Vec<u8>)> = vec![];
+        for f in 1..=n {
+            if random.below(2) == 0 {
+                bytes = calls::change(&bytes, false, true, f as u64).1;
+                fragments.push((f, files[f - 1].clone()));
+            }
+        }
+        for v in 1..=6 {
+            if random.below(2) == 0 {
+                bytes = calls::change(&bytes, true, true, v as u64).1;
+                let zeros = vec![0; random.below(3)];
+                fragments.push((n + v, [field::parity(&files, v as u64), zeros].concat()));
+            }
+        }
+        for f in 1..=n {
+            let (number, weights) = calls::query(&bytes, f as u64, &[0; 255]);
+            if number == 0 {
+                let mut buffer = vec![0; files[f - 1].len()];
+                while fragments.len() > 1 && random.below(3) > 0 {
+                    let (i, j) = (random.below(fragments.len()), random.below(fragments.len()));
+                    fragments.swap(i, j);
+                }
+                for (place, fragment) in &fragments {
+                    calls::mul_add(weights[place - 1], fragment, &mut buffer);
+                }
+                counts.same(|| format!("file {f} of {n} rebuilt"), buffer, files[f - 1].clone());
+            }
+        }
+    }
+}
+
+/// P10 to P12: files 7 and 24 of 24, and 5, with volumes 1 and 4, then 2 too.
+fn seven_and_twenty_four(counts: &mut Counts) {
+    let sizes: Vec<u8> = (0..24).flat_map(|_| 9u64.to_le_bytes()).collect();
+    let (_, mut bytes) = calls::open(24, &sizes, &[0; LENGTH]);
+    for f in (1..=24).filter(|f| ![7, 24].contains(f)) {
+        bytes = calls::change(&bytes, false, true, f).1;
+    }
+    for v in [1, 4] {
+        bytes = calls::change(&bytes, true, true, v).1;
+    }
+    let numbers = |bytes: &[u8]| [5, 7, 24].map(|f| calls::query(bytes, f, &[0; 255]).0);
+    counts.same(|| "P10".into(), numbers(&bytes), [13, 12, 12]);
+    bytes = calls::change(&bytes, false, false, 5).1;
+    counts.same(|| "P11".into(), numbers(&bytes), [0, 12, 12]);
+    bytes = calls::change(&bytes, true, true, 2).1;
+    counts.same(|| "P12".into(), numbers(&bytes), [0, 0, 0]);
+}
+
+pub fn run(counts: &mut Counts, random: &mut Random) {
+    opening(counts, random);
+    lists(counts, random);
+    invalid(counts, random);
+    rebuilt(counts, random);
+    seven_and_twenty_four(counts);
+}
