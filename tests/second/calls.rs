@@ -1,5 +1,7 @@
 //! The C library's calls, each on lent bytes with guard bytes on both sides.
 
+use std::sync::atomic::{AtomicU64, Ordering};
+
 extern "C" {
     fn par1_md5(bytes: *const u8, bytes_len: usize, out: *mut u8, out_len: usize) -> u32;
     fn par1_inverse(x: u8, out: *mut u8, out_len: usize) -> u32;
@@ -20,6 +22,19 @@ extern "C" {
 
 const GUARD: usize = 32;
 
+/// How often each number came back, 0 to 15.
+static CAME_BACK: [AtomicU64; 16] = [const { AtomicU64::new(0) }; 16];
+
+fn counted(number: u32) -> u32 {
+    CAME_BACK[number as usize].fetch_add(1, Ordering::Relaxed);
+    number
+}
+
+/// The counts of the numbers that came back so far.
+pub fn came_back() -> Vec<u64> {
+    CAME_BACK.iter().map(|n| n.load(Ordering::Relaxed)).collect()
+}
+
 /// Lends a copy of `room` with guard bytes around it: the call's number, and the room after it. A guard that changed ends the run.
 fn lent(room: &[u8], call: impl FnOnce(*mut u8, usize) -> u32) -> (u32, Vec<u8>) {
     let mut space = vec![0xa5; GUARD];
@@ -29,7 +44,7 @@ fn lent(room: &[u8], call: impl FnOnce(*mut u8, usize) -> u32) -> (u32, Vec<u8>)
     let end = GUARD + room.len();
     assert!(space[..GUARD].iter().all(|&b| b == 0xa5), "a byte before the room was written");
     assert!(space[end..].iter().all(|&b| b == 0x5a), "a byte past the room was written");
-    (number, space[GUARD..end].to_vec())
+    (counted(number), space[GUARD..end].to_vec())
 }
 
 pub fn md5(bytes: &[u8], room: &[u8]) -> (u32, Vec<u8>) {
@@ -53,7 +68,7 @@ pub fn read(file: &[u8], room: &[u8]) -> (u32, Vec<u8>) {
 }
 
 pub fn check(entry: &[u8], contents: &[u8]) -> u32 {
-    unsafe { par1_check(entry.as_ptr(), entry.len(), contents.as_ptr(), contents.len()) }
+    counted(unsafe { par1_check(entry.as_ptr(), entry.len(), contents.as_ptr(), contents.len()) })
 }
 
 pub fn write_entry(contents: &[u8], status: u64, name: &[u8], room: &[u8]) -> (u32, Vec<u8>) {

@@ -63,6 +63,10 @@ fn main() {
         run(&mut counts, &mut random);
         println!("{name}: {} calls compared", counts.passed + counts.failed - before);
     }
+    for (number, times) in calls::came_back().into_iter().enumerate() {
+        println!("number {number} came back {times} times");
+        counts.same(|| format!("number {number} came back"), times > 0, true);
+    }
     println!("{} passed, {} failed", counts.passed, counts.failed);
     std::process::exit((counts.failed > 0) as i32);
 }
