@@ -1,11 +1,11 @@
--- The loops of this crate, one step at a time: `-none` before the first, `-more` one further.
+-- The loops of this crate, one step further each.
 --
---   part-at                            what stands in a part of a list that was put back
---   diagonal-more                      the diagonal
---   product-none, product-more         a row times the matrix
---   pivot-none, pivot-more             the search for a pivot
---   swept-none, swept-more             the sweep
---   weight-none, weight-more           the weights
+--   diagonal-more              the diagonal
+--   product-more               a row times the matrix
+--   pivot-more                 the search for a pivot
+--   swept-none, swept-more     the sweep, before its first row and one row further
+--   solvable-by                the answer, by the pivot that was found
+--   weight-more                the weights
 -- Assumes nothing.
 use mathlib.Core.Path.{_≡_, refl, sym, ap, ap₂, _∙_, subst}
 use mathlib.Core.Bool.{Bool, cond}

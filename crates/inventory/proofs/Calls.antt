@@ -3,7 +3,6 @@
 --   after-n                   calls keep the number of files
 --   after-told                calls that add what is present, and nothing else, lead to the same state
 --   gives-one, givesAll-one   the model gives one reply at most to each call: it determines each reply
---   gives-some                and it gives one
 -- Assumes nothing.
 use mathlib.Core.Path.{_≡_, refl, sym, ap, ap₂, _∙_, subst, fun-ext}
 use mathlib.Core.Bool.{Bool, true, false, not, cond, _&&_, _||_, false≢true}
@@ -169,10 +168,10 @@ or-false : (a : Bool) → (a || false) ≡ a
 or-false true = refl
 or-false false = refl
 
-abbrev holding : State → (ℕ → Bool) → (ℕ → Bool) → State
+abbrev pub holding : State → (ℕ → Bool) → (ℕ → Bool) → State
 holding t fs vs = record { n = t .n; size = t .size; files = fs; volumes = vs }
 
-after-adds : (cs : List Call) (t : State) → OnlyAdds cs
+pub after-adds : (cs : List Call) (t : State) → OnlyAdds cs
     → ((f : ℕ) → addsFile f cs ≡ true → isFile (t .n) f ≡ true) → ((v : ℕ) → addsVolume v cs ≡ true → isVolume (t .n) v ≡ true)
     → after t cs ≡ holding t (λ f. addsFile f cs || t .files f) (λ v. addsVolume v cs || t .volumes v)
 unfolding after OnlyAdds addsFile addsVolume

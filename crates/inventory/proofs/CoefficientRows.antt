@@ -3,7 +3,7 @@
 --   set-below                  one entry more of a list that is filled from the front
 --   first-row                  1 for each chosen file: the coefficients in the first volume
 --   next-row                   times the file numbers: those in the next volume
---   advanced-none, advanced-more, advanced-all     the loop of `advance`
+--   advanced-all               the end of the loop of `advance`
 --   table-row, table-absent    the rows of the volumes present, and of the others
 --   table-matrix               the table of an inventory is the matrix of its state
 -- Assumes nothing.

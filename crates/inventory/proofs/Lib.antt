@@ -11,3 +11,5 @@ pub mod Queries
 pub mod Representation
 pub mod Calls
 pub mod Condition
+pub mod Determined
+pub mod Reachable

@@ -1,9 +1,9 @@
 -- What the calls hand back, case by case.
 --
---   step-refused, step-accepted                    adding and removing
+--   step-refused, step-accepted, number-same       adding and removing
 --   first-fails, first-holds                       a row of tests
 --   open-out-of-range, open-miscounted, open-too-large, open-accepted     opening
---   nonempty-none, nonempty-more                   the loop of opening
+--   nonempty-more, nonempty-same                   the loop of opening
 -- Assumes nothing.
 use mathlib.Core.Path.{_≡_, sym, ap, ap₂, _∙_}
 use mathlib.Core.Logic.{_≢_}

@@ -1,8 +1,8 @@
 -- The parts of a query, put together.
 --
---   Columns s             the files that are columns, by their bits
+--   columns s             the files that are columns, by their bits
 --   volume-reduced        one volume more, taken or left out
---   sums-none, sums-more  the loop of `file_weights`
+--   sums-more, all-chosen the loop of `file_weights`, and the files that it takes
 --   written-none, written-file, written-volume     the loop of `write`
 -- Assumes nothing.
 use mathlib.Core.Path.{_≡_, refl, sym, ap, ap₂, _∙_, subst}

@@ -40,7 +40,7 @@ pub record Represents (size : ℕ → ℕ) (t : State) (s : Inventory) : Type 0 
 
 -- ---- sets in range
 
-within-bits : (m : ℕ) (ws : List ℕ) → within m ws ≡ true → (k : ℕ) → k < 256 → member ws k ≡ true → isFile m k ≡ true
+pub within-bits : (m : ℕ) (ws : List ℕ) → within m ws ≡ true → (k : ℕ) → k < 256 → member ws k ≡ true → isFile m k ≡ true
 unfolding within
 within-bits m ws h k l e =
     subst (λ (b : Bool). (not b || isFile m k) ≡ true) e (all-at 256 (λ k. not (member ws k) || isFile m k) h k l)
@@ -68,20 +68,20 @@ within-removed m f ws w l h =
 
 -- the parts of a valid inventory
 module _ (s : Inventory) (valid : isInventory s ≡ true) where
-  n-valid : isFile 254 (s .n) ≡ true
+  pub n-valid : isFile 254 (s .n) ≡ true
   unfolding isInventory
   n-valid = and-true (isFile 254 (s .n)) _ valid .0
 
-  files-valid : within (s .n) (s .files) ≡ true
+  pub files-valid : within (s .n) (s .files) ≡ true
   unfolding isInventory
   files-valid = and-true (within (s .n) (s .files)) _ (and-true (isFile 254 (s .n)) _ valid .1) .0
 
-  nonempty-valid : within (s .n) (s .nonempty) ≡ true
+  pub nonempty-valid : within (s .n) (s .nonempty) ≡ true
   unfolding isInventory
   nonempty-valid =
       and-true (within (s .n) (s .nonempty)) _ (and-true (within (s .n) (s .files)) _ (and-true (isFile 254 (s .n)) _ valid .1) .1) .0
 
-  volumes-valid : within (255 - s .n) (s .volumes) ≡ true
+  pub volumes-valid : within (255 - s .n) (s .volumes) ≡ true
   unfolding isInventory
   volumes-valid =
       and-true (within (s .n) (s .nonempty)) _ (and-true (within (s .n) (s .files)) _ (and-true (isFile 254 (s .n)) _ valid .1) .1) .1
@@ -305,10 +305,10 @@ nonempty-words sizes (suc k) = go (leb 1 (getD sizes k 0)) (nonempty-words sizes
     go true e = length-inserted (suc k) (nonemptyOf sizes k) ∙ e
     go false e = e
 
-no-file : (m f : ℕ) → m < f → isFile m f ≡ false
+pub no-file : (m f : ℕ) → m < f → isFile m f ≡ false
 no-file m f l = ap (λ (b : Bool). leb 1 f && b) (lt-leb f m l) ∙ and-false (leb 1 f)
 
-file-more : (m f : ℕ) → f ≢ suc m → isFile (suc m) f ≡ isFile m f
+pub file-more : (m f : ℕ) → f ≢ suc m → isFile (suc m) f ≡ isFile m f
 file-more m f q =
     ap (λ (b : Bool). leb 1 f && b)
     (elim (decLe f m) [
@@ -316,7 +316,7 @@ file-more m f q =
       | no h ↦ lt-leb f (suc m) (omega arith) ∙ sym (lt-leb f m (omega arith))
     ])
 
-nonempty-member : (sizes : List ℕ) (k : ℕ) → k < 256 → (f : ℕ) → member (nonemptyOf sizes k) f ≡ (isFile k f && leb 1 (sizeIn sizes f))
+pub nonempty-member : (sizes : List ℕ) (k : ℕ) → k < 256 → (f : ℕ) → member (nonemptyOf sizes k) f ≡ (isFile k f && leb 1 (sizeIn sizes f))
 unfolding nonemptyOf
 nonempty-member sizes zero l f =
     member-none f

@@ -6,24 +6,27 @@
 --   inserted-above, removed-above              nothing changes for a number above 255
 --   member-inserted, member-removed, member-none   what is in the set then
 --   size-by-ones                      the counts of ones of the words sum to the size of the set
+--   Words, words-same                 words of 64 bits; two sets with the same members are the same words
+--   words-none, words-inserted        the words that calls give
 -- Assumes nothing.
-use mathlib.Core.Path.{_≡_, refl, sym, ap, ap₂, _∙_}
+use mathlib.Core.Path.{_≡_, refl, sym, ap, ap₂, _∙_, subst}
 use mathlib.Core.Logic.{_≢_}
 use mathlib.Core.Bool.{Bool, true, false, not, cond, _&&_, _||_}
 use mathlib.Core.List.{List}
 use Prim.Native.Nat.{ℕ, zero, suc, _<_, _≤_, _+_, _*_, _-_, _/_, _%_, _^_, min, max}
 use native.Mathlib.Nat.{mod-lt, zero-lt-suc, not-suc-le-zero, le-of-suc-le-suc, mod-eq-of-lt, pow-suc, mul-comm, div-div-eq-div-mul, add-suc, zero-add, add-zero}
 use native.Mathlib.Omega.{arith}
-use native.Mathlib.Decide.{ℕ-discrete}
+use native.Mathlib.Decide.{ℕ-discrete, decLt}
 use lib.Arith.{digits-mod}
 use lib.Pow.{pow-lt}
-use lib.ListN.{length, getD, set, replicate, length-set, List·getD-eq-default}
-use lib.Seq.{getD-set-same, getD-set-other, set-out}
-use lib.Bits.{bitAnd, bitOr, or-shr, or-step, and-shr, and-step, and-mask}
+use lib.ListN.{length, getD, set, replicate, length-set, List·getD-eq-default, length-replicate}
+use lib.Seq.{getD-set-same, getD-set-other, set-out, ext-getD}
+use lib.Bits.{bitAnd, bitOr, or-shr, or-step, and-shr, and-step, and-mask, or-lt}
 use lib.Count.{ones, ones-step}
 use lib.Dec.{eqb}
 use borrow.Author.Tests.{eq-eqb, ne-eqb}
 use Rattle.finite.proofs.Tests.{bit-cases}
+use Rattle.elimination.proofs.Reductions.{zeros-at}
 use Rattle.inventory.specs.Sets.{member, inserted, removed, sizeBelow}
 
 -- ---- one bit of a word
@@ -284,3 +287,60 @@ below-four P a b c d (suc zero) l = b
 below-four P a b c d (suc (suc zero)) l = c
 below-four P a b c d (suc (suc (suc zero))) l = d
 below-four P a b c d (suc (suc (suc (suc j)))) l = absurd (omega arith)
+
+-- ---- words of 64 bits
+
+-- four words of 64 bits: what an array of an inventory holds
+pub record Words (ws : List ℕ) : Type 0 where
+  pub four : length ws ≡ 4
+  pub fits : (j : ℕ) → getD ws j 0 < 2 ^ 64
+
+bits-same : (n w w′ : ℕ) → w < 2 ^ n → w′ < 2 ^ n → ((b : ℕ) → b < n → bit w b ≡ bit w′ b) → w ≡ w′
+bits-same zero w w′ h h′ e = omega arith
+bits-same (suc n) w w′ h h′ e =
+    let half : w / 2 ≡ w′ / 2 =
+    bits-same n (w / 2) (w′ / 2) (omega arith) (omega arith)
+    (λ b l. sym (bit-suc w b) ∙ e (suc b) (omega arith) ∙ bit-suc w′ b) in
+    let odd : w % 2 ≡ w′ % 2 = sym (bit-zero w) ∙ e 0 (omega arith) ∙ bit-zero w′ in
+    omega arith
+
+pub words-same : (ws ws′ : List ℕ) → Words ws → Words ws′ → ((k : ℕ) → k < 256 → member ws k ≡ member ws′ k) → ws ≡ ws′
+unfolding member bit one-if
+words-same ws ws′ W W′ e =
+    ext-getD 0 ws ws′ (W .four ∙ sym (W′ .four))
+    (λ j l.
+    let f = W .four in
+    bits-same 64 (getD ws j 0) (getD ws′ j 0) (W .fits j) (W′ .fits j)
+    (λ b lb.
+    let d : (64 * j + b) / 64 ≡ j = omega arith in
+    let r : (64 * j + b) % 64 ≡ b = omega arith in
+    let same : eqb (bit (getD ws j 0) b) 1 ≡ eqb (bit (getD ws′ j 0) b) 1 =
+    sym (ap₂ (λ (i k : ℕ). eqb (bit (getD ws i 0) k) 1) d r) ∙ e (64 * j + b) (omega arith)
+    ∙ ap₂ (λ (i k : ℕ). eqb (bit (getD ws′ i 0) k) 1) d r in
+    sym (bit-is-one (bit (getD ws j 0) b) (bit-small (getD ws j 0) b)) ∙ ap one-if same
+    ∙ bit-is-one (bit (getD ws′ j 0) b) (bit-small (getD ws′ j 0) b)))
+
+pub words-none : Words (replicate 4 0)
+words-none = record {
+  four = length-replicate {A = ℕ} 4 0;
+  fits = λ j. subst (λ (x : ℕ). x < 2 ^ 64) (sym (zeros-at 4 j)) (omega arith);
+}
+
+pub words-inserted : (k : ℕ) (ws : List ℕ) → Words ws → Words (inserted k ws)
+unfolding inserted
+words-inserted k ws W = record {
+  four = length-set ws (k / 64) (bitOr (getD ws (k / 64) 0) (2 ^ (k % 64))) ∙ W .four;
+  fits = λ j. elim (decLt (k / 64) (length ws)) [
+    | yes l ↦ elim (ℕ-discrete j (k / 64)) [
+      | yes e ↦
+          subst (λ (x : ℕ). x < 2 ^ 64)
+          (sym (ap (λ (i : ℕ). getD (set ws (k / 64) word) i 0) e ∙ getD-set-same ws (k / 64) word 0 l))
+          (or-lt 64 (getD ws (k / 64) 0) (2 ^ (k % 64)) (W .fits (k / 64)) (pow-lt {i = k % 64} {j = 64} (omega arith)))
+      | no q ↦ subst (λ (x : ℕ). x < 2 ^ 64) (sym (getD-set-other ws (k / 64) j word 0 q)) (W .fits j)
+    ]
+    | no q ↦ subst (λ (l : List ℕ). getD l j 0 < 2 ^ 64) (sym (set-out ws (k / 64) word (omega arith))) (W .fits j)
+  ];
+}
+  where
+    word : ℕ
+    word = bitOr (getD ws (k / 64) 0) (2 ^ (k % 64))

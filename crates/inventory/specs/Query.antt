@@ -8,10 +8,10 @@
 --   tableOf s v i           the coefficient of file i + 1 in volume v + 1, if it is a column and the volume is present, else 0
 --   MaskedRow chosen v row      the coefficients of the chosen files in volume v + 1
 --   Advanced row row′       each entry i of the row times i + 1
---   VolumeTaken             a row added to the elimination, if its volume is present
+--   VolumeTaken present row number m owners m′ owners′     a row added to the elimination, if its volume is present
 --   Solved s f found ws     whether the rows have weights that sum to file f, and these weights by volume number
---   fileWeight s ws m i     the sum, over the first m volumes, of weight times the coefficient of file i + 1, if it is present
---   Written n files ws room room′     the weights in the room
+--   fileWeight files ws m i     the sum, over the first m volumes, of weight times the coefficient of file i + 1, if it is present
+--   Written n files ws room room′ p     the first p weights of n files and the volumes, in the room
 -- Assumes nothing.
 use mathlib.Core.Path.{_≡_}
 use mathlib.Core.Bool.{Bool, true, false, not, cond, _&&_}

@@ -54,7 +54,8 @@ pub enum Answer {
 }
 
 impl Inventory {
-    // An inventory of n files of these sizes, nothing present.
+    // An inventory of n files of these sizes, nothing present: 10 unless n is 1 to 254 and there are n sizes, then 1 for a
+    // size above the limit.
     pub fn open(n: u64, sizes: &[u64]) -> Outcome
         ensures { λ r. ⌜ r ≡ openStep n (now (sizes .entry)) ⌝ }
     {
@@ -87,6 +88,7 @@ impl Inventory {
         }
     }
 
+    // The inventory with a file present: 10 for a number out of range, 11 for one that is present.
     pub fn add_file(mut self, file: u64) -> Outcome
         ensures { λ r. ⌜ r ≡ addFileStep self file ⌝ }
     {
@@ -103,6 +105,7 @@ impl Inventory {
         }
     }
 
+    // The inventory with a file missing: 10 for a number out of range, 11 for one that is missing.
     pub fn remove_file(mut self, file: u64) -> Outcome
         ensures { λ r. ⌜ r ≡ removeFileStep self file ⌝ }
     {
@@ -119,6 +122,7 @@ impl Inventory {
         }
     }
 
+    // The inventory with a volume present, with the same numbers.
     pub fn add_volume(mut self, volume: u64) -> Outcome
         ensures { λ r. ⌜ r ≡ addVolumeStep self volume ⌝ }
     {
@@ -139,6 +143,7 @@ impl Inventory {
         }
     }
 
+    // The inventory with a volume missing, with the same numbers.
     pub fn remove_volume(mut self, volume: u64) -> Outcome
         ensures { λ r. ⌜ r ≡ removeVolumeStep self volume ⌝ }
     {
@@ -187,6 +192,7 @@ fn refused_opening(number: u32) -> Outcome
     }
 }
 
+// The number of an addition: 10, then 11.
 fn add_number(valid: bool, in_range: bool, has: bool) -> u32
     ensures { λ r. ⌜ r ≡ addNumber valid in_range has ⌝ }
 {
@@ -199,6 +205,7 @@ fn add_number(valid: bool, in_range: bool, has: bool) -> u32
     if has { ALREADY } else { 0 }
 }
 
+// The number of a removal: 10, then 11.
 fn remove_number(valid: bool, in_range: bool, has: bool) -> u32
     ensures { λ r. ⌜ r ≡ removeNumber valid in_range has ⌝ }
 {

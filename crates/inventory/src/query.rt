@@ -24,7 +24,7 @@ const WEIGHTS: usize = 255;
 
 impl Inventory {
     // What is known of a file. Where it is recoverable, its weights become the first 255 lent bytes.
-    // Takes some 66,600 bytes of stack, 65,536 of them for the matrix.
+    // The matrix of its elimination takes 65,536 bytes of stack.
     pub fn query(self, file: u64, out: &mut [u8]) -> Answer
         ensures { λ r. ⌜ Queried self file (now (out .entry)) r (now (out .exit)) ⌝ }
     {
