@@ -121,6 +121,48 @@ fn rebuilt(counts: &mut Counts, random: &mut Random) {
     }
 }
 
+/// Every set of contents of two files of one byte, and of a third that is empty: a file is recoverable exactly when no two sets that are
+/// alike in what is present differ in it.
+fn brute_force(counts: &mut Counts) {
+    for sizes in [&[1, 1][..], &[1, 0], &[0, 1], &[1, 1, 0], &[0, 1, 1], &[1, 0, 1]] {
+        let n = sizes.len();
+        let bytes: Vec<u8> = sizes.iter().flat_map(|&s: &u64| s.to_le_bytes()).collect();
+        let (_, opened) = calls::open(n as u64, &bytes, &[0; LENGTH]);
+        for present in 0..1 << (n + 3) {
+            let mut inventory = opened.clone();
+            for k in (0..n + 3).filter(|k| present >> k & 1 == 1) {
+                let (volume, number) = if k < n { (false, k + 1) } else { (true, k - n + 1) };
+                inventory = calls::change(&inventory, volume, true, number as u64).1;
+            }
+            for f in (1..=n).filter(|f| present >> (f - 1) & 1 == 0) {
+                let what = || format!("file {f} of sizes {sizes:?}, present {present:b}");
+                let answered = calls::query(&inventory, f as u64, &[0; 255]).0 == 0;
+                counts.same(what, answered, determined(sizes, present, f));
+            }
+        }
+    }
+}
+
+/// Whether all sets of contents that show the same bytes in what is present have the same file f.
+fn determined(sizes: &[u64], present: usize, f: usize) -> bool {
+    let n = sizes.len();
+    let filled: Vec<usize> = (0..n).filter(|&g| sizes[g] == 1).collect();
+    let mut seen = std::collections::HashMap::new();
+    for contents in 0..1usize << (8 * filled.len()) {
+        let mut file = vec![0u8; n];
+        filled.iter().enumerate().for_each(|(i, &g)| file[g] = (contents >> (8 * i)) as u8);
+        let mut shown = 0u64;
+        for k in (0..n + 3).filter(|k| present >> k & 1 == 1) {
+            let byte = if k < n { file[k] } else { (0..n).fold(0, |sum, g| sum ^ field::product(field::coefficient(g as u8 + 1, (k - n + 1) as u8), file[g])) };
+            shown = shown << 8 | byte as u64;
+        }
+        if *seen.entry(shown).or_insert(file[f - 1]) != file[f - 1] {
+            return false;
+        }
+    }
+    true
+}
+
 /// P10 to P12: files 7 and 24 of 24, and 5, with volumes 1 and 4, then 2 too.
 fn seven_and_twenty_four(counts: &mut Counts) {
     let sizes: Vec<u8> = (0..24).flat_map(|_| 9u64.to_le_bytes()).collect();
@@ -144,5 +186,6 @@ pub fn run(counts: &mut Counts, random: &mut Random) {
     lists(counts, random);
     invalid(counts, random);
     rebuilt(counts, random);
+    brute_force(counts);
     seven_and_twenty_four(counts);
 }

@@ -1,1 +1,1 @@
-// The worked examples of document 01, of which specs/Examples.antt is the table: a crate of definitions, with no code.
+// The worked examples of document 01: specs/Examples.antt is the table, proofs/Examples.antt proves it. There is no code.

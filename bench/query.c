@@ -1,0 +1,80 @@
+/* A query in the worst case, every file missing and every volume present, against the same elimination as plain C loops over a table of 256
+   products for each weight, which gcc -O3 compiles. Both must give the same weights. */
+#include "clock.h"
+#include "../include/par1.h"
+#include <string.h>
+
+static uint8_t products[256][256];
+static uint8_t matrix[256][256], owners[256];
+
+static uint8_t product(uint8_t a, uint8_t b) {
+    unsigned p = 0;
+    for (int i = 0; i < 8; i++)
+        if (b >> i & 1) p ^= (unsigned)a << i;
+    for (int i = 14; i >= 8; i--)
+        if (p >> i & 1) p ^= 285u << (i - 8);
+    return (uint8_t)p;
+}
+
+static void add_multiple(uint8_t weight, const uint8_t *row, uint8_t *sum) {
+    const uint8_t *table = products[weight];
+    if (weight == 0) return;
+    for (int j = 0; j < 256; j++) sum[j] ^= table[row[j]];
+}
+
+static uint8_t inverse(uint8_t a) {
+    int b = 1;
+    while (products[a][b] != 1) b++;
+    return (uint8_t)b;
+}
+
+/* Takes the row of volume v: adds it to the matrix, unless it is a sum of multiples of earlier ones. */
+static void add_row(const uint8_t *row, uint8_t v) {
+    uint8_t y[256] = {0};
+    int k = 0;
+    for (int i = 0; i < 256; i++) add_multiple(row[i], matrix[i], y);
+    while (k < 256 && (owners[k] != 0 || y[k] == 0)) k++;
+    if (k == 256) return;
+    uint8_t scale = inverse(y[k]);
+    y[k] ^= 1;
+    for (int r = 0; r < 256; r++) add_multiple(products[scale][matrix[r][k]], y, matrix[r]);
+    owners[k] = v;
+}
+
+/* The weights of the volumes for file f of n missing files, with every volume present. */
+static void by_loops(int n, int f, uint8_t *weights) {
+    uint8_t row[256] = {0};
+    memset(matrix, 0, sizeof matrix);
+    memset(owners, 0, sizeof owners);
+    for (int i = 0; i < 256; i++) matrix[i][i] = 1;
+    for (int g = 0; g < n; g++) row[g] = 1;
+    for (int v = 1; v <= 255 - n; v++) {
+        add_row(row, (uint8_t)v);
+        for (int g = 0; g < n; g++) row[g] = products[g + 1][row[g]];
+    }
+    memset(weights, 0, 255);
+    for (int k = 0; k < 256; k++)
+        if (owners[k] != 0) weights[n + owners[k] - 1] ^= matrix[f - 1][k];
+}
+
+int main(void) {
+    static const int files[] = {100, 127, 150};
+    int right = 1;
+    for (int a = 0; a < 256; a++)
+        for (int b = 0; b < 256; b++) products[a][b] = product((uint8_t)a, (uint8_t)b);
+    for (int i = 0; i < 3; i++) {
+        int n = files[i];
+        uint8_t sizes[8 * 254] = {0}, inventory[104], ours[255], loops[255];
+        double a = 0, b = 0;
+        for (int f = 0; f < n; f++) sizes[8 * f] = 1;
+        par1_open((uint64_t)n, sizes, 8 * (size_t)n, inventory, 104);
+        for (int v = 1; v <= 255 - n; v++) par1_add_volume(inventory, 104, (uint64_t)v);
+        uint32_t number = par1_query(inventory, 104, 1, ours, 255);
+        COMPARE(60, 1, par1_query(inventory, 104, 1, ours, 255), by_loops(n, 1, loops), a, b)
+        int same = number != 0 || memcmp(ours, loops, 255) == 0;
+        printf("query of %d files, %d volumes    ours %6.2f ms   loops %6.2f ms   ratio %.2f%s\n", n, 255 - n, 1e3 * a, 1e3 * b, b / a,
+               same ? "" : "   WEIGHTS DIFFER");
+        right &= same && b >= a;
+    }
+    return !right;
+}
