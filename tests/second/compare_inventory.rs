@@ -2,7 +2,7 @@
 //! worked examples; and rebuilt files.
 
 use crate::inventory::{Inventory, LENGTH};
-use crate::{calls, expected, field, Counts, Random};
+use crate::{calls, expected, field, rounds, small, Counts, Random};
 
 /// Every call on these bytes as an inventory, which the second program reads as well.
 fn every_call(counts: &mut Counts, random: &mut Random, bytes: &[u8]) {
@@ -43,7 +43,7 @@ fn opening(counts: &mut Counts, random: &mut Random) {
 
 /// A list of calls on one inventory; each goes to the bytes last handed back.
 fn lists(counts: &mut Counts, random: &mut Random) {
-    for round in 0..300 {
+    for round in 0..rounds(300) {
         let n = 1 + random.below(if round % 30 == 0 { 60 } else { 10 });
         let sizes: Vec<u8> = (0..n).flat_map(|_| (random.below(4) as u64).to_le_bytes()).collect();
         let (_, mut bytes) = calls::open(n as u64, &sizes, &[0; LENGTH]);
@@ -64,7 +64,7 @@ fn lists(counts: &mut Counts, random: &mut Random) {
 
 /// Bytes that no calls give: a spare bit, an n out of range, another length.
 fn invalid(counts: &mut Counts, random: &mut Random) {
-    for _ in 0..200 {
+    for _ in 0..rounds(200) {
         let n = 1 + random.below(254);
         let sizes: Vec<u8> = (0..n).flat_map(|_| (random.below(2) as u64).to_le_bytes()).collect();
         let (_, mut bytes) = calls::open(n as u64, &sizes, &[0; LENGTH]);
@@ -81,7 +81,7 @@ fn invalid(counts: &mut Counts, random: &mut Random) {
 
 /// Files rebuilt by following the weights, in a random order of the fragments, from a set whose contents are known.
 fn rebuilt(counts: &mut Counts, random: &mut Random) {
-    for _ in 0..200 {
+    for _ in 0..rounds(200) {
         let n = 1 + random.below(9);
         let mut files = vec![];
         for _ in 0..n {
@@ -186,6 +186,8 @@ pub fn run(counts: &mut Counts, random: &mut Random) {
     lists(counts, random);
     invalid(counts, random);
     rebuilt(counts, random);
-    brute_force(counts);
+    if !small() {
+        brute_force(counts);
+    }
     seven_and_twenty_four(counts);
 }

@@ -2,7 +2,7 @@
 //! short and extended; with fields of any 64-bit number; random bytes; files of another client; entries and volumes written, and
 //! accepted files written again from their parts.
 
-use crate::{calls, expected, par1, Counts, Random};
+use crate::{calls, expected, par1, rounds, small, Counts, Random};
 
 /// A name of one unit or more, at times with a unit that is not allowed or an odd byte.
 fn name(random: &mut Random) -> Vec<u8> {
@@ -61,7 +61,7 @@ fn rehashed(mut file: Vec<u8>) -> Vec<u8> {
 }
 
 fn damaged(counts: &mut Counts, random: &mut Random) {
-    for _ in 0..60 {
+    for _ in 0..rounds(60) {
         let whole = file(random);
         read(counts, "a whole file", &whole, 60);
         for room in [0, 55, 56] {
@@ -145,7 +145,7 @@ fn again(counts: &mut Counts, file: &[u8]) {
 }
 
 fn write(counts: &mut Counts, random: &mut Random) {
-    for round in 0..2000 {
+    for round in 0..rounds(2000) {
         let (m, n) = (contents(random), name(random));
         let status = [0, 1, 2, 3, 4, 1 << 32, u64::MAX][random.below(7)];
         let n = if round % 50 == 0 { vec![] } else { n };
@@ -153,7 +153,7 @@ fn write(counts: &mut Counts, random: &mut Random) {
         let what = || format!("entry of {} bytes, status {status}, name {n:?}", m.len());
         counts.same(what, calls::write_entry(&m, status, &n, &room), expected::write_entry(&m, status, &n, &room));
     }
-    for _ in 0..1000 {
+    for _ in 0..rounds(1000) {
         let mut l = list(random);
         if random.below(5) == 0 && !l.is_empty() {
             let at = random.below(l.len());
@@ -167,6 +167,9 @@ fn write(counts: &mut Counts, random: &mut Random) {
         let what = || format!("volume {number} of a list of {} bytes", l.len());
         counts.same(what, calls::write_volume(9, number, &l, &data, &room), expected::write_volume(9, number, &l, &data, &room));
         again(counts, &file(random));
+    }
+    if small() {
+        return;
     }
     let limit = vec![0; 33_554_432 - 96 + 2];
     for size in [limit.len() - 4, limit.len() - 2, limit.len()] {
@@ -183,7 +186,7 @@ fn write(counts: &mut Counts, random: &mut Random) {
 }
 
 fn check(counts: &mut Counts, random: &mut Random) {
-    for _ in 0..400 {
+    for _ in 0..rounds(400) {
         let m = contents(random);
         let entry = par1::write_entry(&m, random.below(4) as u64, &name(random)).unwrap_or(random.bytes(70));
         let mut same = |what: &str, e: &[u8], m: &[u8]| {

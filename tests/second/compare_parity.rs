@@ -1,6 +1,6 @@
 //! mul_add at many lengths, alignments and weights, with guards; and whole sets of files, some empty, in any order and in two shares.
 
-use crate::{calls, field, Counts, Random};
+use crate::{calls, field, rounds, small, Counts, Random};
 
 /// One call on slices at these distances from the start of an allocation.
 fn one(counts: &mut Counts, random: &mut Random, weight: u8, fragment: (usize, usize), buffer: (usize, usize)) {
@@ -17,17 +17,17 @@ fn one(counts: &mut Counts, random: &mut Random, weight: u8, fragment: (usize, u
 
 fn lengths(counts: &mut Counts, random: &mut Random) {
     for n in 0..=300 {
-        for at in 0..64 {
+        for at in 0..rounds(64) {
             one(counts, random, (n * 64 + at) as u8, (at % 8 + at / 16, n), (at % 16, n));
         }
     }
     for n in 0..=80 {
-        for m in 0..=80 {
+        for m in 0..rounds(81) {
             let (weight, a, b) = (random.below(256) as u8, random.below(16), random.below(16));
             one(counts, random, weight, (a, n), (b, m));
         }
     }
-    for n in [4095, 65_536, 65_543, 1_048_576] {
+    for n in [4095, 65_536, 65_543, 1_048_576].into_iter().take(if small() { 1 } else { 4 }) {
         for at in 0..4 {
             let weight = random.below(256) as u8;
             one(counts, random, weight, (at, n), (3 * at, n + at));
@@ -54,7 +54,7 @@ fn shuffled(n: usize, random: &mut Random) -> Vec<usize> {
 }
 
 fn sets(counts: &mut Counts, random: &mut Random) {
-    for round in 0..400 {
+    for round in 0..rounds(400) {
         let n = 1 + random.below(if round % 20 == 0 { 254 } else { 12 });
         let mut files = vec![];
         for _ in 0..n {

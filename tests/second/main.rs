@@ -15,6 +15,15 @@ mod inventory;
 mod md5;
 mod par1;
 
+/// How many rounds of a comparison: all, or a twentieth of them where the program is called with the word `small`, as under valgrind.
+pub fn rounds(n: usize) -> usize {
+    if small() { n.div_ceil(20) } else { n }
+}
+
+pub fn small() -> bool {
+    std::env::args().any(|word| word == "small")
+}
+
 /// How many calls agreed, and how many differed.
 pub struct Counts {
     passed: u64,
