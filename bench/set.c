@@ -1,0 +1,129 @@
+/* A whole set in memory: 24 files of 1 MiB, an index and 8 volumes created, 8 files lost, rebuilt and checked. Where a directory is given,
+   the same by the program `parchive` on files there, which should be in memory too. Every file that comes back must be the one lost. */
+#include "clock.h"
+#include "../include/par1.h"
+#include <string.h>
+
+enum { FILES = 24, VOLUMES = 8, SIZE = 1 << 20, ENTRY = 66, LIST = FILES * ENTRY, VOLUME_SIZE = 96 + LIST + SIZE };
+
+static uint8_t *files[FILES + 1], *volumes[VOLUMES + 1], *rebuilt[VOLUMES + 1];
+static uint8_t list[LIST], index_file[96 + LIST];
+
+static void accepted(const char *call, uint32_t number) {
+    if (number != 0) {
+        printf("%s refused with %u\n", call, number);
+        exit(1);
+    }
+}
+
+static void create(void) {
+    static uint8_t data[SIZE];
+    for (int f = 1; f <= FILES; f++) {
+        uint8_t name[10] = {'F', 0, 'I', 0, 'L', 0, (uint8_t)('0' + f / 10), 0, (uint8_t)('0' + f % 10), 0};
+        accepted("write_entry", par1_write_entry(files[f], SIZE, 1, name, 10, list + (f - 1) * ENTRY, ENTRY));
+    }
+    accepted("write_volume", par1_write_volume(1, 0, list, LIST, list, 0, index_file, sizeof index_file));
+    for (int v = 1; v <= VOLUMES; v++) {
+        memset(data, 0, SIZE);
+        for (int f = 1; f <= FILES; f++) {
+            uint8_t weight;
+            accepted("coefficient", par1_coefficient((uint64_t)f, (uint64_t)v, &weight, 1));
+            par1_mul_add(weight, files[f], SIZE, data, SIZE);
+        }
+        accepted("write_volume", par1_write_volume(1, (uint64_t)v, list, LIST, data, SIZE, volumes[v], VOLUME_SIZE));
+    }
+}
+
+/* What is there is checked first, as it would be after a bad link: files 9 to 24 and the volumes. */
+static void take_inventory(uint8_t *inventory) {
+    uint8_t sizes[8 * FILES] = {0}, parts[56];
+    for (int f = 1; f <= FILES; f++) sizes[8 * f - 6] = SIZE >> 16;
+    accepted("open", par1_open(FILES, sizes, sizeof sizes, inventory, 104));
+    for (int f = VOLUMES + 1; f <= FILES; f++) {
+        accepted("check", par1_check(list + (f - 1) * ENTRY, ENTRY, files[f], SIZE));
+        accepted("add_file", par1_add_file(inventory, 104, (uint64_t)f));
+    }
+    for (int v = 1; v <= VOLUMES; v++) {
+        accepted("read", par1_read(volumes[v], VOLUME_SIZE, parts, 56));
+        accepted("add_volume", par1_add_volume(inventory, 104, (uint64_t)v));
+    }
+}
+
+static void rebuild(void) {
+    uint8_t inventory[104], weights[255];
+    take_inventory(inventory);
+    for (int lost = 1; lost <= VOLUMES; lost++) {
+        accepted("query", par1_query(inventory, 104, (uint64_t)lost, weights, 255));
+        memset(rebuilt[lost], 0, SIZE);
+        for (int f = VOLUMES + 1; f <= FILES; f++) par1_mul_add(weights[f - 1], files[f], SIZE, rebuilt[lost], SIZE);
+        for (int v = 1; v <= VOLUMES; v++) par1_mul_add(weights[FILES + v - 1], volumes[v] + 96 + LIST, SIZE, rebuilt[lost], SIZE);
+        accepted("check", par1_check(list + (lost - 1) * ENTRY, ENTRY, rebuilt[lost], SIZE));
+    }
+}
+
+/* Runs a command in the directory, its output dropped. */
+static void command(const char *directory, const char *text) {
+    char line[4096];
+    snprintf(line, sizeof line, "cd '%s' && { %s; } >/dev/null 2>&1", directory, text);
+    if (system(line) != 0) printf("failed: %s\n", text);
+}
+
+static void put_files(const char *directory) {
+    for (int f = 1; f <= FILES; f++) {
+        char path[4096];
+        snprintf(path, sizeof path, "%s/FIL%02d", directory, f);
+        FILE *file = fopen(path, "wb");
+        if (file == NULL || fwrite(files[f], 1, SIZE, file) != SIZE || fclose(file) != 0) {
+            printf("cannot write %s\n", path);
+            exit(1);
+        }
+    }
+}
+
+/* The lost files that are in the directory with their contents. */
+static int files_back(const char *directory) {
+    static uint8_t found[SIZE];
+    int back = 0;
+    for (int f = 1; f <= VOLUMES; f++) {
+        char path[4096];
+        snprintf(path, sizeof path, "%s/FIL%02d", directory, f);
+        FILE *file = fopen(path, "rb");
+        if (file == NULL) continue;
+        back += fread(found, 1, SIZE, file) == SIZE && memcmp(found, files[f], SIZE) == 0;
+        fclose(file);
+    }
+    return back;
+}
+
+static void lose(const char *directory) { command(directory, "rm -f FIL01 FIL02 FIL03 FIL04 FIL05 FIL06 FIL07 FIL08"); }
+
+static void line(const char *what, double ours, double other) {
+    printf("%-52s ours %7.1f ms", what, 1e3 * ours);
+    if (other > 0) printf("   parchive %7.1f ms   ratio %.2f", 1e3 * other, other / ours);
+    printf("\n");
+}
+
+int main(int argc, char **argv) {
+    const char *directory = argc > 1 ? argv[1] : NULL;
+    double create_ours = 0, create_other = 0, rebuild_ours = 0, rebuild_other = 0;
+    uint8_t *contents = random_bytes((size_t)FILES * SIZE);
+    for (int f = 1; f <= FILES; f++) files[f] = contents + (size_t)(f - 1) * SIZE;
+    for (int v = 1; v <= VOLUMES; v++) volumes[v] = calloc(1, VOLUME_SIZE), rebuilt[v] = calloc(1, SIZE);
+    create();
+    if (directory != NULL) put_files(directory);
+    COMPARE(5, 1, create(), if (directory != NULL) command(directory, "rm -f set.*; parchive a -n 8 set.par FIL*"), create_ours, create_other)
+    for (int turn = 0; turn < 5; turn++) {
+        double a = 0, b = 0;
+        if (directory != NULL) lose(directory);
+        COMPARE(1, 1, rebuild(), if (directory != NULL) command(directory, "parchive r set.par"), a, b)
+        if (turn == 0 || a < rebuild_ours) rebuild_ours = a;
+        if (turn == 0 || b < rebuild_other) rebuild_other = b;
+    }
+    int right = directory == NULL || files_back(directory) == VOLUMES;
+    for (int f = 1; f <= VOLUMES; f++) right &= memcmp(rebuilt[f], files[f], SIZE) == 0;
+    if (directory == NULL) create_other = rebuild_other = 0;
+    line("24 files of 1 MiB, index and 8 volumes created", create_ours, create_other);
+    line("24 files of 1 MiB, 8 lost, rebuilt from 8 volumes", rebuild_ours, rebuild_other);
+    if (!right) printf("A FILE THAT CAME BACK DIFFERS\n");
+    return !right || (directory != NULL && (create_ours > create_other || rebuild_ours > rebuild_other));
+}
