@@ -2,6 +2,7 @@
    installed (HAVE_ISAL) against its gf_vect_mad. All are timed in turn in one run; each figure is the best of many.
    Last, a whole set of files into one volume: file by file, and tile by tile, so that the buffer stays in the cache. */
 #include "clock.h"
+#include "product.h"
 #include "../include/par1.h"
 #include <string.h>
 #ifdef HAVE_ISAL
@@ -12,15 +13,6 @@ enum { ROUNDS = 200, KIB = 1024, MIB = 1024 * KIB, FILES = 24, FILE_BYTES = MIB,
 
 static uint8_t table[256];      /* the products of the weight */
 static uint8_t isal_table[32];  /* the same as ISA-L keeps them */
-
-static uint8_t product(uint8_t a, uint8_t b) {
-    unsigned p = 0;
-    for (int i = 0; i < 8; i++)
-        if (b >> i & 1) p ^= (unsigned)a << i;
-    for (int i = 14; i >= 8; i--)
-        if (p >> i & 1) p ^= 285u << (i - 8);
-    return (uint8_t)p;
-}
 
 static void set_weight(uint8_t weight) {
     for (int x = 0; x < 256; x++) table[x] = product(weight, (uint8_t)x);

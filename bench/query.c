@@ -1,20 +1,12 @@
 /* A query in the worst case, every file missing and every volume present, against the same elimination as plain C loops over a table of 256
-   products for each weight, which gcc -O3 compiles. Both must give the same weights. */
+   products for each weight, which gcc -O3 compiles. Where the file comes back, both must give the same weights. */
 #include "clock.h"
+#include "product.h"
 #include "../include/par1.h"
 #include <string.h>
 
 static uint8_t products[256][256];
 static uint8_t matrix[256][256], owners[256];
-
-static uint8_t product(uint8_t a, uint8_t b) {
-    unsigned p = 0;
-    for (int i = 0; i < 8; i++)
-        if (b >> i & 1) p ^= (unsigned)a << i;
-    for (int i = 14; i >= 8; i--)
-        if (p >> i & 1) p ^= 285u << (i - 8);
-    return (uint8_t)p;
-}
 
 static void add_multiple(uint8_t weight, const uint8_t *row, uint8_t *sum) {
     const uint8_t *table = products[weight];
@@ -71,9 +63,10 @@ int main(void) {
         for (int v = 1; v <= 255 - n; v++) par1_add_volume(inventory, 104, (uint64_t)v);
         uint32_t number = par1_query(inventory, 104, 1, ours, 255);
         COMPARE(60, 1, par1_query(inventory, 104, 1, ours, 255), by_loops(n, 1, loops), a, b)
-        int same = number != 0 || memcmp(ours, loops, 255) == 0;
+        /* The loops do not ask whether the file comes back, so weights are compared only where it does. */
+        int same = number == 12 || (number == 0 && memcmp(ours, loops, 255) == 0);
         printf("query of %d files, %d volumes    ours %6.2f ms   loops %6.2f ms   ratio %.2f%s\n", n, 255 - n, 1e3 * a, 1e3 * b, b / a,
-               same ? "" : "   WEIGHTS DIFFER");
+               !same ? "   WEIGHTS DIFFER" : number == 0 ? "   same weights" : "   undetermined");
         right &= same && b >= a;
     }
     return !right;
