@@ -1,11 +1,11 @@
 -- What the calls hand back, case by case.
 --
---   step-refused, step-accepted, number-same       adding and removing
+--   files-changed, volumes-changed, number-same     adding and removing
 --   first-fails, first-holds                       a row of tests
 --   open-out-of-range, open-miscounted, open-too-large, open-accepted     opening
 --   nonempty-more, nonempty-same                   the loop of opening
 -- Assumes nothing.
-use mathlib.Core.Path.{_≡_, sym, ap, ap₂, _∙_}
+use mathlib.Core.Path.{_≡_, refl, sym, ap, ap₂, _∙_}
 use mathlib.Core.Logic.{_≢_}
 use mathlib.Core.Bool.{Bool, true, false, cond, _&&_, and-false}
 use mathlib.Core.List.{List}
@@ -16,25 +16,36 @@ use lib.ListN.{length, getD}
 use borrow.Author.Tests.{eq-eqb, ne-eqb, le-leb, lt-leb}
 use Rattle.parity.specs.Parity.{isFile}
 use Rattle.inventory.specs.Sets.{inserted}
-use Rattle.inventory.specs.Steps.{allBelow, outcome, accepted, fresh, refusedOpening, nonemptyOf, openStep}
+use Rattle.inventory.specs.Steps.{allBelow, outcome, changeNumber, unlessRefused, accepted, withFiles, withVolumes, fresh, refusedOpening, nonemptyOf, openStep}
 use Rattle.inventory.specs.declared.Inventory.{Inventory}
 use Rattle.inventory.specs.declared.Outcome.{Outcome}
 use Rattle.inventory.proofs.Tests.{all-true, all-false}
 
 -- ---- adding and removing
 
-pub step-refused : (k number : ℕ) (changed s : Inventory) → k ≡ number → k ≢ 0 → outcome s k ≡ accepted number changed s
-step-refused k number changed s e q =
-    ap (outcome s) e ∙ ap (λ (b : Bool). cond b (outcome changed 0) (outcome s number)) (sym (ne-eqb number 0 (λ z. q (e ∙ z))))
+-- a call that changes the files, or the volumes, unless it is refused
+module _ (s : Inventory) (ws now changed : List ℕ) (k number : ℕ) (is : changed ≡ ws) (same : k ≡ number) where
+  pub files-changed : now ≡ unlessRefused k changed (s .files) → outcome (withFiles s now) k ≡ accepted number (withFiles s ws) s
+  files-changed e =
+      ap (λ (b : List ℕ). outcome (withFiles s b) k) (e ∙ ap (λ (b : List ℕ). unlessRefused k b (s .files)) is)
+      ∙ go (eqb k 0) ∙ ap (λ (k : ℕ). accepted k (withFiles s ws) s) same
+    where
+      go : (b : Bool) → outcome (withFiles s (cond b ws (s .files))) k ≡ outcome (cond b (withFiles s ws) s) k
+      go true = refl
+      go false = refl
 
-pub step-accepted : (k number : ℕ) (changed s : Inventory) → k ≡ number → k ≡ 0 → outcome changed 0 ≡ accepted number changed s
-step-accepted k number changed s e z =
-    ap (λ (b : Bool). cond b (outcome changed 0) (outcome s number)) (sym (eq-eqb number 0 (sym e ∙ z)))
+  pub volumes-changed : now ≡ unlessRefused k changed (s .volumes) → outcome (withVolumes s now) k ≡ accepted number (withVolumes s ws) s
+  volumes-changed e =
+      ap (λ (b : List ℕ). outcome (withVolumes s b) k) (e ∙ ap (λ (b : List ℕ). unlessRefused k b (s .volumes)) is)
+      ∙ go (eqb k 0) ∙ ap (λ (k : ℕ). accepted k (withVolumes s ws) s) same
+    where
+      go : (b : Bool) → outcome (withVolumes s (cond b ws (s .volumes))) k ≡ outcome (cond b (withVolumes s ws) s) k
+      go true = refl
+      go false = refl
 
 -- the tests of the code are those of the step
-pub number-same : (number : Bool → Bool → Bool → ℕ) {a a′ b b′ c c′ : Bool} → a ≡ a′ → b ≡ b′ → c ≡ c′
-    → number a b c ≡ number a′ b′ c′
-number-same number e f g = cc
+pub number-same : {a a′ b b′ c c′ : Bool} → a ≡ a′ → b ≡ b′ → c ≡ c′ → changeNumber a b c ≡ changeNumber a′ b′ c′
+number-same e f g = cc
 
 -- ---- a row of tests
 

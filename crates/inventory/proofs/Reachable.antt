@@ -19,7 +19,7 @@ use Rattle.parity.specs.Parity.{isFile}
 use Rattle.inventory.specs.Sets.{member, inserted}
 use Rattle.inventory.specs.Recoverable.{State, isVolume}
 use Rattle.inventory.specs.Model.{Call, addFile, removeFile, addVolume, removeVolume, count, query, Reply, numbered, opened}
-use Rattle.inventory.specs.Steps.{isInventory, within, zeros, nonemptyOf, fresh, outcome, accepted, addNumber, openStep, addFileStep, addVolumeStep, withFiles, withVolumes}
+use Rattle.inventory.specs.Steps.{isInventory, within, zeros, nonemptyOf, fresh, outcome, accepted, changeNumber, openStep, addFileStep, addVolumeStep, withFiles, withVolumes}
 use Rattle.inventory.specs.Query.{stateOf}
 use Rattle.inventory.specs.Claim.{Did, Ran, addsFile, addsVolume, OnlyAdds, sizeIn}
 use Rattle.inventory.specs.declared.Inventory.{Inventory}
@@ -124,7 +124,7 @@ record Kept (s e : Inventory) : Type 0 where
 kept-by : (s changed : Inventory) (number : ℕ) → Kept s changed → Kept s s → Kept s (accepted number changed s .next)
 kept-by s changed number k o = go (eqb number 0)
   where
-    go : (b : Bool) → Kept s (cond b (outcome changed 0) (outcome s number) .next)
+    go : (b : Bool) → Kept s (cond b changed s)
     go true = k
     go false = o
 
@@ -143,7 +143,7 @@ run-adds [] h s k = ([], s, refl, k)
 run-adds (addFile f ∷ cs) h s k = more (run-adds cs h (addFileStep s f .next) (own step))
   where
     step : Kept s (addFileStep s f .next)
-    step = kept-by s (withFiles s (inserted f (s .files))) (addNumber (isInventory s) (isFile (s .n) f) (member (s .files) f))
+    step = kept-by s (withFiles s (inserted f (s .files))) (changeNumber (isInventory s) (isFile (s .n) f) (member (s .files) f))
         record { same-n = refl; same-nonempty = refl; files = words-inserted f (s .files) (k .files); volumes = k .volumes } k
 
     own : {e : Inventory} → Kept s e → Kept e e
@@ -157,7 +157,7 @@ run-adds (removeFile f ∷ cs) h s k = absurd h
 run-adds (addVolume v ∷ cs) h s k = more (run-adds cs h (addVolumeStep s v .next) (own step))
   where
     step : Kept s (addVolumeStep s v .next)
-    step = kept-by s (withVolumes s (inserted v (s .volumes))) (addNumber (isInventory s) (isVolume (s .n) v) (member (s .volumes) v))
+    step = kept-by s (withVolumes s (inserted v (s .volumes))) (changeNumber (isInventory s) (isVolume (s .n) v) (member (s .volumes) v))
         record { same-n = refl; same-nonempty = refl; files = k .files; volumes = words-inserted v (s .volumes) (k .volumes) } k
 
     own : {e : Inventory} → Kept s e → Kept e e

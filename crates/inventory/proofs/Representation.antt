@@ -20,7 +20,7 @@ use Rattle.inventory.specs.Sets.{member, inserted, removed, sizeBelow}
 use Rattle.inventory.specs.Recoverable.{State, isVolume}
 use Rattle.inventory.specs.Model as M
 use Rattle.inventory.specs.Model.{Call, addFile, removeFile, addVolume, removeVolume, count, query, Reply, numbered, queried, opened, insert, remove, next, Gives}
-use Rattle.inventory.specs.Steps.{within, isInventory, allBelow, nonemptyOf, fresh, outcome, accepted, refusedOpening, openStep, addNumber, removeNumber, withFiles, withVolumes, addFileStep, removeFileStep, addVolumeStep, removeVolumeStep, countStep, answerNumber}
+use Rattle.inventory.specs.Steps.{within, isInventory, allBelow, nonemptyOf, fresh, outcome, accepted, refusedOpening, openStep, changeNumber, withFiles, withVolumes, addFileStep, removeFileStep, addVolumeStep, removeVolumeStep, countStep, answerNumber}
 use Rattle.inventory.specs.Query.{stateOf, Matches, answerOf, Queried, noInventory, asModel}
 use Rattle.inventory.specs.Claim.{countReply, Did, sizeIn}
 use Rattle.inventory.specs.declared.Inventory.{Inventory}
@@ -97,24 +97,18 @@ is-inventory s a b c d =
 -- a refused call leaves all as it was
 picked : (size : ℕ → ℕ) (t t₁ : State) (s s₁ : Inventory) (number : ℕ) (accept : Bool) → eqb number 0 ≡ accept
     → Represents size t s → (accept ≡ true → Represents size t₁ s₁)
-    → (accepted number s₁ s .number ≡ number) × Represents size (cond accept t₁ t) (accepted number s₁ s .next)
-picked size t t₁ s s₁ number true e R h = (
-  ap (λ (b : Bool). cond b (outcome s₁ 0) (outcome s number) .number) e ∙ sym (eqb-true number 0 e),
-  subst (λ (b : Bool). Represents size t₁ (cond b (outcome s₁ 0) (outcome s number) .next)) (sym e) (h refl),
-)
-picked size t t₁ s s₁ number false e R h = (
-  ap (λ (b : Bool). cond b (outcome s₁ 0) (outcome s number) .number) e,
-  subst (λ (b : Bool). Represents size t (cond b (outcome s₁ 0) (outcome s number) .next)) (sym e) R,
-)
+    → Represents size (cond accept t₁ t) (accepted number s₁ s .next)
+picked size t t₁ s s₁ number true e R h = subst (λ (b : Bool). Represents size t₁ (cond b s₁ s)) (sym e) (h refl)
+picked size t t₁ s s₁ number false e R h = subst (λ (b : Bool). Represents size t (cond b s₁ s)) (sym e) R
 
-add-accepts : (a b : Bool) → eqb (addNumber true a b) 0 ≡ (a && not b)
-unfolding addNumber
+add-accepts : (a b : Bool) → eqb (changeNumber true a b) 0 ≡ (a && not b)
+unfolding changeNumber
 add-accepts true true = refl
 add-accepts true false = refl
 add-accepts false b = refl
 
-remove-accepts : (a b : Bool) → eqb (removeNumber true a b) 0 ≡ (a && b)
-unfolding removeNumber
+remove-accepts : (a b : Bool) → eqb (changeNumber true a (not b)) 0 ≡ (a && b)
+unfolding changeNumber
 remove-accepts true true = refl
 remove-accepts true false = refl
 remove-accepts false b = refl
@@ -172,20 +166,19 @@ module _ (size : ℕ → ℕ) (s : Inventory) (R : Represents size (stateOf s si
       → (accept ≡ true → Represents size t₁ s₁)
       → (numbered (accepted number s₁ s .number) ≡ numbered number′) × Represents size (cond accept t₁ (stateOf s size)) (accepted number s₁ s .next)
   met number accept t₁ s₁ number′ e a h =
-      let p = picked size (stateOf s size) t₁ s s₁ number accept a R h in
-      (ap numbered (p .0 ∙ e), p .1)
+      (ap numbered e, picked size (stateOf s size) t₁ s s₁ number accept a R h)
 
-  valid-number : (number : Bool → Bool → Bool → ℕ) (a b : Bool) → number (isInventory s) a b ≡ number true a b
-  valid-number number a b = ap (λ (x : Bool). number x a b) (R .valid)
+  valid-number : (a b : Bool) → changeNumber (isInventory s) a b ≡ changeNumber true a b
+  valid-number a b = ap (λ (x : Bool). changeNumber x a b) (R .valid)
 
   meets-add-file : (f : ℕ) → Met (addFile f) (numbered (addFileStep s f .number)) (addFileStep s f .next)
-  unfolding Gives next addFileStep addNumber
+  unfolding Gives next addFileStep changeNumber
   meets-add-file f =
-      met (addNumber (isInventory s) (isFile (s .n) f) (member (s .files) f)) (isFile (s .n) f && not (member (s .files) f))
+      met (changeNumber (isInventory s) (isFile (s .n) f) (member (s .files) f)) (isFile (s .n) f && not (member (s .files) f))
       (M.withFiles (stateOf s size) (insert f (member (s .files)))) (withFiles s (inserted f (s .files)))
       (M.adding (isFile (s .n) f) (member (s .files) f))
-      (valid-number addNumber (isFile (s .n) f) (member (s .files) f))
-      (ap (λ (k : ℕ). eqb k 0) (valid-number addNumber (isFile (s .n) f) (member (s .files) f))
+      (valid-number (isFile (s .n) f) (member (s .files) f))
+      (ap (λ (k : ℕ). eqb k 0) (valid-number (isFile (s .n) f) (member (s .files) f))
       ∙ add-accepts (isFile (s .n) f) (member (s .files) f))
       (λ e.
       let r = and-true (isFile (s .n) f) (not (member (s .files) f)) e .0 in
@@ -195,13 +188,13 @@ module _ (size : ℕ → ℕ) (s : Inventory) (R : Represents size (stateOf s si
       (member-inserted (s .files) f (R .file-words) l))
 
   meets-remove-file : (f : ℕ) → Met (removeFile f) (numbered (removeFileStep s f .number)) (removeFileStep s f .next)
-  unfolding Gives next removeFileStep removeNumber
+  unfolding Gives next removeFileStep changeNumber
   meets-remove-file f =
-      met (removeNumber (isInventory s) (isFile (s .n) f) (member (s .files) f)) (isFile (s .n) f && member (s .files) f)
+      met (changeNumber (isInventory s) (isFile (s .n) f) (not (member (s .files) f))) (isFile (s .n) f && member (s .files) f)
       (M.withFiles (stateOf s size) (remove f (member (s .files)))) (withFiles s (removed f (s .files)))
       (M.removing (isFile (s .n) f) (member (s .files) f))
-      (valid-number removeNumber (isFile (s .n) f) (member (s .files) f))
-      (ap (λ (k : ℕ). eqb k 0) (valid-number removeNumber (isFile (s .n) f) (member (s .files) f))
+      (valid-number (isFile (s .n) f) (not (member (s .files) f)))
+      (ap (λ (k : ℕ). eqb k 0) (valid-number (isFile (s .n) f) (not (member (s .files) f)))
       ∙ remove-accepts (isFile (s .n) f) (member (s .files) f))
       (λ e.
       let l = file-below f (and-true (isFile (s .n) f) (member (s .files) f) e .0) in
@@ -210,13 +203,13 @@ module _ (size : ℕ → ℕ) (s : Inventory) (R : Represents size (stateOf s si
       (member-removed (s .files) f (R .file-words) l))
 
   meets-add-volume : (v : ℕ) → Met (addVolume v) (numbered (addVolumeStep s v .number)) (addVolumeStep s v .next)
-  unfolding Gives next addVolumeStep addNumber
+  unfolding Gives next addVolumeStep changeNumber
   meets-add-volume v =
-      met (addNumber (isInventory s) (isVolume (s .n) v) (member (s .volumes) v)) (isVolume (s .n) v && not (member (s .volumes) v))
+      met (changeNumber (isInventory s) (isVolume (s .n) v) (member (s .volumes) v)) (isVolume (s .n) v && not (member (s .volumes) v))
       (M.withVolumes (stateOf s size) (insert v (member (s .volumes)))) (withVolumes s (inserted v (s .volumes)))
       (M.adding (isVolume (s .n) v) (member (s .volumes) v))
-      (valid-number addNumber (isVolume (s .n) v) (member (s .volumes) v))
-      (ap (λ (k : ℕ). eqb k 0) (valid-number addNumber (isVolume (s .n) v) (member (s .volumes) v))
+      (valid-number (isVolume (s .n) v) (member (s .volumes) v))
+      (ap (λ (k : ℕ). eqb k 0) (valid-number (isVolume (s .n) v) (member (s .volumes) v))
       ∙ add-accepts (isVolume (s .n) v) (member (s .volumes) v))
       (λ e.
       let r = and-true (isVolume (s .n) v) (not (member (s .volumes) v)) e .0 in
@@ -227,13 +220,13 @@ module _ (size : ℕ → ℕ) (s : Inventory) (R : Represents size (stateOf s si
       (member-inserted (s .volumes) v (R .volume-words) l))
 
   meets-remove-volume : (v : ℕ) → Met (removeVolume v) (numbered (removeVolumeStep s v .number)) (removeVolumeStep s v .next)
-  unfolding Gives next removeVolumeStep removeNumber
+  unfolding Gives next removeVolumeStep changeNumber
   meets-remove-volume v =
-      met (removeNumber (isInventory s) (isVolume (s .n) v) (member (s .volumes) v)) (isVolume (s .n) v && member (s .volumes) v)
+      met (changeNumber (isInventory s) (isVolume (s .n) v) (not (member (s .volumes) v))) (isVolume (s .n) v && member (s .volumes) v)
       (M.withVolumes (stateOf s size) (remove v (member (s .volumes)))) (withVolumes s (removed v (s .volumes)))
       (M.removing (isVolume (s .n) v) (member (s .volumes) v))
-      (valid-number removeNumber (isVolume (s .n) v) (member (s .volumes) v))
-      (ap (λ (k : ℕ). eqb k 0) (valid-number removeNumber (isVolume (s .n) v) (member (s .volumes) v))
+      (valid-number (isVolume (s .n) v) (not (member (s .volumes) v)))
+      (ap (λ (k : ℕ). eqb k 0) (valid-number (isVolume (s .n) v) (not (member (s .volumes) v)))
       ∙ remove-accepts (isVolume (s .n) v) (member (s .volumes) v))
       (λ e.
       let l = volume-below v (and-true (isVolume (s .n) v) (member (s .volumes) v) e .0) in

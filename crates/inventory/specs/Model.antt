@@ -63,7 +63,7 @@ abbrev pub adding : Bool → Bool → ℕ
 adding inRange has = cond inRange (cond has 11 0) 10
 
 abbrev pub removing : Bool → Bool → ℕ
-removing inRange has = cond inRange (cond has 0 11) 10
+removing inRange has = adding inRange (not has)
 
 module _ (rule : ℕ → ℕ → ℕ) where
   -- "12 if not rebuildable; 14 if the room is below 255 bytes; else rebuildable, and the recipe becomes the room's first

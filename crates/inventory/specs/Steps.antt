@@ -2,7 +2,8 @@
 --
 --   within m ws          whether each number of the set ws is one of 1 to m
 --   isInventory s        whether opening and accepted calls could have given s
---   addNumber, removeNumber     10 for no inventory or out of range, 11 for what is present, or is not; else 0
+--   changeNumber         10 for no inventory or out of range, 11 where all is already as it is to be; else 0
+--   unlessRefused k a b  a, or b where the number k is a refusal's
 --   openStep, addFileStep, removeFileStep, addVolumeStep, removeVolumeStep, countStep     the calls
 --   countNumber, answerNumber   the document's number for each case of an answer
 -- Assumes nothing.
@@ -65,11 +66,8 @@ openStep n sizes =
 -- ---- adding and removing
 
 -- "Noting and withdrawing test 10, then 11."
-unfoldable pub addNumber : Bool → Bool → Bool → ℕ
-addNumber valid inRange has = cond valid (cond inRange (cond has 11 0) 10) 10
-
-unfoldable pub removeNumber : Bool → Bool → Bool → ℕ
-removeNumber valid inRange has = cond valid (cond inRange (cond has 0 11) 10) 10
+unfoldable pub changeNumber : Bool → Bool → Bool → ℕ
+changeNumber valid inRange already = cond valid (cond inRange (cond already 11 0) 10) 10
 
 abbrev pub withFiles : Inventory → List ℕ → Inventory
 withFiles s ws = record { n = s .n; files = ws; volumes = s .volumes; nonempty = s .nonempty }
@@ -78,24 +76,27 @@ abbrev pub withVolumes : Inventory → List ℕ → Inventory
 withVolumes s ws = record { n = s .n; files = s .files; volumes = ws; nonempty = s .nonempty }
 
 -- "A refusal returns its number only ..; the sheet is handed back as it came."
+abbrev pub unlessRefused : {A : Type 0} → ℕ → A → A → A
+unlessRefused number changed before = cond (eqb number 0) changed before
+
 abbrev pub accepted : ℕ → Inventory → Inventory → Outcome
-accepted number changed s = cond (eqb number 0) (outcome changed 0) (outcome s number)
+accepted number changed s = outcome (unlessRefused number changed s) number
 
 unfoldable pub addFileStep : Inventory → ℕ → Outcome
 addFileStep s f =
-    accepted (addNumber (isInventory s) (isFile (s .n) f) (member (s .files) f)) (withFiles s (inserted f (s .files))) s
+    accepted (changeNumber (isInventory s) (isFile (s .n) f) (member (s .files) f)) (withFiles s (inserted f (s .files))) s
 
 unfoldable pub removeFileStep : Inventory → ℕ → Outcome
 removeFileStep s f =
-    accepted (removeNumber (isInventory s) (isFile (s .n) f) (member (s .files) f)) (withFiles s (removed f (s .files))) s
+    accepted (changeNumber (isInventory s) (isFile (s .n) f) (not (member (s .files) f))) (withFiles s (removed f (s .files))) s
 
 unfoldable pub addVolumeStep : Inventory → ℕ → Outcome
 addVolumeStep s v =
-    accepted (addNumber (isInventory s) (isVolume (s .n) v) (member (s .volumes) v)) (withVolumes s (inserted v (s .volumes))) s
+    accepted (changeNumber (isInventory s) (isVolume (s .n) v) (member (s .volumes) v)) (withVolumes s (inserted v (s .volumes))) s
 
 unfoldable pub removeVolumeStep : Inventory → ℕ → Outcome
 removeVolumeStep s v =
-    accepted (removeNumber (isInventory s) (isVolume (s .n) v) (member (s .volumes) v))
+    accepted (changeNumber (isInventory s) (isVolume (s .n) v) (not (member (s .volumes) v)))
     (withVolumes s (removed v (s .volumes))) s
 
 -- ---- counting

@@ -1,6 +1,6 @@
 // What of a set of files and parity volumes is present, and which missing files come back (document 01, "The sheet").
 ghost use mathlib.Core.Path.{_≡_};
-ghost use Rattle.inventory.specs.Steps.{openStep, refusedOpening, addNumber, removeNumber, addFileStep, removeFileStep, addVolumeStep, removeVolumeStep, countStep};
+ghost use Rattle.inventory.specs.Steps.{openStep, refusedOpening, changeNumber, unlessRefused, addFileStep, removeFileStep, addVolumeStep, removeVolumeStep, countStep};
 
 mod query;
 mod ranges;
@@ -93,16 +93,10 @@ impl Inventory {
         ensures { λ r. ⌜ r ≡ addFileStep self file ⌝ }
     {
         let files = self.files;
-        let number = add_number(is_inventory(self), is_file(self.n, file), has(files, file));
-        if number != 0 {
-            return Outcome { next: self, number };
-        }
-        let more = insert(files, file);
-        self.files = more;
-        Outcome {
-            next: self,
-            number: 0,
-        }
+        let number = change_number(is_inventory(self), is_file(self.n, file), has(files, file));
+        let now = unless_refused(number, insert(files, file), files);
+        self.files = now;
+        Outcome { next: self, number }
     }
 
     // The inventory with a file missing: 10 for a number out of range, 11 for one that is missing.
@@ -110,16 +104,10 @@ impl Inventory {
         ensures { λ r. ⌜ r ≡ removeFileStep self file ⌝ }
     {
         let files = self.files;
-        let number = remove_number(is_inventory(self), is_file(self.n, file), has(files, file));
-        if number != 0 {
-            return Outcome { next: self, number };
-        }
-        let fewer = remove(files, file);
-        self.files = fewer;
-        Outcome {
-            next: self,
-            number: 0,
-        }
+        let number = change_number(is_inventory(self), is_file(self.n, file), !has(files, file));
+        let now = unless_refused(number, remove(files, file), files);
+        self.files = now;
+        Outcome { next: self, number }
     }
 
     // The inventory with a volume present, with the same numbers.
@@ -127,20 +115,14 @@ impl Inventory {
         ensures { λ r. ⌜ r ≡ addVolumeStep self volume ⌝ }
     {
         let volumes = self.volumes;
-        let number = add_number(
+        let number = change_number(
             is_inventory(self),
             is_volume(self.n, volume),
             has(volumes, volume),
         );
-        if number != 0 {
-            return Outcome { next: self, number };
-        }
-        let more = insert(volumes, volume);
-        self.volumes = more;
-        Outcome {
-            next: self,
-            number: 0,
-        }
+        let now = unless_refused(number, insert(volumes, volume), volumes);
+        self.volumes = now;
+        Outcome { next: self, number }
     }
 
     // The inventory with a volume missing, with the same numbers.
@@ -148,20 +130,14 @@ impl Inventory {
         ensures { λ r. ⌜ r ≡ removeVolumeStep self volume ⌝ }
     {
         let volumes = self.volumes;
-        let number = remove_number(
+        let number = change_number(
             is_inventory(self),
             is_volume(self.n, volume),
-            has(volumes, volume),
+            !has(volumes, volume),
         );
-        if number != 0 {
-            return Outcome { next: self, number };
-        }
-        let fewer = remove(volumes, volume);
-        self.volumes = fewer;
-        Outcome {
-            next: self,
-            number: 0,
-        }
+        let now = unless_refused(number, remove(volumes, volume), volumes);
+        self.volumes = now;
+        Outcome { next: self, number }
     }
 
     // How many files and volumes are present.
@@ -192,9 +168,9 @@ fn refused_opening(number: u32) -> Outcome
     }
 }
 
-// The number of an addition: 10, then 11.
-fn add_number(valid: bool, in_range: bool, has: bool) -> u32
-    ensures { λ r. ⌜ r ≡ addNumber valid in_range has ⌝ }
+// The number of an addition or a removal: 10, then 11 where all is already as it is to be.
+fn change_number(valid: bool, in_range: bool, already: bool) -> u32
+    ensures { λ r. ⌜ r ≡ changeNumber valid in_range already ⌝ }
 {
     if !valid {
         return OUT_OF_RANGE;
@@ -202,18 +178,15 @@ fn add_number(valid: bool, in_range: bool, has: bool) -> u32
     if !in_range {
         return OUT_OF_RANGE;
     }
-    if has { ALREADY } else { 0 }
+    if already { ALREADY } else { 0 }
 }
 
-// The number of a removal: 10, then 11.
-fn remove_number(valid: bool, in_range: bool, has: bool) -> u32
-    ensures { λ r. ⌜ r ≡ removeNumber valid in_range has ⌝ }
+// What is present after a call: as before, where it is refused.
+fn unless_refused(number: u32, changed: [u64; 4], before: [u64; 4]) -> [u64; 4]
+    ensures { λ r. ⌜ r ≡ unlessRefused number changed before ⌝ }
 {
-    if !valid {
-        return OUT_OF_RANGE;
+    if number != 0 {
+        return before;
     }
-    if !in_range {
-        return OUT_OF_RANGE;
-    }
-    if has { 0 } else { ALREADY }
+    changed
 }

@@ -39,10 +39,12 @@ impl Inventory {
             return Answer::Present;
         }
         let solution = solve(self, file);
-        if !solution.found {
+        let found = solution.found;
+        let room = out.len();
+        if !found {
             return Answer::Undetermined;
         }
-        if out.len() < WEIGHTS {
+        if room < WEIGHTS {
             return Answer::Refused(NO_ROOM);
         }
         let weights = solution.weights;

@@ -1,10 +1,8 @@
 -- `inventory::Inventory::add_file` meets its contract.
 -- Assumes nothing.
-use mathlib.Core.Path.{ap, _∙_}
-use Prim.Native.Nat.{ℕ}
-use Rattle.inventory.proofs.Outcomes.{step-refused, step-accepted, number-same}
-use Rattle.inventory.specs.Steps.{addFileStep, addNumber, withFiles, outcome}
-use mathlib.Core.List.{List}
+use mathlib.Core.Path.{_∙_}
+use Rattle.inventory.proofs.Outcomes.{files-changed, number-same}
+use Rattle.inventory.specs.Steps.{addFileStep}
 use borrow.Author.Needs.{needs}
 use Rattle.inventory.proofs.Inventory.add_file.Statement.{statement}
 use Rattle.inventory.proofs.Inventory.add_file.Tie as tie
@@ -18,23 +16,21 @@ is-file-requires c κs = search needs
 has-requires : tie.Need-has-requires
 has-requires c κs = search needs
 
-add-number-requires : tie.Need-add-number-requires
-add-number-requires c κs = search needs
-
-returns : tie.Need-returns
-unfolding addFileStep
-returns c =
-    step-refused _ _ _ _ (c .before .add-number .ensures ∙ number-same addNumber (c .before .before .before .before .is-inventory .ensures) (c .before .before .before .is-file .ensures) (c .before .before .has .ensures)) (c .if1 .taken)
+change-number-requires : tie.Need-change-number-requires
+change-number-requires c κs = search needs
 
 insert-requires : tie.Need-insert-requires
 insert-requires c κs = search needs
 
-returns-2 : tie.Need-returns-2
+unless-refused-requires : tie.Need-unless-refused-requires
+unless-refused-requires c κs = search needs
+
+returns : tie.Need-returns
 unfolding addFileStep
-returns-2 c =
-    let s = c .before .before .before .before .before .before .before .args .self in
-    ap (λ (ws : List ℕ). outcome (withFiles s ws) 0) (c .insert .ensures)
-    ∙ step-accepted _ _ _ _ (c .before .before .add-number .ensures ∙ number-same addNumber (c .before .before .before .before .before .is-inventory .ensures) (c .before .before .before .before .is-file .ensures) (c .before .before .before .has .ensures)) (c .before .if1 .left)
+returns c =
+    let called = c .before .before in
+    files-changed _ _ _ _ _ _ (c .before .insert .ensures)
+    (called .change-number .ensures ∙ number-same (called .before .before .before .is-inventory .ensures) (called .before .before .is-file .ensures) (called .before .has .ensures)) (c .unless-refused .ensures)
 
 pub add-file-spec : {M : Type 1} → statement M
 add-file-spec =
@@ -43,7 +39,7 @@ add-file-spec =
     is-inventory-requires
     is-file-requires
     has-requires
-    add-number-requires
-    returns
+    change-number-requires
     insert-requires
-    returns-2)
+    unless-refused-requires
+    returns)

@@ -47,6 +47,19 @@ solve-requires c κs =
 
 returns-4 : tie.Need-returns-4
 returns-4 c =
+    let there = c .before .before in
+    let asked = there .before .before .before in
+    let known = asked .before .before in
+    let a = known .before .before .before .args in
+    let valid = sym (known .before .is-inventory .ensures) ∙ is-true (known .before .is-inventory .result) (known .if1 .left) in
+    let ranged = sym (asked .before .is-file .ensures) ∙ is-true (asked .before .is-file .result) (asked .if2 .left) in
+    let missing = sym (there .before .has .ensures) ∙ there .if3 .left in
+    let s = c .before .solve in
+    query-undetermined (a .self) valid (a .file) ranged missing (a .out .now) (s .result .weights) (s .result .found) (s .ensures)
+    (is-false (s .result .found) (c .if4 .taken))
+
+returns-5 : tie.Need-returns-5
+returns-5 c =
     let there = c .before .before .before in
     let asked = there .before .before .before in
     let known = asked .before .before in
@@ -55,25 +68,12 @@ returns-4 c =
     let ranged = sym (asked .before .is-file .ensures) ∙ is-true (asked .before .is-file .result) (asked .if2 .left) in
     let missing = sym (there .before .has .ensures) ∙ there .if3 .left in
     let s = c .before .before .solve in
-    query-undetermined (a .self) valid (a .file) ranged missing (a .out .now) (s .result .weights) (s .result .found) (s .ensures)
-    (is-false (s .result .found) (c .if4 .taken))
-
-returns-5 : tie.Need-returns-5
-returns-5 c =
-    let there = c .before .before .before .before in
-    let asked = there .before .before .before in
-    let known = asked .before .before in
-    let a = known .before .before .before .args in
-    let valid = sym (known .before .is-inventory .ensures) ∙ is-true (known .before .is-inventory .result) (known .if1 .left) in
-    let ranged = sym (asked .before .is-file .ensures) ∙ is-true (asked .before .is-file .result) (asked .if2 .left) in
-    let missing = sym (there .before .has .ensures) ∙ there .if3 .left in
-    let s = c .before .before .before .solve in
     query-no-room (a .self) valid (a .file) ranged missing (a .out .now) (s .result .weights) (s .result .found) (s .ensures)
     (is-true (s .result .found) (c .before .if4 .left)) (c .if5 .taken)
 
 write-requires : tie.Need-write-requires
 write-requires c κs =
-    let known = c .before .before .before .before .before .before .before .before .before .before .before .before in
+    let known = c .before .before .before .before .before .before .before .before .before .before .before in
     (sym (known .before .is-inventory .ensures) ∙ is-true (known .before .is-inventory .result) (known .if1 .left), c .before .before .before .if5 .left)
 
 same-length : tie.Need-same-length
@@ -81,7 +81,7 @@ same-length c = search needs
 
 returns-6 : tie.Need-returns-6
 returns-6 c =
-    let there = c .before .before .before .before .before .before .before .before .before .before in
+    let there = c .before .before .before .before .before .before .before .before .before in
     let asked = there .before .before .before in
     let known = asked .before .before in
     let a = known .before .before .before .args in
@@ -89,7 +89,7 @@ returns-6 c =
     let ranged = sym (asked .before .is-file .ensures) ∙ is-true (asked .before .is-file .result) (asked .if2 .left) in
     let missing = sym (there .before .has .ensures) ∙ there .if3 .left in
     let tested = c .before .before .before .before .before .before .before in
-    let s = tested .before .before .solve in
+    let s = tested .before .solve in
     let w = c .before .before .write in
     query-recoverable (a .self) valid (a .file) ranged missing (a .out .now) (s .result .weights) (w .last .1 .1 .0) (c .before .before .before .before .before .before .if5 .left)
     (w .ensures) (λ p. omega (arith, c .slice-known2 .given p)) (s .result .found) (s .ensures) (is-true (s .result .found) (tested .if4 .left))

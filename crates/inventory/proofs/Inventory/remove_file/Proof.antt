@@ -1,10 +1,9 @@
 -- `inventory::Inventory::remove_file` meets its contract.
 -- Assumes nothing.
 use mathlib.Core.Path.{ap, _∙_}
-use Prim.Native.Nat.{ℕ}
-use Rattle.inventory.proofs.Outcomes.{step-refused, step-accepted, number-same}
-use Rattle.inventory.specs.Steps.{removeFileStep, removeNumber, withFiles, outcome}
-use mathlib.Core.List.{List}
+use mathlib.Core.Bool.{not}
+use Rattle.inventory.proofs.Outcomes.{files-changed, number-same}
+use Rattle.inventory.specs.Steps.{removeFileStep}
 use borrow.Author.Needs.{needs}
 use Rattle.inventory.proofs.Inventory.remove_file.Statement.{statement}
 use Rattle.inventory.proofs.Inventory.remove_file.Tie as tie
@@ -18,23 +17,21 @@ is-file-requires c κs = search needs
 has-requires : tie.Need-has-requires
 has-requires c κs = search needs
 
-remove-number-requires : tie.Need-remove-number-requires
-remove-number-requires c κs = search needs
-
-returns : tie.Need-returns
-unfolding removeFileStep
-returns c =
-    step-refused _ _ _ _ (c .before .remove-number .ensures ∙ number-same removeNumber (c .before .before .before .before .is-inventory .ensures) (c .before .before .before .is-file .ensures) (c .before .before .has .ensures)) (c .if1 .taken)
+change-number-requires : tie.Need-change-number-requires
+change-number-requires c κs = search needs
 
 remove-requires : tie.Need-remove-requires
 remove-requires c κs = search needs
 
-returns-2 : tie.Need-returns-2
+unless-refused-requires : tie.Need-unless-refused-requires
+unless-refused-requires c κs = search needs
+
+returns : tie.Need-returns
 unfolding removeFileStep
-returns-2 c =
-    let s = c .before .before .before .before .before .before .before .args .self in
-    ap (λ (ws : List ℕ). outcome (withFiles s ws) 0) (c .remove .ensures)
-    ∙ step-accepted _ _ _ _ (c .before .before .remove-number .ensures ∙ number-same removeNumber (c .before .before .before .before .before .is-inventory .ensures) (c .before .before .before .before .is-file .ensures) (c .before .before .before .has .ensures)) (c .before .if1 .left)
+returns c =
+    let called = c .before .before in
+    files-changed _ _ _ _ _ _ (c .before .remove .ensures)
+    (called .change-number .ensures ∙ number-same (called .before .before .before .is-inventory .ensures) (called .before .before .is-file .ensures) (ap not (called .before .has .ensures))) (c .unless-refused .ensures)
 
 pub remove-file-spec : {M : Type 1} → statement M
 remove-file-spec =
@@ -43,7 +40,7 @@ remove-file-spec =
     is-inventory-requires
     is-file-requires
     has-requires
-    remove-number-requires
-    returns
+    change-number-requires
     remove-requires
-    returns-2)
+    unless-refused-requires
+    returns)
