@@ -5,3 +5,4 @@ pub mod Steps
 pub mod AddedRow
 pub mod ByteField
 pub mod Reductions
+pub mod Determined
