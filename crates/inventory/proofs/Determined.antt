@@ -8,7 +8,7 @@ use mathlib.Core.List.{List}
 use Prim.Native.Nat.{ℕ}
 use lib.Dec.{leb}
 use Rattle.parity.specs.Coefficient.{coefficient}
-use Rattle.inventory.specs.Sets.{member}
+use Rattle.number_sets.specs.Sets.{member}
 use Rattle.inventory.specs.Model.{query, queried}
 use Rattle.inventory.specs.Query.{stateOf, Matches, answerOf, Queried, noInventory, asModel}
 use Rattle.inventory.specs.declared.Inventory.{Inventory}

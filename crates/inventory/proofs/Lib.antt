@@ -1,4 +1,3 @@
-pub mod Words
 pub mod Tests
 pub mod Outcomes
 pub mod Rows

@@ -15,7 +15,7 @@ use lib.Dec.{leb, eqb}
 use lib.ListN.{length, getD}
 use borrow.Author.Tests.{eq-eqb, ne-eqb, le-leb, lt-leb}
 use Rattle.parity.specs.Parity.{isFile}
-use Rattle.inventory.specs.Sets.{inserted}
+use Rattle.number_sets.specs.Sets.{inserted}
 use Rattle.inventory.specs.Steps.{allBelow, outcome, changeNumber, unlessRefused, accepted, withFiles, withVolumes, fresh, refusedOpening, nonemptyOf, openStep}
 use Rattle.inventory.specs.declared.Inventory.{Inventory}
 use Rattle.inventory.specs.declared.Outcome.{Outcome}

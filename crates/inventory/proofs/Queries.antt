@@ -1,6 +1,5 @@
 -- The reply to a query is the model's, whatever the sizes are.
 --
---   solved-by              what the elimination answers
 --   query-out-of-range, query-present, query-undetermined, query-no-room, query-recoverable     the cases of a query
 -- Assumes nothing.
 use mathlib.Core.Path.{_≡_, refl, sym, ap, ap₂, _∙_, subst}
@@ -18,14 +17,13 @@ use Rattle.gf256.proofs.Products.{product-zero-r}
 use Rattle.parity.specs.Coefficient.{coefficient}
 use Rattle.parity.specs.Parity.{isFile}
 use Rattle.elimination.specs.Matrix.{IsSolution, IsKernelVector}
-use Rattle.elimination.specs.Reduction.{IsSolvable, weightOf}
 use Rattle.elimination.proofs.ByteField.{Byte, byteField}
-use Rattle.elimination.proofs.Reductions.{ReducedBytes, weight-value, solvable-solution, unsolvable-kernel}
-use Rattle.inventory.specs.Sets.{member}
+use Rattle.number_sets.specs.Sets.{member}
+use Rattle.volume_weights.specs.Weights.{tableOf, Solved, solved, unsolved, fileWeight}
 use Rattle.inventory.specs.Recoverable.{State, column, place, weighted, Recoverable, IsWeights}
 use Rattle.inventory.specs.Model.{Reply, queried, query, Gives, GivesQuery, undetermined, noRoom, recoverable}
 use Rattle.inventory.specs.Steps.{isInventory}
-use Rattle.inventory.specs.Query.{stateOf, Matches, answerOf, Queried, asModel, tableOf, Solved, empty, solved, unsolved, fileWeight, Written}
+use Rattle.inventory.specs.Query.{stateOf, Matches, answerOf, Queried, asModel, Found, empty, notEmpty, Written}
 use Rattle.inventory.specs.declared.Inventory.{Inventory}
 use Rattle.inventory.specs.declared.Answer.the-variants as answer
 use Rattle.inventory.proofs.Tests.{file-in-range}
@@ -35,23 +33,6 @@ use Rattle.inventory.proofs.Weights.{Weighs, solution-weighs, zero-weig
 use Rattle.inventory.proofs.CoefficientRows.{few-files, coefficient-small, table-matrix}
 
 module _ (s : Inventory) (valid : isInventory s ≡ true) (f : ℕ) where
-  -- ---- what the elimination answers
-
-  pub solved-by : (m owners ws : List ℕ) (found : Bool) → isFile (s .n) f ≡ true → member (s .nonempty) f ≡ true
-      → ReducedBytes (tableOf s) m owners (255 - s .n) → IsSolvable m owners (f - 1) found
-      → ((v : ℕ) → v < 256 → getD ws v 0 ≡ weightOf m owners (f - 1) v) → Solved s f found ws
-  solved-by m owners ws true inRange e X A h =
-      let b = few-files s valid in
-      let l = file-in-range (s .n) f inRange in
-      let small : f - 1 < 256 = omega arith in
-      solved ws e _ (solvable-solution (tableOf s) m owners (255 - s .n) X (f - 1) small true A refl)
-      (λ v lv. h (suc v) (omega arith) ∙ weight-value (tableOf s) m owners (255 - s .n) X (f - 1) v small)
-  solved-by m owners ws false inRange e X A h =
-      let b = few-files s valid in
-      let l = file-in-range (s .n) f inRange in
-      let kernel = unsolvable-kernel (tableOf s) m owners (255 - s .n) X (f - 1) (omega arith) false A refl in
-      unsolved ws e (kernel .0) (kernel .1)
-
   -- ---- the cases
 
   module _ (room : List ℕ) where
@@ -75,6 +56,9 @@ module _ (s : Inventory) (valid : isInventory s ≡ true) (f : ℕ) where
     abbrev state : (ℕ → ℕ) → State
     state size = stateOf s size
 
+    abbrev table : ℕ → ℕ → Byte
+    table = tableOf (s .nonempty) (s .files) (s .volumes)
+
     abbrev matrix : (ℕ → ℕ) → ℕ → ℕ → Byte
     matrix size = R.matrix coefficient coefficient-small (state size) (few-files s valid)
 
@@ -95,27 +79,27 @@ module _ (s : Inventory) (valid : isInventory s ≡ true) (f : ℕ) where
         let b : size f < 1 = leb-false 1 (size f) (sym (matches f inRange) ∙ e) in
         omega arith
 
-    solution-in : (size : ℕ → ℕ) → Matches s size → (w : ℕ → Byte) → IsSolution byteField (tableOf s) 256 (255 - s .n) (f - 1) w
+    solution-in : (size : ℕ → ℕ) → Matches s size → (w : ℕ → Byte) → IsSolution byteField table 256 (255 - s .n) (f - 1) w
         → IsSolution byteField (matrix size) 256 (255 - s .n) (f - 1) w
     solution-in size matches w W =
         subst (λ (A : ℕ → ℕ → Byte). IsSolution byteField A 256 (255 - s .n) (f - 1) w) (table-matrix s valid size matches) W
 
-    recovered : (ws : List ℕ) (found : Bool) → Solved s f found ws → found ≡ true → (size : ℕ → ℕ) → Matches s size
+    recovered : (ws : List ℕ) (found : Bool) → Found (s .n) (s .files) (s .volumes) (s .nonempty) f found ws → found ≡ true → (size : ℕ → ℕ) → Matches s size
         → Recoverable coefficient (state size) f
-    recovered ws found (empty ws′ e z) t size matches =
+    recovered ws found (empty e y z) t size matches =
         empty-recoverable coefficient (state size) f inRange (is-empty size matches e)
-    recovered ws found (solved ws′ e w W h) t size matches =
+    recovered ws found (notEmpty e (solved ws′ w W h)) t size matches =
         subst (Recoverable coefficient (state size)) (sym as-suc)
         (solution-recoverable coefficient coefficient-small (state size) (few-files s valid) (f - 1) below w
         (solution-in size matches w W))
-    recovered ws found (unsolved ws′ e x X) t size matches = absurd (false≢true t)
+    recovered ws found (notEmpty e (unsolved ws′ x X)) t size matches = absurd (false≢true t)
 
-    pub query-undetermined : (ws : List ℕ) (found : Bool) → Solved s f found ws → found ≡ false
+    pub query-undetermined : (ws : List ℕ) (found : Bool) → Found (s .n) (s .files) (s .volumes) (s .nonempty) f found ws → found ≡ false
         → Queried s f room answer.Undetermined room
     unfolding answerOf
-    query-undetermined ws found (empty ws′ e z) t = absurd (true≢false t)
-    query-undetermined ws found (solved ws′ e w W h) t = absurd (true≢false t)
-    query-undetermined ws found (unsolved ws′ e x X) t =
+    query-undetermined ws found (empty e y z) t = absurd (true≢false (sym y ∙ t))
+    query-undetermined ws found (notEmpty e (solved ws′ w W h)) t = absurd (true≢false t)
+    query-undetermined ws found (notEmpty e (unsolved ws′ x X)) t =
         asModel valid 12 refl
         (λ size matches.
         as-model room size true false (queried 12 room) inRange missing
@@ -126,7 +110,7 @@ module _ (s : Inventory) (valid : isInventory s ≡ true) (f : ℕ) where
         (subst (λ (A : ℕ → ℕ → Byte). IsKernelVector byteField A 256 (255 - s .n) (f - 1) x) (table-matrix s valid size matches) X)
         (subst (Recoverable coefficient (state size)) as-suc r))))
 
-    pub query-no-room : (ws : List ℕ) (found : Bool) → Solved s f found ws → found ≡ true → length room < 255
+    pub query-no-room : (ws : List ℕ) (found : Bool) → Found (s .n) (s .files) (s .volumes) (s .nonempty) f found ws → found ≡ true → length room < 255
         → Queried s f room (answer.Refused 14) room
     unfolding answerOf
     query-no-room ws found S t l =
@@ -210,21 +194,21 @@ module _ (s : Inventory) (valid : isInventory s ≡ true) (f : ℕ) where
           is-weights coefficient coefficient-small (state size) (few-files s valid) f w weighs written written-long written-bytes
           (λ v l. written-volume v l ∙ h v (omega arith)) (present-weight size) missing-weight
 
-      written-weights : (found : Bool) → Solved s f found ws → found ≡ true → (size : ℕ → ℕ) → Matches s size
+      written-weights : (found : Bool) → Found (s .n) (s .files) (s .volumes) (s .nonempty) f found ws → found ≡ true → (size : ℕ → ℕ) → Matches s size
           → IsWeights coefficient (state size) f written
-      written-weights found (empty ws′ e z) t size matches =
+      written-weights found (empty e y z) t size matches =
           weights-of size (λ v. byteField .𝟘)
           (zero-weighs coefficient coefficient-small (state size) (few-files s valid) f
           (ap₂ (λ (a b : Bool). not a && b) missing (sym (matches f inRange) ∙ e)))
           (λ v l. z (suc v))
-      written-weights found (solved ws′ e w X h) t size matches =
+      written-weights found (notEmpty e (solved ws′ w X h)) t size matches =
           weights-of size w
           (subst (λ (k : ℕ). Weighs coefficient coefficient-small (state size) (few-files s valid) k w) (sym as-suc)
           (solution-weighs coefficient coefficient-small (state size) (few-files s valid) (f - 1) w (solution-in size matches w X)))
           h
-      written-weights found (unsolved ws′ e x X) t size matches = absurd (false≢true t)
+      written-weights found (notEmpty e (unsolved ws′ x X)) t size matches = absurd (false≢true t)
 
-      pub query-recoverable : (found : Bool) → Solved s f found ws → found ≡ true → Queried s f room answer.Recoverable room′
+      pub query-recoverable : (found : Bool) → Found (s .n) (s .files) (s .volumes) (s .nonempty) f found ws → found ≡ true → Queried s f room answer.Recoverable room′
       unfolding answerOf
       query-recoverable found S t =
           asModel valid 0 refl

@@ -16,7 +16,7 @@ use lib.Dec.{leb, eqb}
 use lib.ListN.{length, getD}
 use borrow.Author.Tests.{eq-eqb, ne-eqb, lt-leb}
 use Rattle.parity.specs.Parity.{isFile}
-use Rattle.inventory.specs.Sets.{member, inserted}
+use Rattle.number_sets.specs.Sets.{member, inserted}
 use Rattle.inventory.specs.Recoverable.{State, isVolume}
 use Rattle.inventory.specs.Model.{Call, addFile, removeFile, addVolume, removeVolume, count, query, Reply, numbered, opened}
 use Rattle.inventory.specs.Steps.{isInventory, within, zeros, nonemptyOf, fresh, outcome, accepted, changeNumber, openStep, addFileStep, addVolumeStep, withFiles, withVolumes}
@@ -25,7 +25,7 @@ use Rattle.inventory.specs.Claim.{Did, Ran, addsFile, addsVolume, OnlyAd
 use Rattle.inventory.specs.declared.Inventory.{Inventory}
 use Rattle.inventory.specs.declared.Outcome.{Outcome}
 use Rattle.inventory.proofs.Tests.{and-true, file-in-range, file-range, volume-range}
-use Rattle.inventory.proofs.Words.{Words, words-same, words-none, words-inserted}
+use Rattle.number_sets.proofs.Words.{Words, words-same, words-none, words-inserted}
 use Rattle.inventory.proofs.Outcomes.{open-accepted}
 use Rattle.inventory.proofs.Representation.{Represents, opened-represents, within-bits, n-valid, files-valid, nonempty-valid, volumes-valid, nonempty-member, file-more, no-file}
 use Rattle.inventory.proofs.Calls.{after-adds, holding}

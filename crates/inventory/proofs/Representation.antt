@@ -16,7 +16,7 @@ use lib.ListN.{length, getD, replicate, length-replicate}
 use borrow.Author.Tests.{eq-eqb, ne-eqb, eqb-true, le-leb, lt-leb}
 use Rattle.parity.specs.Coefficient.{coefficient}
 use Rattle.parity.specs.Parity.{isFile}
-use Rattle.inventory.specs.Sets.{member, inserted, removed, sizeBelow}
+use Rattle.number_sets.specs.Sets.{member, inserted, removed, sizeBelow}
 use Rattle.inventory.specs.Recoverable.{State, isVolume}
 use Rattle.inventory.specs.Model as M
 use Rattle.inventory.specs.Model.{Call, addFile, removeFile, addVolume, removeVolume, count, query, Reply, numbered, queried, opened, insert, remove, next, Gives}
@@ -28,7 +28,7 @@ use Rattle.inventory.specs.declared.Counted.the-variants as counted
 use Rattle.inventory.specs.declared.Answer.{Answer}
 use Rattle.inventory.specs.declared.Answer.the-variants as answer
 use Rattle.inventory.proofs.Tests.{all-true, all-at, and-true, file-in-range, file-range, volume-in-range}
-use Rattle.inventory.proofs.Words.{member-inserted, member-removed, member-none, length-inserted, length-removed}
+use Rattle.number_sets.proofs.Words.{member-inserted, member-removed, member-none, length-inserted, length-removed}
 use Rattle.inventory.proofs.CoefficientRows.{few-files}
 
 pub record Represents (size : ℕ → ℕ) (t : State) (s : Inventory) : Type 0 where

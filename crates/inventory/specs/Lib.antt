@@ -1,4 +1,3 @@
-pub mod Sets
 pub mod Recoverable
 pub mod Model
 pub mod Steps

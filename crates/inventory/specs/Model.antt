@@ -14,7 +14,7 @@ use Prim.Native.Nat.{ℕ, _<_, _≤_}
 use lib.Dec.{eqb}
 use lib.ListN.{length, drop}
 use Rattle.parity.specs.Parity.{isFile}
-use Rattle.inventory.specs.Sets.{sizeBelow}
+use Rattle.number_sets.specs.Sets.{sizeBelow}
 use Rattle.inventory.specs.Recoverable.{State, isVolume, Recoverable, IsWeights}
 
 -- "each call with its lent room and its arguments other than the sheet"

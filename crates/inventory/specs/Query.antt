@@ -4,29 +4,19 @@
 --   Matches s size          the sizes are 0 where the inventory has the files as empty
 --   answerOf k              the answer with the document's number k
 --   Queried s f room r room′    the reply r to a query, and the room after it
---   columnIn s g            whether file g is missing and not empty
---   tableOf s v i           the coefficient of file i + 1 in volume v + 1, if it is a column and the volume is present, else 0
---   MaskedRow chosen v row      the coefficients of the chosen files in volume v + 1
---   Advanced row row′       each entry i of the row times i + 1
---   VolumeTaken present row number m owners m′ owners′     a row added to the elimination, if its volume is present
---   Solved s f found ws     whether the rows have weights that sum to file f, and these weights by volume number
---   fileWeight files ws m i     the sum, over the first m volumes, of weight times the coefficient of file i + 1, if it is present
+--   Found n files volumes nonempty f found ws     whether weights bring file f back, and these weights by volume number
 --   Written n files ws room room′ p     the first p weights of n files and the volumes, in the room
 -- Assumes nothing.
 use mathlib.Core.Path.{_≡_}
-use mathlib.Core.Bool.{Bool, true, false, not, cond, _&&_}
+use mathlib.Core.Bool.{Bool, true, false, cond}
 use mathlib.Core.List.{List}
-use Prim.Native.Nat.{ℕ, suc, _<_, _≤_, _+_, _-_}
+use Prim.Native.Nat.{ℕ, _<_, _≤_, _+_, _-_}
 use lib.Dec.{leb, eqb}
 use lib.ListN.{length, getD}
-use Rattle.gf256.specs.Polynomial.{sumBelow}
-use Rattle.gf256.specs.Field.{product}
 use Rattle.parity.specs.Coefficient.{coefficient}
 use Rattle.parity.specs.Parity.{isFile}
-use Rattle.elimination.specs.Matrix.{IsSolution, IsKernelVector}
-use Rattle.elimination.specs.Reduction.{RowAdded}
-use Rattle.elimination.proofs.ByteField.{Byte, byteField, toByte}
-use Rattle.inventory.specs.Sets.{member}
+use Rattle.number_sets.specs.Sets.{member}
+use Rattle.volume_weights.specs.Weights.{Solved, fileWeight}
 use Rattle.inventory.specs.Recoverable.{State}
 use Rattle.inventory.specs.Model.{query, queried, Gives}
 use Rattle.inventory.specs.Steps.{isInventory}
@@ -55,39 +45,13 @@ pub data Queried (s : Inventory) (f : ℕ) (room : List ℕ) (r : Answer) (room�
       → ((size : ℕ → ℕ) → Matches s size → Gives coefficient (stateOf s size) (query f room) (queried k room′))
       → Queried s f room r room′
 
--- ---- the rows
-
-abbrev pub columnIn : Inventory → ℕ → Bool
-columnIn s g = isFile (s .n) g && (not (member (s .files) g) && member (s .nonempty) g)
-
-unfoldable pub tableOf : Inventory → ℕ → ℕ → Byte
-tableOf s v i = toByte (cond (member (s .volumes) (suc v)) (cond (columnIn s (suc i)) (coefficient (suc i) (suc v)) 0) 0)
-
-pub record MaskedRow (chosen : ℕ → Bool) (v : ℕ) (row : List ℕ) : Type 0 where
-  pub inside : (i : ℕ) → i < 255 → getD row i 0 ≡ cond (chosen (suc i)) (coefficient (suc i) (suc v)) 0
-  pub last : getD row 255 0 ≡ 0
-
-pub record Advanced (row row′ : List ℕ) : Type 0 where
-  pub inside : (i : ℕ) → i < 255 → getD row′ i 0 ≡ product (suc i) (getD row i 0)
-  pub last : getD row′ 255 0 ≡ getD row 255 0
-
-pub data VolumeTaken (present : Bool) (row : List ℕ) (number : ℕ) (m owners m′ owners′ : List ℕ) : Type 0 where
-  absent : present ≡ false → m′ ≡ m → owners′ ≡ owners → VolumeTaken present row number m owners m′ owners′
-  added : present ≡ true → RowAdded row number m owners m′ owners′ → VolumeTaken present row number m owners m′ owners′
-
 -- ---- the weights
 
-pub data Solved (s : Inventory) (f : ℕ) : Bool → List ℕ → Type 0 where
-  empty : (ws : List ℕ) → member (s .nonempty) f ≡ false → ((v : ℕ) → getD ws v 0 ≡ 0) → Solved s f true ws
-  solved : (ws : List ℕ) → member (s .nonempty) f ≡ true → (w : ℕ → Byte)
-      → IsSolution byteField (tableOf s) 256 (255 - s .n) (f - 1) w
-      → ((v : ℕ) → v < 255 → getD ws (suc v) 0 ≡ w v .0) → Solved s f true ws
-  unsolved : (ws : List ℕ) → member (s .nonempty) f ≡ true → (x : ℕ → Byte)
-      → IsKernelVector byteField (tableOf s) 256 (255 - s .n) (f - 1) x → Solved s f false ws
-
-unfoldable pub fileWeight : List ℕ → List ℕ → ℕ → ℕ → ℕ
-fileWeight files ws m i =
-    sumBelow m (λ v. product (getD ws (suc v) 0) (cond (member files (suc i)) (coefficient (suc i) (suc v)) 0))
+-- an empty file comes back by no weight; any other by those that solve the rows of the volumes present
+pub data Found (n : ℕ) (files volumes nonempty : List ℕ) (f : ℕ) (found : Bool) (ws : List ℕ) : Type 0 where
+  empty : member nonempty f ≡ false → found ≡ true → ((v : ℕ) → getD ws v 0 ≡ 0) → Found n files volumes nonempty f found ws
+  notEmpty : member nonempty f ≡ true → Solved nonempty files volumes (255 - n) (f - 1) found ws
+      → Found n files volumes nonempty f found ws
 
 pub record Written (n : ℕ) (files ws room room′ : List ℕ) (p : ℕ) : Type 0 where
   pub same-length : length room′ ≡ length room

@@ -13,7 +13,7 @@ use Prim.Native.Nat.{ℕ, zero, suc, _-_}
 use lib.Dec.{leb, eqb}
 use lib.ListN.{length, getD, replicate}
 use Rattle.parity.specs.Parity.{isFile}
-use Rattle.inventory.specs.Sets.{member, inserted, removed, sizeBelow}
+use Rattle.number_sets.specs.Sets.{member, inserted, removed, sizeBelow}
 use Rattle.inventory.specs.Recoverable.{isVolume}
 use Rattle.inventory.specs.declared.Inventory.{Inventory}
 use Rattle.inventory.specs.declared.Outcome.{Outcome}

@@ -4,15 +4,14 @@ ghost use Rattle.inventory.specs.Steps.{openStep, refusedOpening, change
 
 mod query;
 mod ranges;
-mod sets;
 
+use number_sets::has;
+use number_sets::insert;
+use number_sets::remove;
+use number_sets::size;
 use ranges::is_file;
 use ranges::is_inventory;
 use ranges::is_volume;
-use sets::has;
-use sets::insert;
-use sets::remove;
-use sets::size;
 
 // The greatest size of a listed file, in bytes.
 const MAX_FILE_BYTES: u64 = 16777216;

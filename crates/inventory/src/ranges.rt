@@ -4,7 +4,7 @@ ghost use Rattle.parity.specs.Parity.{isFile};
 ghost use Rattle.inventory.specs.Recoverable.{isVolume};
 ghost use Rattle.inventory.specs.Steps.{within, isInventory};
 use crate::Inventory;
-use crate::sets::has;
+use number_sets::has;
 
 // Whether opening and accepted calls could have given this inventory.
 pub fn is_inventory(s: Inventory) -> bool

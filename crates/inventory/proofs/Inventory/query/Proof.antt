@@ -4,6 +4,7 @@ use mathlib.Core.Path.{refl, sym, _∙_}
 use native.Mathlib.Omega.{arith}
 use Rattle.inventory.proofs.Tests.{is-true, is-false}
 use Rattle.inventory.specs.Query.{noInventory}
+use Rattle.inventory.proofs.CoefficientRows.{few-files}
 use Rattle.inventory.proofs.Queries.{query-out-of-range, query-present, query-undetermined, query-no-room, query-recoverable}
 use borrow.Author.Needs.{needs}
 use Rattle.inventory.proofs.Inventory.query.Statement.{statement}
@@ -30,7 +31,7 @@ has-requires c κs = search needs
 
 returns-3 : tie.Need-returns-3
 returns-3 c =
-    let asked = c .before .before .before in
+    let asked = c .before .before .before .before .before in
     let known = asked .before .before in
     let a = known .before .before .before .args in
     let valid = sym (known .before .is-inventory .ensures) ∙ is-true (known .before .is-inventory .result) (known .if1 .left) in
@@ -39,16 +40,17 @@ returns-3 c =
 
 solve-requires : tie.Need-solve-requires
 solve-requires c κs =
-    let asked = c .before .before .before in
-    let known = asked .before .before in (
-      sym (known .before .is-inventory .ensures) ∙ is-true (known .before .is-inventory .result) (known .if1 .left),
-      sym (asked .before .is-file .ensures) ∙ is-true (asked .before .is-file .result) (asked .if2 .left),
-    )
+    let asked = c .before .before .before .before .before in
+    let known = asked .before .before in
+    let a = known .before .before .before .args in
+    let valid = sym (known .before .is-inventory .ensures) ∙ is-true (known .before .is-inventory .result) (known .if1 .left) in
+    let ranged = sym (asked .before .is-file .ensures) ∙ is-true (asked .before .is-file .result) (asked .if2 .left) in
+    (few-files (a .self) valid, ranged)
 
 returns-4 : tie.Need-returns-4
 returns-4 c =
     let there = c .before .before in
-    let asked = there .before .before .before in
+    let asked = there .before .before .before .before .before in
     let known = asked .before .before in
     let a = known .before .before .before .args in
     let valid = sym (known .before .is-inventory .ensures) ∙ is-true (known .before .is-inventory .result) (known .if1 .left) in
@@ -61,7 +63,7 @@ returns-4 c =
 returns-5 : tie.Need-returns-5
 returns-5 c =
     let there = c .before .before .before in
-    let asked = there .before .before .before in
+    let asked = there .before .before .before .before .before in
     let known = asked .before .before in
     let a = known .before .before .before .args in
     let valid = sym (known .before .is-inventory .ensures) ∙ is-true (known .before .is-inventory .result) (known .if1 .left) in
@@ -73,8 +75,10 @@ returns-5 c =
 
 write-requires : tie.Need-write-requires
 write-requires c κs =
-    let known = c .before .before .before .before .before .before .before .before .before .before .before in
-    (sym (known .before .is-inventory .ensures) ∙ is-true (known .before .is-inventory .result) (known .if1 .left), c .before .before .before .if5 .left)
+    let known = c .before .before .before .before .before .before .before .before .before .before .before .before .before in
+    let a = known .before .before .before .args in
+    let valid = sym (known .before .is-inventory .ensures) ∙ is-true (known .before .is-inventory .result) (known .if1 .left) in
+    (few-files (a .self) valid, c .before .before .before .if5 .left)
 
 same-length : tie.Need-same-length
 same-length c = search needs
@@ -82,7 +86,7 @@ same-length c = search needs
 returns-6 : tie.Need-returns-6
 returns-6 c =
     let there = c .before .before .before .before .before .before .before .before .before in
-    let asked = there .before .before .before in
+    let asked = there .before .before .before .before .before in
     let known = asked .before .before in
     let a = known .before .before .before .args in
     let valid = sym (known .before .is-inventory .ensures) ∙ is-true (known .before .is-inventory .result) (known .if1 .left) in
@@ -91,7 +95,7 @@ returns-6 c =
     let tested = c .before .before .before .before .before .before .before in
     let s = tested .before .solve in
     let w = c .before .before .write in
-    query-recoverable (a .self) valid (a .file) ranged missing (a .out .now) (s .result .weights) (w .last .1 .1 .0) (c .before .before .before .before .before .before .if5 .left)
+    query-recoverable (a .self) valid (a .file) ranged missing (a .out .now) (s .result .weights) (w .last .1 .1 .1 .0) (c .before .before .before .before .before .before .if5 .left)
     (w .ensures) (λ p. omega (arith, c .slice-known2 .given p)) (s .result .found) (s .ensures) (is-true (s .result .found) (tested .if4 .left))
 
 pub query-spec : {M : Type 1} → statement M

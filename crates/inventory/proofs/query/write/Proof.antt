@@ -6,20 +6,27 @@ use Prim.Native.Nat.{ℕ, _≤_, _<_, _-_, _+_}
 use native.Mathlib.Omega.{arith}
 use lib.ListN.{length, getD, length-set}
 use Rattle.inventory.proofs.QuerySteps.{written-none, written-file, written-volume}
-use Rattle.inventory.specs.Query.{fileWeight, Written}
+use Rattle.inventory.specs.Query.{Written}
+use Rattle.volume_weights.specs.Weights.{fileWeight}
 use mathlib.Core.List.{List}
 use borrow.Author.Needs.{needs}
 use Rattle.inventory.proofs.query.write.Statement.{statement}
 use Rattle.inventory.proofs.query.write.Tie as tie
 
 abbrev Inv-loop : tie.InvT-loop
-Inv-loop weights out₀ sums n p₀ out p =
+Inv-loop n₀ weights out₀ sums n p₀ out p =
     (p ≤ 255) × (length out ≡ length out₀)
     × ((files : List ℕ) → ((i : ℕ) → i < 255 → getD sums i 0 ≡ fileWeight files weights (255 - n) i)
     → Written n files weights out₀ out p)
 
 abbrev μ-loop : tie.MeasureT-loop
-μ-loop weights out₀ sums n p₀ out p = 255 - p
+μ-loop n₀ weights out₀ sums n p₀ out p = 255 - p
+
+sub-file-weights : tie.Need-sub-file-weights Inv-loop μ-loop
+sub-file-weights c = omega (arith, c .before .pre .0)
+
+cast-file-weights : tie.Need-cast-file-weights Inv-loop μ-loop
+cast-file-weights c = omega (arith, c .before .pre .0)
 
 file-weights-requires : tie.Need-file-weights-requires Inv-loop μ-loop
 file-weights-requires c κs = search needs
@@ -57,10 +64,10 @@ loop-again c =
       ⊎-elim (λ w. ap length (w .1) ∙ simp length-set (l .inv .1)) (λ w. ap length (w .2) ∙ simp length-set (l .inv .1)) (c .if1 .came),
       λ files h.
           ⊎-elim
-          (λ w. subst (λ (o : List ℕ). Written (a .s .n) files (a .weights .now) (a .out .now) o (l .p + 1)) (sym (w .1))
-          (written-file (a .s .n) files (a .weights .now) (a .out .now) (l .out) (l .p) _ inside (l .inv .2 files h) (w .0 .taken) (h (l .p) (omega arith))))
-          (λ w. subst (λ (o : List ℕ). Written (a .s .n) files (a .weights .now) (a .out .now) o (l .p + 1)) (sym (w .2))
-          (written-volume (a .s .n) files (a .weights .now) (a .out .now) (l .out) (l .p) _ inside (l .inv .2 files h) (w .0 .left) refl))
+          (λ w. subst (λ (o : List ℕ). Written (a .n) files (a .weights .now) (a .out .now) o (l .p + 1)) (sym (w .1))
+          (written-file (a .n) files (a .weights .now) (a .out .now) (l .out) (l .p) _ inside (l .inv .2 files h) (w .0 .taken) (h (l .p) (omega arith))))
+          (λ w. subst (λ (o : List ℕ). Written (a .n) files (a .weights .now) (a .out .now) o (l .p + 1)) (sym (w .2))
+          (written-volume (a .n) files (a .weights .now) (a .out .now) (l .out) (l .p) _ inside (l .inv .2 files h) (w .0 .left) refl))
           (c .if1 .came),
     )
 
@@ -72,8 +79,8 @@ returns c =
     let l = c .before .loop in
     let a = c .before .before .before .before .args in
     let e : l .p ≡ 255 = omega arith in
-    subst (Written (a .s .n) (a .s .files) (a .weights .now) (a .out .now) (l .out)) e
-    (l .inv .2 (a .s .files) (c .before .before .file-weights .ensures))
+    subst (Written (a .n) (a .files) (a .weights .now) (a .out .now) (l .out)) e
+    (l .inv .2 (a .files) (c .before .before .file-weights .ensures))
 
 pub write-spec : {M : Type 1} → statement M
 write-spec =
@@ -81,6 +88,8 @@ write-spec =
     (tie.spec
     Inv-loop
     μ-loop
+    sub-file-weights
+    cast-file-weights
     file-weights-requires
     loop-holds
     array-read-out

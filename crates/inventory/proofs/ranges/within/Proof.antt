@@ -8,7 +8,7 @@ use lib.ListN.{set}
 use mathlib.Core.Bool.{Bool, true, not, _||_}
 use native.Mathlib.Nat.{not-suc-le-zero}
 use Rattle.parity.specs.Parity.{isFile}
-use Rattle.inventory.specs.Sets.{member}
+use Rattle.number_sets.specs.Sets.{member}
 use Rattle.inventory.specs.Steps.{within}
 use Rattle.inventory.proofs.Tests.{all-true, all-false, is-true, is-false, one-more, or-left, or-right}
 use borrow.Author.Needs.{needs}

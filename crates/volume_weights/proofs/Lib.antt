@@ -1,0 +1,2 @@
+pub mod CoefficientRows
+pub mod Steps

@@ -1,0 +1,85 @@
+-- The parts of a solution, put together.
+--
+--   volume-reduced        one volume more, taken or left out
+--   solved-by             what the elimination answers
+--   sums-more, all-chosen the loop of `file_weights`, and the files that it takes
+-- Assumes nothing.
+use mathlib.Core.Path.{_≡_, refl, sym, ap, ap₂, _∙_, subst}
+use mathlib.Core.Bool.{Bool, true, false, not, cond, _&&_}
+use mathlib.Core.List.{List}
+use Prim.Native.Nat.{ℕ, suc, _<_, _+_}
+use native.Mathlib.Numerals.{add-one}
+use native.Mathlib.Omega.{arith}
+use lib.Bits.{bitXor}
+use lib.ListN.{length, getD, replicate}
+use Rattle.gf256.specs.Polynomial.{sumBelow}
+use Rattle.gf256.specs.Field.{product}
+use Rattle.parity.specs.Coefficient.{coefficient}
+use Rattle.parity.specs.MulAdd.{mulAdd}
+use Rattle.parity.proofs.MulAdds.{mulAdd-at}
+use Rattle.elimination.specs.Reduction.{RowAdded, IsSolvable, weightOf}
+use Rattle.elimination.proofs.Reductions.{ReducedBytes, skip-reduced, add-reduced, weight-value, solvable-solution, unsolvable-kernel}
+use Rattle.elimination.proofs.ByteField.{Byte}
+use Rattle.number_sets.specs.Sets.{member}
+use Rattle.number_sets.proofs.Words.{member-none}
+use Rattle.volume_weights.specs.Weights.{tableOf, MaskedRow, VolumeTaken, absent, added, Solved, solved, unsolved, fileWeight}
+use Rattle.volume_weights.proofs.CoefficientRows.{table-row, table-absent}
+
+-- ---- the rows of the volumes
+
+module _ (inside outside volumes : List ℕ) where
+  abbrev table : ℕ → ℕ → Byte
+  table = tableOf inside outside volumes
+
+  pub volume-reduced : (v : ℕ) (row m owners m′ owners′ : List ℕ) (present : Bool)
+      → MaskedRow (λ g. member inside g && not (member outside g)) v row → present ≡ member volumes (v + 1)
+      → ReducedBytes table m owners v → VolumeTaken present row (v + 1) m owners m′ owners′
+      → ReducedBytes table m′ owners′ (v + 1)
+  volume-reduced v row m owners m′ owners′ present M e R (absent h p q) =
+      subst (λ (k : ℕ). ReducedBytes table m′ owners′ k) (sym (add-one v))
+      (subst (λ (z : List ℕ). ReducedBytes table z owners′ (suc v)) (sym p)
+      (subst (λ (z : List ℕ). ReducedBytes table m z (suc v)) (sym q)
+      (skip-reduced table m owners v R
+      (λ i l. table-absent inside outside volumes v (sym (ap (member volumes) (add-one v)) ∙ sym e ∙ h) i))))
+  volume-reduced v row m owners m′ owners′ present M e R (added h A) =
+      subst (λ (k : ℕ). ReducedBytes table m′ owners′ k) (sym (add-one v))
+      (add-reduced table m owners v R row
+      (table-row inside outside volumes v row M (sym (ap (member volumes) (add-one v)) ∙ sym e ∙ h)) m′ owners′
+      (subst (λ (k : ℕ). RowAdded row k m owners m′ owners′) (add-one v) A))
+
+  -- ---- what the elimination answers
+
+  pub solved-by : (rows i : ℕ) → i < 256 → (m owners ws : List ℕ) (found : Bool) → ReducedBytes table m owners rows
+      → IsSolvable m owners i found → ((v : ℕ) → v < 256 → getD ws v 0 ≡ weightOf m owners i v)
+      → Solved inside outside volumes rows i found ws
+  solved-by rows i small m owners ws true X A h =
+      solved ws _ (solvable-solution table m owners rows X i small true A refl)
+      (λ v l. h (suc v) (omega arith) ∙ weight-value table m owners rows X i v small)
+  solved-by rows i small m owners ws false X A h =
+      let kernel = unsolvable-kernel table m owners rows X i small false A refl in
+      unsolved ws (kernel .0) (kernel .1)
+
+-- ---- the weights of the files
+
+pub sums-more : (files ws row sums : List ℕ) (v : ℕ) → length sums ≡ 256 → MaskedRow (member files) v row
+    → ((i : ℕ) → i < 255 → getD sums i 0 ≡ fileWeight files ws v i)
+    → (i : ℕ) → i < 255 → getD (mulAdd (getD ws (v + 1) 0) row sums) i 0 ≡ fileWeight files ws (v + 1) i
+unfolding fileWeight sumBelow
+sums-more files ws row sums v e M h i l =
+    mulAdd-at (getD ws (v + 1) 0) row sums i (omega arith)
+    ∙ ap₂ bitXor (h i l) (ap₂ (λ (k x : ℕ). product (getD ws k 0) x) (add-one v) (M .inside i l))
+    ∙ ap (λ (k : ℕ). fileWeight files ws k i) (sym (add-one v))
+
+-- every file of a set, with none left out
+pub all-chosen : (files row : List ℕ) → MaskedRow (λ g. member files g && not (member (replicate 4 0) g)) 0 row → MaskedRow (member files) 0 row
+all-chosen files row M = record {
+  inside = λ i l.
+      M .inside i l
+      ∙ ap (λ (b : Bool). cond b (coefficient (suc i) 1) 0)
+      (ap (λ (b : Bool). member files (suc i) && not b) (member-none (suc i)) ∙ and-one (member files (suc i)));
+  last = M .last;
+}
+  where
+    and-one : (b : Bool) → (b && true) ≡ b
+    and-one true = refl
+    and-one false = refl
