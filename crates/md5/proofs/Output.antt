@@ -11,7 +11,7 @@ use mathlib.Core.List.{List, _++_}
 use lib.ListN.{length, drop, replicate}
 use lib.Seq.{sets, sets-eq}
 use Rattle.little_endian.specs.Bytes.{toLe}
-use Rattle.md5.specs.declared.rounds.Words.{Words}
+use Rattle.md5_blocks.specs.declared.rounds.Words.{Words}
 use Rattle.md5.specs.Digest.{output}
 
 module _ (w : Words) where

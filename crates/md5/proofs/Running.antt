@@ -14,13 +14,13 @@ use native.Mathlib.Omega.{arith}
 use mathlib.Core.List.{List, [], _∷_, _++_, append-assoc, append-nil}
 use lib.ListN.{length, take, drop, replicate, length-append, length-drop, take-append-drop}
 use lib.Seq.{paste, take-all, length-take-le}
-use Rattle.md5.specs.declared.rounds.Words.{Words}
+use Rattle.md5_blocks.specs.declared.rounds.Words.{Words}
+use Rattle.md5_blocks.specs.Blocks.{allBlocks, rest}
+use Rattle.md5_blocks.proofs.BlockLaws.{all-short, all-one, all-cons, all-join, rest-short, rest-cons, rest-join, length-rest}
 use Rattle.md5.specs.declared.Md5.{Md5}
 use Rattle.md5.specs.Padding.{padding, padded}
-use Rattle.md5.specs.Rounds.{start}
-use Rattle.md5.specs.Digest.{allBlocks, output, md5}
-use Rattle.md5.specs.Running.{rest, tailOf, stateOf, waiting, pushed, finished, pushedAll, joined}
-use Rattle.md5.proofs.BlockLaws.{all-short, all-one, all-cons, all-join, rest-short, rest-cons, rest-join, length-rest}
+use Rattle.md5.specs.Digest.{start, output, md5}
+use Rattle.md5.specs.Running.{tailOf, stateOf, waiting, pushed, finished, pushedAll, joined}
 use Rattle.md5.proofs.PaddingLaws.{padding-mod}
 use Rattle.md5.proofs.Tail.{tail-fill, tail-first, tail-full, take-tail}
 

@@ -1,47 +1,23 @@
 -- MD5 (RFC 1321) on lists of bytes.
 --
---   wordsOf n s      the first n words of a block
---   compress w s     the words w after the block s
---   allBlocks w m    the words w after every whole block of m
+--   start            the words A, B, C, D at first
 --   output w         the digest that the words are
 --   md5 m            the digest of the message m
 --   digestInto m out what the call that writes into lent bytes gives: its number, and the bytes
 -- Assumes nothing.
-use Prim.Native.Nat.{ℕ, zero, suc, _+_, _*_, _/_, _%_, _^_}
+use Prim.Native.Nat.{ℕ}
 use mathlib.Core.Bool.{cond}
-use mathlib.Core.List.{List, [], _∷_, _++_}
+use mathlib.Core.List.{List, _++_}
 use lib.Dec.{ltb}
-use lib.ListN.{length, take, drop}
-use Rattle.little_endian.specs.Bytes.{toLe, leAt}
-use Rattle.md5.specs.declared.rounds.Words.{Words}
+use lib.ListN.{length, drop}
+use Rattle.little_endian.specs.Bytes.{toLe}
+use Rattle.md5_blocks.specs.declared.rounds.Words.{Words}
+use Rattle.md5_blocks.specs.Blocks.{allBlocks}
 use Rattle.md5.specs.Padding.{padded}
-use Rattle.md5.specs.Rounds.{start, sines, steps}
 
--- 3.4: "For j = 0 to 15 do: Set X[j] to M[i*16+j]", a word being four bytes, lowest first: the first n words of s
-unfoldable pub wordsOf : ℕ → List ℕ → List ℕ
-wordsOf zero s = []
-wordsOf (suc n) s = wordsOf n s ++ leAt 4 s (4 * n) ∷ []
-
--- "increment each of the four registers by the value it had before this block was started"
-abbrev pub plus : Words → Words → Words
-plus v w =
-    record {
-      a = (v .a + w .a) % 2 ^ 32;
-      b = (v .b + w .b) % 2 ^ 32;
-      c = (v .c + w .c) % 2 ^ 32;
-      d = (v .d + w .d) % 2 ^ 32;
-    }
-
-unfoldable pub compress : Words → List ℕ → Words
-compress w s = plus (steps sines (wordsOf 16 s) 0 64 w) w
-
--- "Process each 16-word block": the first n blocks of m
-unfoldable pub blocksOf : ℕ → Words → List ℕ → Words
-blocksOf zero w m = w
-blocksOf (suc n) w m = blocksOf n (compress w (take 64 m)) (drop 64 m)
-
-abbrev pub allBlocks : Words → List ℕ → Words
-allBlocks w m = blocksOf (length m / 64) w m
+-- 3.3: "word A: 01 23 45 67", and so on, "low-order bytes first"
+unfoldable pub start : Words
+start = record { a = 0x67452301; b = 0xefcdab89; c = 0x98badcfe; d = 0x10325476 }
 
 -- 3.5: "we begin with the low-order byte of A, and end with the high-order byte of D"
 unfoldable pub output : Words → List ℕ

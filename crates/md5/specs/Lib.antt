@@ -1,4 +1,3 @@
 pub mod Padding
-pub mod Rounds
 pub mod Digest
 pub mod Running

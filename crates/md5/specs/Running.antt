@@ -6,18 +6,14 @@
 --   stateOf m     the state after the message m: proofs/Running.antt shows that every run of pushes of m gives it
 --   pushedAll h ps, joined ps   the state h after each of the parts ps in turn, and the message that they are
 -- Assumes nothing.
-use Prim.Native.Nat.{ℕ, _+_, _-_, _*_, _/_, _%_, _^_}
+use Prim.Native.Nat.{ℕ, _+_, _-_, _%_, _^_}
 use mathlib.Core.List.{List, [], _∷_, _++_}
-use lib.ListN.{length, take, drop, replicate}
+use lib.ListN.{length, take, replicate}
+use Rattle.md5_blocks.specs.declared.rounds.Words.{Words}
+use Rattle.md5_blocks.specs.Blocks.{allBlocks, rest}
 use Rattle.md5.specs.declared.Md5.{Md5}
-use Rattle.md5.specs.declared.rounds.Words.{Words}
 use Rattle.md5.specs.Padding.{padding}
-use Rattle.md5.specs.Rounds.{start}
-use Rattle.md5.specs.Digest.{allBlocks, output}
-
--- what is left of m after its whole blocks
-abbrev pub rest : List ℕ → List ℕ
-rest m = drop (64 * (length m / 64)) m
+use Rattle.md5.specs.Digest.{start, output}
 
 -- up to 64 bytes, and zeros to make them 64
 abbrev pub tailOf : List ℕ → List ℕ

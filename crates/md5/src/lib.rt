@@ -4,14 +4,11 @@ ghost use Prim.Native.Nat.{_+_, _≤_};
 ghost use mathlib.Core.List.{[], _++_};
 ghost use lib.ListN.{length, take};
 ghost use lib.Seq.{paste, sets};
+ghost use Rattle.md5_blocks.specs.Blocks.{allBlocks};
 ghost use Rattle.md5.specs.Padding.{padding};
-ghost use Rattle.md5.specs.Digest.{allBlocks, output, md5, digestInto};
+ghost use Rattle.md5.specs.Digest.{output, md5, digestInto};
 ghost use Rattle.md5.specs.Running.{stateOf, pushed, waiting, finished};
-
-mod blocks;
-mod rounds;
-
-use rounds::Words;
+use md5_blocks::Words;
 
 // The digest of `bytes`.
 pub fn digest(bytes: &[u8]) -> [u8; 16]
@@ -81,7 +78,7 @@ impl Md5 {
         let m = more.len() / 64 * 64;
         let tail = fill([0u8; 64], 0, &more[m..]);
         Md5 {
-            words: blocks::after_blocks(w, &first, more),
+            words: md5_blocks::after_blocks(w, &first, more),
             tail,
             total: sum,
         }

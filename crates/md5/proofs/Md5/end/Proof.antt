@@ -5,8 +5,8 @@ use Prim.Native.Nat.{ℕ}
 use native.Mathlib.Omega.{arith}
 use lib.ListN.{length, length-take}
 use mathlib.Core.List.{List, _++_}
+use Rattle.md5_blocks.specs.Blocks.{allBlocks}
 use Rattle.md5.specs.declared.Md5.{Md5}
-use Rattle.md5.specs.Digest.{allBlocks}
 use Rattle.md5.specs.Running.{waiting, pushed}
 use borrow.Author.Needs.{needs}
 use Rattle.md5.proofs.Md5.end.Statement.{statement}

@@ -1,0 +1,23 @@
+-- `md5_blocks::rounds::rotl` meets its contract.
+-- Assumes nothing.
+use mathlib.Core.Path.{refl}
+use Rattle.md5_blocks.specs.Rounds.{rotl}
+use borrow.Author.Needs.{needs}
+use Rattle.md5_blocks.proofs.rounds.rotl.Statement.{statement}
+use Rattle.md5_blocks.proofs.rounds.rotl.Tie as tie
+
+shl-result : tie.Need-shl-result
+shl-result c = search needs
+
+sub-result : tie.Need-sub-result
+sub-result c = search needs
+
+shr-result : tie.Need-shr-result
+shr-result c = search needs
+
+returns : tie.Need-returns
+unfolding rotl
+returns c = refl
+
+pub rotl-spec : {M : Type 1} → statement M
+rotl-spec = tie.close (tie.spec shl-result sub-result shr-result returns)
