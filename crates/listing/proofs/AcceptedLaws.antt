@@ -6,10 +6,10 @@ use mathlib.Core.Path.{_≡_, refl, sym, subst}
 use mathlib.Core.List.{List}
 use Prim.Native.Nat.{ℕ, zero, suc}
 use native.Mathlib.Omega.{arith}
-use Rattle.par1.specs.Rules.{orElse}
-use Rattle.par1.specs.Reading.{headerRefusal, refusalOf, readOf}
-use Rattle.par1.specs.declared.reading.Reading.{Reading}
-use Rattle.par1.proofs.ReadingLaws.{HeaderPassed, header-passed, read-accepted, read-refused}
+use Rattle.par1_rules.specs.Rules.{orElse}
+use Rattle.par1_read.specs.Reading.{headerRefusal, refusalOf, readOf}
+use Rattle.par1_read.specs.declared.reading.Reading.{Reading}
+use Rattle.par1_read.proofs.ReadingLaws.{HeaderPassed, header-passed, read-accepted, read-refused}
 use Rattle.listing.specs.Listing.{ListIn}
 
 header-none : (n m : ℕ) → orElse n m ≡ 0 → n ≡ 0

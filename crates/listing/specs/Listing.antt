@@ -13,10 +13,10 @@ use mathlib.Core.Bool.{cond}
 use mathlib.Core.List.{List, _++_}
 use lib.Dec.{leb}
 use lib.ListN.{length}
-use Rattle.par1.specs.Layout.{listSizeOf}
-use Rattle.par1.specs.Reading.{entriesIn, readOf}
-use Rattle.par1.specs.declared.reading.Reading.{Reading}
-use Rattle.par1.specs.declared.reading.Reading.the-variants.{Accepted, Refused}
+use Rattle.par1_rules.specs.Layout.{listSizeOf}
+use Rattle.par1_read.specs.Reading.{entriesIn, readOf}
+use Rattle.par1_read.specs.declared.reading.Reading.{Reading}
+use Rattle.par1_read.specs.declared.reading.Reading.the-variants.{Accepted, Refused}
 use Rattle.listing.specs.Lines.{refusedLine, headLine, entryLines}
 
 abbrev pub refusal : Reading → ℕ

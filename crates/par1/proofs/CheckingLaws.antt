@@ -17,10 +17,10 @@ use Rattle.entries.specs.Walk.{firstOf}
 use Rattle.entries.specs.declared.Item.{Item}
 use Rattle.entries.specs.declared.Item.the-variants as item
 use Rattle.entries.proofs.EntryLaws.{is-entry}
-use Rattle.par1.specs.Hashes.{equal, md5First}
-use Rattle.par1.specs.Rules.{test}
+use Rattle.par1_rules.specs.Hashes.{equal, md5First}
+use Rattle.par1_rules.specs.Rules.{test}
 use Rattle.par1.specs.Checking.{itemRefusal, loneRefusal, checkOf}
-use Rattle.par1.proofs.RuleLaws.{test-passed, fault-some, or-else}
+use Rattle.par1_rules.proofs.RuleLaws.{test-passed, fault-some, or-else}
 
 pub lone-passed : (e : List ℕ) → loneRefusal e ≡ 0 → 58 ≤ length e
 unfolding loneRefusal

@@ -22,16 +22,16 @@ use Rattle.entries.specs.Walk.{firstOf, entriesOf}
 use Rattle.entries.specs.declared.Item.the-variants.{Entry}
 use Rattle.entries.proofs.EntryLaws.{and-both, first-entry, is-entry}
 use Rattle.entries.proofs.WalkLaws.{entries-more}
-use Rattle.par1.specs.Hashes.{md5First}
+use Rattle.par1_rules.specs.Hashes.{md5First}
 use Rattle.par1.specs.Checking.{itemRefusal, loneRefusal, checkOf}
-use Rattle.par1.specs.EntryWriting.{entryBytes, nameBytesAllowed, entryRefusal, writeEntryOf}
-use Rattle.par1.specs.declared.writing.Writing.the-variants.{Written}
+use Rattle.par1_write.specs.EntryWriting.{entryBytes, nameBytesAllowed, entryRefusal, writeEntryOf}
+use Rattle.par1_write.specs.declared.writing.Writing.the-variants.{Written}
 use Rattle.par1.proofs.CheckingLaws.{check-lone}
-use Rattle.par1.proofs.EntryWritingLaws.{length-entry, entry-passed}
-use Rattle.par1.proofs.EqualLaws.{equal-same}
-use Rattle.par1.proofs.HashLaws.{length-md5}
-use Rattle.par1.proofs.PartLaws.{At, at-part, at-next, at-number, at-last}
-use Rattle.par1.proofs.WritingLaws.{write-tells}
+use Rattle.par1_write.proofs.EntryWritingLaws.{length-entry, entry-passed}
+use Rattle.par1_rules.proofs.EqualLaws.{equal-same}
+use Rattle.par1_rules.proofs.HashLaws.{length-md5}
+use Rattle.par1_rules.proofs.PartLaws.{At, at-part, at-next, at-number, at-last}
+use Rattle.par1_write.proofs.WritingLaws.{write-tells}
 
 -- whatever follows the entry
 pub record EntryBack (e m : List ℕ) (status : ℕ) (name : List ℕ) : Type 0 where

@@ -1,13 +1,5 @@
 pub mod CheckingLaws
-pub mod EntryWritingLaws
 pub mod EntryWritten
-pub mod EqualLaws
-pub mod HashLaws
-pub mod PartLaws
 pub mod ReadWritten
-pub mod ReadingLaws
-pub mod RuleLaws
 pub mod VolumeFields
-pub mod VolumeWritingLaws
-pub mod WritingLaws
 pub mod WrittenRead

@@ -18,19 +18,19 @@ use Rattle.entries.specs.declared.Walked.{Walked}
 use Rattle.entries.specs.declared.Walked.the-variants as walked
 use Rattle.entries.proofs.WalkLaws.{walk-count}
 use Rattle.md5.specs.Digest.{md5}
-use Rattle.par1.specs.Layout.{listOf, dataOf}
-use Rattle.par1.specs.Hashes.{setHash}
-use Rattle.par1.specs.Rules.{numberAllowed, dataAllowed}
-use Rattle.par1.specs.Reading.{partsOf, readOf}
-use Rattle.par1.specs.VolumeWriting.{volumeBytes, walkRefusal, writeVolumeOf}
-use Rattle.par1.specs.declared.reading.Parts.{Parts}
-use Rattle.par1.specs.declared.reading.Reading.the-variants.{Accepted}
-use Rattle.par1.specs.declared.writing.Writing.the-variants.{Written}
-use Rattle.par1.proofs.ReadingLaws.{HeaderPassed, TotalsPassed, Passed, passed-none, read-accepted}
-use Rattle.par1.proofs.RuleLaws.{Between, fault-some}
+use Rattle.par1_rules.specs.Layout.{listOf, dataOf}
+use Rattle.par1_rules.specs.Hashes.{setHash}
+use Rattle.par1_rules.specs.Rules.{numberAllowed, dataAllowed}
+use Rattle.par1_read.specs.Reading.{partsOf, readOf}
+use Rattle.par1_write.specs.VolumeWriting.{volumeBytes, walkRefusal, writeVolumeOf}
+use Rattle.par1_read.specs.declared.reading.Parts.{Parts}
+use Rattle.par1_read.specs.declared.reading.Reading.the-variants.{Accepted}
+use Rattle.par1_write.specs.declared.writing.Writing.the-variants.{Written}
+use Rattle.par1_read.proofs.ReadingLaws.{HeaderPassed, TotalsPassed, Passed, passed-none, read-accepted}
+use Rattle.par1_rules.proofs.RuleLaws.{Between, fault-some}
 use Rattle.par1.proofs.VolumeFields.{Fields, volume-fields}
-use Rattle.par1.proofs.VolumeWritingLaws.{VolumePassed, volume-passed, length-volume}
-use Rattle.par1.proofs.WritingLaws.{write-tells}
+use Rattle.par1_write.proofs.VolumeWritingLaws.{VolumePassed, volume-passed, length-volume}
+use Rattle.par1_write.proofs.WritingLaws.{write-tells}
 
 abbrev pub partsFor : ℕ → ℕ → List ℕ → List ℕ → Parts
 partsFor program number list area =

@@ -12,12 +12,12 @@ use Rattle.little_endian.specs.Bytes.{toLe}
 use Rattle.little_endian.proofs.Numbers.{length-toLe}
 use Rattle.md5.specs.Digest.{md5}
 use Rattle.entries.specs.Walk.{entriesOf}
-use Rattle.par1.specs.Layout.{signature, version, signatureOf, versionOf, programOf, controlHashOf, hashedOf, setHashOf, numberOf, countOf, listStartOf, listSizeOf, dataStartOf, dataSizeOf, listOf, dataOf}
-use Rattle.par1.specs.Hashes.{setHash}
-use Rattle.par1.specs.VolumeWriting.{numberBytes, bodyBytes, headBytes}
-use Rattle.par1.proofs.HashLaws.{length-md5, length-set-hash}
-use Rattle.par1.proofs.PartLaws.{At, at-start, at-part, at-next, at-number, at-open, at-last}
-use Rattle.par1.proofs.RuleLaws.{signature-is}
+use Rattle.par1_rules.specs.Layout.{signature, version, signatureOf, versionOf, programOf, controlHashOf, hashedOf, setHashOf, numberOf, countOf, listStartOf, listSizeOf, dataStartOf, dataSizeOf, listOf, dataOf}
+use Rattle.par1_rules.specs.Hashes.{setHash}
+use Rattle.par1_write.specs.VolumeWriting.{numberBytes, bodyBytes, headBytes}
+use Rattle.par1_rules.proofs.HashLaws.{length-md5, length-set-hash}
+use Rattle.par1_rules.proofs.PartLaws.{At, at-start, at-part, at-next, at-number, at-open, at-last}
+use Rattle.par1_rules.proofs.RuleLaws.{signature-is}
 
 -- ---- the header
 

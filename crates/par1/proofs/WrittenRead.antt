@@ -14,19 +14,19 @@ use Rattle.entries.specs.declared.Totals.{Totals}
 use Rattle.entries.specs.declared.Walked.{Walked}
 use Rattle.entries.proofs.WalkLaws.{walk-count}
 use Rattle.md5.specs.Digest.{md5}
-use Rattle.par1.specs.Layout.{signature, version, programOf, hashedOf, numberOf, countOf, listSizeOf, dataStartOf, dataSizeOf, listOf, dataOf}
-use Rattle.par1.specs.Hashes.{setHash}
-use Rattle.par1.specs.Rules.{dataAllowed}
-use Rattle.par1.specs.Reading.{entriesIn, readOf}
-use Rattle.par1.specs.VolumeWriting.{numberBytes, bodyBytes, headBytes, volumeBytes, walkRefusal, writeVolumeOf}
-use Rattle.par1.specs.declared.reading.Parts.{Parts}
-use Rattle.par1.specs.declared.reading.Reading.the-variants.{Accepted}
-use Rattle.par1.specs.declared.writing.Writing.the-variants.{Written}
-use Rattle.par1.proofs.PartLaws.{split, split-number}
-use Rattle.par1.proofs.ReadingLaws.{Passed, read-tells}
-use Rattle.par1.proofs.RuleLaws.{Between}
-use Rattle.par1.proofs.VolumeWritingLaws.{volume-none}
-use Rattle.par1.proofs.WritingLaws.{outcome-written}
+use Rattle.par1_rules.specs.Layout.{signature, version, programOf, hashedOf, numberOf, countOf, listSizeOf, dataStartOf, dataSizeOf, listOf, dataOf}
+use Rattle.par1_rules.specs.Hashes.{setHash}
+use Rattle.par1_rules.specs.Rules.{dataAllowed}
+use Rattle.par1_read.specs.Reading.{entriesIn, readOf}
+use Rattle.par1_write.specs.VolumeWriting.{numberBytes, bodyBytes, headBytes, volumeBytes, walkRefusal, writeVolumeOf}
+use Rattle.par1_read.specs.declared.reading.Parts.{Parts}
+use Rattle.par1_read.specs.declared.reading.Reading.the-variants.{Accepted}
+use Rattle.par1_write.specs.declared.writing.Writing.the-variants.{Written}
+use Rattle.par1_rules.proofs.PartLaws.{split, split-number}
+use Rattle.par1_read.proofs.ReadingLaws.{Passed, read-tells}
+use Rattle.par1_rules.proofs.RuleLaws.{Between}
+use Rattle.par1_write.proofs.VolumeWritingLaws.{volume-none}
+use Rattle.par1_write.proofs.WritingLaws.{outcome-written}
 
 nested-head : (a b c d e : List ℕ) → flatten (a ∷ b ∷ c ∷ d ∷ []) ++ e ≡ a ++ (b ++ (c ++ (d ++ e)))
 unfolding flatten

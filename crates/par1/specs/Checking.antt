@@ -14,8 +14,8 @@ use Rattle.entries.specs.Walk.{faultNumber, firstOf}
 use Rattle.entries.specs.declared.Fault.the-variants as fault
 use Rattle.entries.specs.declared.Item.{Item}
 use Rattle.entries.specs.declared.Item.the-variants as item
-use Rattle.par1.specs.Hashes.{equal, md5First}
-use Rattle.par1.specs.Rules.{test, orElse}
+use Rattle.par1_rules.specs.Hashes.{equal, md5First}
+use Rattle.par1_rules.specs.Rules.{test, orElse}
 
 -- an entry that is shorter than its slice, and no entry, have a wrong entry size
 abbrev pub itemRefusal : ℕ → Item → ℕ

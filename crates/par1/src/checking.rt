@@ -1,9 +1,9 @@
 // Checking contents against the entry of their file (document 01, "What comes back").
 ghost use mathlib.Core.Path.{_≡_};
 ghost use Rattle.par1.specs.Checking.{loneRefusal, checkOf};
-use crate::hashes;
 use entries::Fault;
 use entries::Item;
+use par1_rules::hashes;
 
 // 0 where `contents` are those of the file that `entry` describes, else the number of the refusal.
 pub fn check(entry: &[u8], contents: &[u8]) -> u32

@@ -9,9 +9,9 @@ use Prim.Native.Nat.{ℕ}
 use lib.Dec.{ltb}
 use lib.ListN.{length}
 use lib.Seq.{sets}
-use Rattle.par1.specs.declared.reading.Parts.{Parts}
-use Rattle.par1.specs.declared.reading.Reading.{Reading}
-use Rattle.par1.specs.declared.reading.Reading.the-variants.{Accepted, Refused}
+use Rattle.par1_read.specs.declared.reading.Parts.{Parts}
+use Rattle.par1_read.specs.declared.reading.Reading.{Reading}
+use Rattle.par1_read.specs.declared.reading.Reading.the-variants.{Accepted, Refused}
 use Rattle.par1_c.specs.Numbers.{numbers}
 
 -- program identifier, volume number, entries, saved entries, list size, data start, data size

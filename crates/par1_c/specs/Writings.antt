@@ -5,8 +5,8 @@
 -- Assumes nothing.
 use Prim.Native.Nat.{ℕ}
 use mathlib.Core.List.{List}
-use Rattle.par1.specs.declared.writing.Writing.{Writing}
-use Rattle.par1.specs.declared.writing.Writing.the-variants.{Written, Refused}
+use Rattle.par1_write.specs.declared.writing.Writing.{Writing}
+use Rattle.par1_write.specs.declared.writing.Writing.the-variants.{Written, Refused}
 
 abbrev pub writingNumber : Writing → ℕ
 writingNumber (Written length) = 0

@@ -2,7 +2,7 @@
 -- Assumes nothing.
 use mathlib.Core.Path.{ap, _∙_}
 use denote.Ref.{now}
-use Rattle.par1.specs.declared.reading.Reading.{Reading}
+use Rattle.par1_read.specs.declared.reading.Reading.{Reading}
 use Rattle.text.specs.Fit.{fit}
 use Rattle.listing.specs.Listing.{listingBy, listingOf}
 use Rattle.listing.proofs.AcceptedLaws.{list-in}

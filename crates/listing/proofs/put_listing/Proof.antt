@@ -5,9 +5,9 @@ use Prim.Native.Nat.{ℕ, _-_, _+_}
 use native.Mathlib.Omega.{arith}
 use mathlib.Core.List.{List}
 use denote.Ref.{now}
-use Rattle.par1.specs.Layout.{listSizeOf}
-use Rattle.par1.specs.declared.reading.Reading.{Reading}
-use Rattle.par1.specs.declared.reading.Reading.the-variants.{Accepted}
+use Rattle.par1_rules.specs.Layout.{listSizeOf}
+use Rattle.par1_read.specs.declared.reading.Reading.{Reading}
+use Rattle.par1_read.specs.declared.reading.Reading.the-variants.{Accepted}
 use Rattle.text.specs.Buffer.{buffer, put}
 use Rattle.text.proofs.BufferLaws.{put-then}
 use Rattle.listing.specs.Lines.{refusedLine}

@@ -2,7 +2,7 @@
 -- Assumes nothing.
 use mathlib.Core.Path.{ap, _∙_}
 use denote.Ref.{now}
-use Rattle.par1.specs.declared.reading.Reading.{Reading}
+use Rattle.par1_read.specs.declared.reading.Reading.{Reading}
 use Rattle.par1_c.specs.Parts.{readInto}
 use borrow.Author.Needs.{needs}
 use Rattle.par1_c.proofs.par1_read.Statement.{statement}

@@ -1,0 +1,157 @@
+-- `par1_read::reading::header_refusal` meets its contract: each test in its order.
+-- Assumes nothing.
+use mathlib.Core.Path.{_≡_, sym, ap, _∙_}
+use Prim.Native.Nat.{ℕ, _≤_}
+use native.Mathlib.Omega.{arith}
+use lib.ListN.{length}
+use mathlib.Core.List.{List}
+use denote.Ref.{now}
+use borrow.Author.Tests.{not-true, not-false, ne-eqb, eq-eqb}
+use mathlib.Core.Bool.{true}
+use lib.Dec.{eqb}
+use Rattle.par1_rules.specs.Layout.{signature, signatureOf, versionOf, controlHashOf}
+use Rattle.par1_rules.specs.Hashes.{equal, controlHash}
+use Rattle.par1_rules.specs.Rules.{lengthAllowed, versionAllowed, layoutAllowed}
+use Rattle.par1_read.specs.Reading.{headerRefusal}
+use Rattle.par1_rules.proofs.RuleLaws.{signature-is, between}
+use Rattle.pieces.proofs.CutLaws.{part-to-end}
+use Rattle.md5.specs.Digest.{md5}
+use borrow.Author.Needs.{needs}
+use Rattle.par1_read.proofs.reading.header_refusal.Statement.{statement}
+use Rattle.par1_read.proofs.reading.header_refusal.Tie as tie
+
+-- ---- the file, where each test has passed
+
+abbrev file-1 : tie.Else1 → List ℕ
+file-1 c = now (c .before .before .before .args .file)
+
+abbrev file-2 : tie.Else2 → List ℕ
+file-2 c = file-1 (c .before .before)
+
+abbrev file-3 : tie.Else3 → List ℕ
+file-3 c = file-2 (c .before .before .before)
+
+abbrev file-4 : tie.Else4 → List ℕ
+file-4 c = file-3 (c .before .before)
+
+-- ---- what each test says, and tells where it has passed
+
+passed-1 : (c : tie.Else1) → lengthAllowed (length (file-1 c)) ≡ true
+passed-1 c = sym (c .before .length-allowed .ensures) ∙ not-false (c .before .length-allowed .result) (c .if1 .left)
+
+passed-2 : (c : tie.Else2) → eqb (signatureOf (file-2 c)) signature ≡ true
+passed-2 c = eq-eqb _ _ (sym (c .before .read64 .ensures) ∙ c .if2 .left ∙ sym signature-is)
+
+version-test : (c : tie.After-version-allowed) → c .version-allowed .result ≡ versionAllowed (versionOf (file-2 (c .before .before)))
+version-test c = c .version-allowed .ensures ∙ ap versionAllowed (c .before .read32 .ensures)
+
+passed-3 : (c : tie.Else3) → versionAllowed (versionOf (file-3 c)) ≡ true
+passed-3 c = sym (version-test (c .before)) ∙ not-false (c .before .version-allowed .result) (c .if3 .left)
+
+passed-4 : (c : tie.Else4) → layoutAllowed (file-4 c) ≡ true
+passed-4 c = sym (c .before .layout-allowed .ensures) ∙ not-false (c .before .layout-allowed .result) (c .if4 .left)
+
+control-test : (c : tie.After-matches)
+    → let f = file-4 (c .before .before .before) in c .matches .result ≡ equal (controlHashOf f) (controlHash f)
+control-test c =
+    let f : List ℕ = file-4 (c .before .before .before) in
+    c .matches .ensures ∙ ap (λ (t : List ℕ). equal (controlHashOf f) (md5 t)) (part-to-end f 32)
+
+low : (c : tie.Else4) → 96 ≤ length (file-4 c)
+low c = between (length (file-4 c)) (passed-1 (c .before .before .before .before .before .before .before)) .low
+
+length-allowed-requires : tie.Need-length-allowed-requires
+length-allowed-requires c κs = search needs
+
+returns : tie.Need-returns
+unfolding headerRefusal
+returns c = simp (sym (c .before .length-allowed .ensures) ∙ not-true (c .before .length-allowed .result) (c .if1 .taken))
+
+read64-requires : tie.Need-read64-requires
+read64-requires c κs = search needs
+
+returns-2 : tie.Need-returns-2
+unfolding headerRefusal
+returns-2 c = simp (passed-1 (c .before .before), ne-eqb _ _ (λ e. c .if2 .taken (c .before .read64 .ensures ∙ e ∙ signature-is)))
+
+read32-requires : tie.Need-read32-requires
+read32-requires c κs = search needs
+
+version-allowed-requires : tie.Need-version-allowed-requires
+version-allowed-requires c κs = search needs
+
+returns-3 : tie.Need-returns-3
+unfolding headerRefusal
+returns-3 c =
+    let two = c .before .before .before in
+    simp (passed-1 (two .before .before), passed-2 two, sym (version-test (c .before)) ∙ not-true (c .before .version-allowed .result) (c .if3 .taken))
+
+layout-allowed-requires : tie.Need-layout-allowed-requires
+layout-allowed-requires c κs = search needs
+
+returns-4 : tie.Need-returns-4
+unfolding headerRefusal
+returns-4 c =
+    let three = c .before .before in
+    let two = three .before .before .before in
+    simp (passed-1 (two .before .before), passed-2 two, passed-3 three, sym (c .before .layout-allowed .ensures) ∙ not-true (c .before .layout-allowed .result) (c .if4 .taken))
+
+sub-matches : tie.Need-sub-matches
+sub-matches c = search needs
+
+part-matches-start : tie.Need-part-matches-start
+part-matches-start c = search needs
+
+part-matches-end : tie.Need-part-matches-end
+part-matches-end c = omega (arith, low c)
+
+sub-matches-2 : tie.Need-sub-matches-2
+sub-matches-2 c = omega (arith, low (c .before))
+
+part-matches-start-2 : tie.Need-part-matches-start-2
+part-matches-start-2 c = omega (arith, low (c .before))
+
+part-matches-end-2 : tie.Need-part-matches-end-2
+part-matches-end-2 c = search needs
+
+matches-requires : tie.Need-matches-requires
+matches-requires c κs = search needs
+
+returns-5 : tie.Need-returns-5
+unfolding headerRefusal
+returns-5 c =
+    let four = c .before .before .before .before in
+    let three = four .before .before in
+    let two = three .before .before .before in
+    simp (passed-1 (two .before .before), passed-2 two, passed-3 three, passed-4 four, sym (control-test (c .before)) ∙ not-true (c .before .matches .result) (c .if5 .taken))
+
+returns-6 : tie.Need-returns-6
+unfolding headerRefusal
+returns-6 c =
+    let four = c .before .before .before .before in
+    let three = four .before .before in
+    let two = three .before .before .before in
+    simp (passed-1 (two .before .before), passed-2 two, passed-3 three, passed-4 four, sym (control-test (c .before)) ∙ not-false (c .before .matches .result) (c .if5 .left))
+
+pub header-refusal-spec : {M : Type 1} → statement M
+header-refusal-spec =
+    tie.close
+    (tie.spec
+    length-allowed-requires
+    returns
+    read64-requires
+    returns-2
+    read32-requires
+    version-allowed-requires
+    returns-3
+    layout-allowed-requires
+    returns-4
+    sub-matches
+    part-matches-start
+    part-matches-end
+    sub-matches-2
+    part-matches-start-2
+    part-matches-end-2
+    matches-requires
+    returns-5
+    returns-6)

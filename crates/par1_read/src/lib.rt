@@ -1,0 +1,6 @@
+// Reading of Par 1.0 files (document 01, "What comes back").
+mod reading;
+
+pub use reading::Parts;
+pub use reading::Reading;
+pub use reading::read;

@@ -1,0 +1,109 @@
+// Reading of index files and volumes (document 01, "What comes back", tests 1 to 9).
+ghost use mathlib.Core.Path.{_≡_};
+ghost use Prim.Native.Nat.{_≤_};
+ghost use lib.ListN.{length};
+ghost use Rattle.par1_rules.specs.Layout.{listOf};
+ghost use Rattle.par1_read.specs.Reading.{headerRefusal, totalsRefusal, readOf};
+use entries::Totals;
+use entries::Walked;
+use par1_rules::hashes;
+use par1_rules::layout;
+use par1_rules::rules;
+
+// The parts of an accepted file: program identifier, volume number (0 for the index), number of entries and of saved ones, and where
+// list and data lie. The list starts at byte 96.
+pub struct Parts {
+    pub program: u32,
+    pub number: u64,
+    pub entries: u64,
+    pub saved: u64,
+    pub list_size: u64,
+    pub data_start: u64,
+    pub data_size: u64,
+}
+
+pub enum Reading {
+    Accepted(Parts),
+    Refused(u32),
+}
+
+// The parts of `file`, or the number of the first test that it fails.
+pub fn read(file: &[u8]) -> Reading
+    ensures { λ r. ⌜ r ≡ readOf (now (file .entry)) ⌝ }
+{
+    let refusal = header_refusal(file);
+    if refusal != 0 {
+        return Reading::Refused(refusal);
+    }
+    let list_size = little_endian::read64(file, layout::LIST_SIZE_AT);
+    let list_end = layout::HEADER_LENGTH + list_size as usize;
+    let list = &file[layout::HEADER_LENGTH..list_end];
+    match entries::walk(list) {
+        Walked::Entries(totals) => {
+            let refusal = totals_refusal(file, list, totals);
+            if refusal != 0 {
+                return Reading::Refused(refusal);
+            }
+            Reading::Accepted(Parts {
+                program: little_endian::read32(file, layout::PROGRAM_AT),
+                number: little_endian::read64(file, layout::NUMBER_AT),
+                entries: little_endian::read64(file, layout::COUNT_AT),
+                saved: totals.saved,
+                list_size,
+                data_start: little_endian::read64(file, layout::DATA_START_AT),
+                data_size: little_endian::read64(file, layout::DATA_SIZE_AT),
+            })
+        }
+        Walked::Fault(fault) => Reading::Refused(entries::fault_number(fault)),
+    }
+}
+
+// The number of the first of tests 1 to 5 that `file` fails, 0 where it passes them.
+fn header_refusal(file: &[u8]) -> u32
+    ensures { λ r. ⌜ r ≡ headerRefusal (now (file .entry)) ⌝ }
+{
+    if !rules::length_allowed(file.len()) {
+        return 1;
+    }
+    if little_endian::read64(file, 0) != layout::SIGNATURE {
+        return 2;
+    }
+    if !rules::version_allowed(little_endian::read32(file, layout::VERSION_AT)) {
+        return 3;
+    }
+    if !rules::layout_allowed(file) {
+        return 4;
+    }
+    if !hashes::matches(
+        &file[layout::CONTROL_HASH_AT..layout::SET_HASH_AT],
+        &file[layout::SET_HASH_AT..],
+    ) {
+        return 5;
+    }
+    0
+}
+
+// The number of the first of the tests on the count, 7, 8 and 9 that `file` fails, 0 where it passes them; `list` is its list.
+fn totals_refusal(file: &[u8], list: &[u8], totals: Totals) -> u32
+    requires { ⌜ (96 ≤ length (now file)) × (now list ≡ listOf (now file)) ⌝ }
+    ensures { λ r. ⌜ r ≡ totalsRefusal (now (file .entry)) totals ⌝ }
+{
+    if totals.entries != little_endian::read64(file, layout::COUNT_AT) {
+        return 6;
+    }
+    let number = little_endian::read64(file, layout::NUMBER_AT);
+    if !rules::number_allowed(number, totals.saved) {
+        return 7;
+    }
+    if !hashes::matches_set(&file[layout::SET_HASH_AT..layout::NUMBER_AT], list) {
+        return 8;
+    }
+    if !rules::data_allowed(
+        number,
+        totals.greatest,
+        little_endian::read64(file, layout::DATA_SIZE_AT),
+    ) {
+        return 9;
+    }
+    0
+}

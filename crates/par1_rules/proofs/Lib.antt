@@ -1,0 +1,4 @@
+pub mod EqualLaws
+pub mod HashLaws
+pub mod PartLaws
+pub mod RuleLaws

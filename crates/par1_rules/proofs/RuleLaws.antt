@@ -1,0 +1,87 @@
+-- The rules that reading and writing share: what a test tells where it passed, and when it passes.
+--
+--   test-passed, or-else     a test that passed, and a refusal that stands
+--   fault-some               every fault has a refusal
+--   signature-is             the signature, as a number
+--   Between, between, long-enough, too-long     a right length, in numbers
+--   Laid, laid, not-laid, laid-out              a right layout, in numbers
+-- Assumes nothing.
+use mathlib.Core.Path.{_≡_, refl, sym}
+use mathlib.Core.Bool.{Bool, true, false, _&&_}
+use mathlib.Core.List.{List}
+use Prim.Native.Nat.{ℕ, zero, suc, _+_, _≤_, _<_}
+use native.Mathlib.Omega.{arith}
+use lib.Dec.{leb, eqb}
+use lib.ListN.{length}
+use borrow.Author.Tests.{leb-true, eqb-true, eq-eqb, le-leb, lt-leb}
+use Rattle.entries.specs.Walk.{faultNumber}
+use Rattle.entries.specs.declared.Fault.{Fault}
+use Rattle.entries.specs.declared.Fault.the-variants.{Size, FileSize, Name}
+use Rattle.entries.specs.declared.Walked.the-variants as walked
+use Rattle.little_endian.specs.Bytes.{fromLe}
+use Rattle.entries.proofs.EntryLaws.{and-both}
+use Rattle.par1_rules.specs.Layout.{signature, listStartOf, listSizeOf, dataStartOf, dataSizeOf}
+use Rattle.par1_rules.specs.Rules.{test, orElse, lengthAllowed, layoutAllowed}
+
+-- ---- tests
+
+pub test-passed : (n : ℕ) (ok : Bool) (m : ℕ) → 0 < n → test n ok m ≡ 0 → (ok ≡ true) × (m ≡ 0)
+test-passed n true m h e = (refl, e)
+test-passed n false m h e = absurd (omega arith)
+
+pub fault-some : (f : Fault) → 0 < faultNumber f
+fault-some Size = omega arith
+fault-some FileSize = omega arith
+fault-some Name = omega arith
+
+pub or-else : (n m : ℕ) → (n ≡ 0 → ⊥) → orElse n m ≡ n
+or-else zero m h = absurd (h refl)
+or-else (suc n) m h = refl
+
+-- ---- the signature and the length
+
+pub signature-is : signature ≡ 0x524150
+unfolding signature fromLe
+signature-is = refl
+
+pub record Between (n : ℕ) : Type 0 where
+  pub low : 96 ≤ n
+  pub high : n ≤ 33554432
+
+pub between : (n : ℕ) → lengthAllowed n ≡ true → Between n
+unfolding lengthAllowed
+between n e =
+    let both = and-both (leb 96 n) (leb n 33554432) e in record { low = leb-true _ _ (both .0); high = leb-true _ _ (both .1) }
+
+pub long-enough : (n : ℕ) → 96 ≤ n → n ≤ 33554432 → lengthAllowed n ≡ true
+unfolding lengthAllowed
+long-enough n h k = simp (le-leb 96 n h, le-leb n 33554432 k)
+
+pub too-long : (n : ℕ) → 33554432 < n → lengthAllowed n ≡ false
+unfolding lengthAllowed
+too-long n h = simp (le-leb 96 n (omega arith), lt-leb n 33554432 h)
+
+-- ---- the layout
+
+pub record Laid (f : List ℕ) : Type 0 where
+  pub list-start : listStartOf f ≡ 96
+  pub data-start : dataStartOf f ≡ 96 + listSizeOf f
+  pub data-end : dataStartOf f + dataSizeOf f ≡ length f
+
+pub laid : (f : List ℕ) → layoutAllowed f ≡ true → Laid f
+unfolding layoutAllowed
+laid f e =
+    let both = and-both (eqb (listStartOf f) 96 && eqb (dataStartOf f) (96 + listSizeOf f)) _ e in
+    let starts = and-both (eqb (listStartOf f) 96) (eqb (dataStartOf f) (96 + listSizeOf f)) (both .0) in
+    record { list-start = eqb-true _ _ (starts .0); data-start = eqb-true _ _ (starts .1); data-end = eqb-true _ _ (both .1) }
+
+by-layout : (f : List ℕ) (b : Bool) → b ≡ layoutAllowed f → (Laid f → ⊥) → layoutAllowed f ≡ false
+by-layout f true e h = absurd (h (laid f (sym e)))
+by-layout f false e h = sym e
+
+pub not-laid : (f : List ℕ) → (Laid f → ⊥) → layoutAllowed f ≡ false
+not-laid f = by-layout f (layoutAllowed f) refl
+
+pub laid-out : (f : List ℕ) → Laid f → layoutAllowed f ≡ true
+unfolding layoutAllowed
+laid-out f l = simp (eq-eqb _ _ (l .list-start), eq-eqb _ _ (l .data-start), eq-eqb _ _ (l .data-end))

@@ -1,0 +1,80 @@
+// The rules of a Par 1.0 file (document 01, "Sizes", "Byte layout", "What comes back").
+ghost use mathlib.Core.Path.{_≡_};
+ghost use Rattle.par1_rules.specs.Rules.{lengthAllowed, versionAllowed, layoutAllowed, numberAllowed, dataAllowed};
+use crate::layout;
+
+// The greatest length of a file.
+pub const MAX_LENGTH: usize = 33554432;
+
+// The greatest number of saved files.
+const MAX_SAVED: u64 = 254;
+
+// Whether a file may have `length` bytes.
+pub fn length_allowed(length: usize) -> bool
+    ensures { λ r. ⌜ r ≡ lengthAllowed length ⌝ }
+{
+    if length < layout::HEADER_LENGTH {
+        return false;
+    }
+    length <= MAX_LENGTH
+}
+
+// Whether files of this version are read.
+pub fn version_allowed(version: u32) -> bool
+    ensures { λ r. ⌜ r ≡ versionAllowed version ⌝ }
+{
+    version == layout::VERSION
+}
+
+// Whether list and data of `file` lie where they must.
+pub fn layout_allowed(file: &[u8]) -> bool
+    ensures { λ r. ⌜ r ≡ layoutAllowed (now (file .entry)) ⌝ }
+{
+    if little_endian::read64(file, layout::LIST_START_AT) != layout::LIST_START {
+        return false;
+    }
+    let data_start = little_endian::read64(file, layout::DATA_START_AT);
+    if data_start < layout::LIST_START {
+        return false;
+    }
+    if data_start - layout::LIST_START != little_endian::read64(file, layout::LIST_SIZE_AT) {
+        return false;
+    }
+    let length = file.len() as u64;
+    if length < data_start {
+        return false;
+    }
+    if length - data_start != little_endian::read64(file, layout::DATA_SIZE_AT) {
+        return false;
+    }
+    true
+}
+
+// Whether volume `number` may have `saved` saved files; 0 is the index.
+pub fn number_allowed(number: u64, saved: u64) -> bool
+    ensures { λ r. ⌜ r ≡ numberAllowed number saved ⌝ }
+{
+    if saved > MAX_SAVED {
+        return false;
+    }
+    if number == 0 {
+        return true;
+    }
+    if saved == 0 {
+        return false;
+    }
+    if number > 255 - saved {
+        return false;
+    }
+    true
+}
+
+// Whether volume `number` may have `size` bytes of data, where `greatest` is the greatest size of a file; 0 is the index.
+pub fn data_allowed(number: u64, greatest: u64, size: u64) -> bool
+    ensures { λ r. ⌜ r ≡ dataAllowed number greatest size ⌝ }
+{
+    if number == 0 {
+        return size % 2 == 0;
+    }
+    size == greatest
+}

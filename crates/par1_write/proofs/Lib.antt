@@ -1,0 +1,3 @@
+pub mod EntryWritingLaws
+pub mod VolumeWritingLaws
+pub mod WritingLaws

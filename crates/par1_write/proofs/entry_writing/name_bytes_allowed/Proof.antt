@@ -1,0 +1,26 @@
+-- `par1_write::entry_writing::name_bytes_allowed` meets its contract: each test decides where it fails.
+-- Assumes nothing.
+use mathlib.Core.Path.{_∙_}
+use borrow.Author.Tests.{ne-eqb, eq-eqb, lt-leb, le-leb}
+use Rattle.par1_write.specs.EntryWriting.{nameBytesAllowed}
+use borrow.Author.Needs.{needs}
+use Rattle.par1_write.proofs.entry_writing.name_bytes_allowed.Statement.{statement}
+use Rattle.par1_write.proofs.entry_writing.name_bytes_allowed.Tie as tie
+
+returns : tie.Need-returns
+unfolding nameBytesAllowed
+returns c = simp (lt-leb _ _ (c .if1 .taken))
+
+returns-2 : tie.Need-returns-2
+unfolding nameBytesAllowed
+returns-2 c = simp (le-leb _ _ (c .before .if1 .left), ne-eqb _ _ (c .if2 .taken))
+
+name-allowed-requires : tie.Need-name-allowed-requires
+name-allowed-requires c κs = search needs
+
+returns-3 : tie.Need-returns-3
+unfolding nameBytesAllowed
+returns-3 c = c .name-allowed .ensures ∙ simp (le-leb _ _ (c .before .before .if1 .left), eq-eqb _ _ (c .before .if2 .left))
+
+pub name-bytes-allowed-spec : {M : Type 1} → statement M
+name-bytes-allowed-spec = tie.close (tie.spec returns returns-2 name-allowed-requires returns-3)

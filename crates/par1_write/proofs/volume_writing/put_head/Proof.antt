@@ -1,0 +1,71 @@
+-- `par1_write::volume_writing::put_head` meets its contract: its fields, stored one after another.
+-- Assumes nothing.
+use mathlib.Core.Path.{sym, ap}
+use Rattle.par1_write.proofs.WritingLaws.{stored-all, stored, stored-as, stores-flatten}
+use Rattle.little_endian.proofs.Numbers.{length-toLe}
+use Rattle.par1_rules.proofs.HashLaws.{length-md5}
+use Rattle.little_endian.specs.Bytes.{toLe}
+use Rattle.par1_write.specs.VolumeWriting.{headBytes}
+use Rattle.par1_rules.proofs.RuleLaws.{signature-is}
+use borrow.Author.Needs.{needs}
+use Rattle.par1_write.proofs.volume_writing.put_head.Statement.{statement}
+use Rattle.par1_write.proofs.volume_writing.put_head.Tie as tie
+
+sub-digest : tie.Need-sub-digest
+sub-digest c = search needs
+
+part-digest-start : tie.Need-part-digest-start
+part-digest-start c = search needs
+
+part-digest-end : tie.Need-part-digest-end
+part-digest-end c = search needs
+
+digest-requires : tie.Need-digest-requires
+digest-requires c κs = search needs
+
+write64-requires : tie.Need-write64-requires
+write64-requires c κs = search needs
+
+write32-requires : tie.Need-write32-requires
+write32-requires c κs = search needs
+
+write32-requires-2 : tie.Need-write32-requires-2
+write32-requires-2 c κs = search needs
+
+slice-aggregate-put : tie.Need-slice-aggregate-put
+slice-aggregate-put c = search needs
+
+put-requires : tie.Need-put-requires
+put-requires c κs = search needs
+
+same-length : tie.Need-same-length
+same-length c = search needs
+
+returns : tie.Need-returns
+unfolding headBytes
+returns c =
+    let fourth = c .before .before in
+    let third = fourth .before .before .before .before .before in
+    let second = third .before .before .before .before in
+    let one = second .before .before .before .before in
+    stores-flatten
+    (stored-as 8 (length-toLe 8 _) (ap (toLe 8) (sym signature-is)) (one .write64 .ensures)
+    (stored 4 (length-toLe 4 _) (second .write32 .ensures)
+    (stored 4 (length-toLe 4 _) (third .write322 .ensures)
+    (stored-as 16 (length-md5 _) (one .before .before .digest .ensures) (fourth .put .ensures) stored-all))))
+
+pub put-head-spec : {M : Type 1} → statement M
+put-head-spec =
+    tie.close
+    (tie.spec
+    sub-digest
+    part-digest-start
+    part-digest-end
+    digest-requires
+    write64-requires
+    write32-requires
+    write32-requires-2
+    slice-aggregate-put
+    put-requires
+    same-length
+    returns)

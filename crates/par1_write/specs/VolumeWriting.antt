@@ -1,0 +1,62 @@
+-- What writing an index or a volume gives (document 01: "Writing a volume from program identifier, number (0 writes an index), list and
+-- data tests 6 (the list's rules; it makes the count itself), 7, 9, 1 (the total), 14").
+--
+--   numberBytes v n l d                 the six numbers of volume v with n entries, l bytes of list and d bytes of data
+--   bodyBytes n v list area             the bytes of volume v from 32 to the end, with n entries in the list
+--   headBytes p body                    the bytes before body, which the program p writes
+--   volumeBytes p v list area           the bytes of volume v, written by the program p
+--   volumeRefusal v t l d room          the refusal after the walk over the list, which gave the totals t: list and data have l and d
+--                                       bytes
+--   walkRefusal v w l d room            the refusal from the walk w over the list, 0 where there is none
+--   writeVolumeOf p v list area out     what writing gives
+-- Assumes nothing.
+use Prim.Native.Nat.{ℕ, _+_}
+use mathlib.Core.List.{List, [], _∷_, _++_, flatten}
+use lib.Dec.{leb}
+use lib.ListN.{length}
+use Rattle.little_endian.specs.Bytes.{toLe}
+use Rattle.md5.specs.Digest.{md5}
+use Rattle.entries.specs.Walk.{faultNumber, entriesOf, walkOf}
+use Rattle.entries.specs.declared.Totals.{Totals}
+use Rattle.entries.specs.declared.Walked.{Walked}
+use Rattle.entries.specs.declared.Walked.the-variants as walked
+use Rattle.par1_rules.specs.Layout.{signature, version}
+use Rattle.par1_rules.specs.Hashes.{setHash}
+use Rattle.par1_rules.specs.Rules.{test, lengthAllowed, numberAllowed, dataAllowed}
+use Rattle.par1_write.specs.Writing.{outcome}
+use Rattle.par1_write.specs.declared.writing.Writing.{Writing}
+
+-- "Then six 64-bit numbers: at 48 volume number (0 for the index), at 56 number of entries, at 64 list start, at 72 list size, at 80 data
+-- start, at 88 data size"
+unfoldable pub numberBytes : ℕ → ℕ → ℕ → ℕ → List ℕ
+numberBytes number n list area =
+    flatten (toLe 8 number ∷ toLe 8 n ∷ toLe 8 96 ∷ toLe 8 list ∷ toLe 8 (96 + list) ∷ toLe 8 area ∷ [])
+
+-- "At 32: set hash." Then the numbers, the list and the data
+unfoldable pub bodyBytes : ℕ → ℕ → List ℕ → List ℕ → List ℕ
+bodyBytes n number list area =
+    flatten (setHash (entriesOf list .pieces) ∷ numberBytes number n (length list) (length area) ∷ list ∷ area ∷ [])
+
+-- "At 0: "PAR" and five zero bytes. At 8: 32-bit version, 65,536. At 12: 32-bit program identifier, any. At 16: control hash, the MD5 of
+-- all bytes from 32 to the end."
+unfoldable pub headBytes : ℕ → List ℕ → List ℕ
+headBytes program body = flatten (toLe 8 signature ∷ toLe 4 version ∷ toLe 4 program ∷ md5 body ∷ [])
+
+unfoldable pub volumeBytes : ℕ → ℕ → List ℕ → List ℕ → List ℕ
+volumeBytes program number list area =
+    let body : List ℕ = bodyBytes (length (entriesOf list .pieces)) number list area in headBytes program body ++ body
+
+unfoldable pub volumeRefusal : ℕ → Totals → ℕ → ℕ → ℕ → ℕ
+volumeRefusal number t list area room =
+    test 7 (numberAllowed number (t .saved))
+    (test 9 (dataAllowed number (t .greatest) area)
+    (test 1 (lengthAllowed (96 + list + area))
+    (test 14 (leb (96 + list + area) room) 0)))
+
+abbrev pub walkRefusal : ℕ → Walked → ℕ → ℕ → ℕ → ℕ
+walkRefusal number (walked.Entries t) list area room = volumeRefusal number t list area room
+walkRefusal number (walked.Fault fault) list area room = faultNumber fault
+
+unfoldable pub writeVolumeOf : ℕ → ℕ → List ℕ → List ℕ → List ℕ → Writing × List ℕ
+writeVolumeOf program number list area out =
+    outcome (walkRefusal number (walkOf list) (length list) (length area) (length out)) (volumeBytes program number list area) out

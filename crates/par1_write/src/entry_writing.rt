@@ -1,0 +1,76 @@
+// Writing of entries (document 01, "What comes back").
+ghost use mathlib.Core.Path.{_≡_};
+ghost use Prim.Native.Nat.{_+_, _≤_};
+ghost use lib.ListN.{length};
+ghost use lib.Seq.{sets};
+ghost use Rattle.par1_write.specs.EntryWriting.{entryBytes, nameBytesAllowed, entryRefusal, writeEntryOf};
+use crate::writing;
+use crate::writing::Writing;
+use entries::Fault;
+use par1_rules::hashes;
+
+// The greatest status that an entry is written with.
+const MAX_STATUS: u64 = 3;
+
+// Writes the entry of a file with these contents, status and name over the first bytes of `out`.
+pub fn write_entry(contents: &[u8], status: u64, name: &[u8], out: &mut [u8]) -> Writing
+    ensures { λ r. ⌜ (r, now (out .exit)) ≡ writeEntryOf (now (contents .entry)) status (now (name .entry)) (now (out .entry)) ⌝ }
+{
+    let refusal = entry_refusal(contents.len(), status, name, out.len());
+    if refusal != 0 {
+        return Writing::Refused(refusal);
+    }
+    put_entry(out, contents, status, name);
+    Writing::Written(entries::NAME_AT + name.len())
+}
+
+// The number of the first test that fails, 0 where none does.
+fn entry_refusal(size: usize, status: u64, name: &[u8], room: usize) -> u32
+    ensures { λ r. ⌜ r ≡ entryRefusal size status (now (name .entry)) room ⌝ }
+{
+    if size as u64 > entries::MAX_FILE_SIZE {
+        return entries::fault_number(Fault::FileSize);
+    }
+    if status > MAX_STATUS {
+        return entries::fault_number(Fault::FileSize);
+    }
+    if !name_bytes_allowed(name) {
+        return entries::fault_number(Fault::Name);
+    }
+    if room < entries::NAME_AT {
+        return 14;
+    }
+    if room - entries::NAME_AT < name.len() {
+        return 14;
+    }
+    0
+}
+
+// Whether `name` is one unit or more, each of them allowed.
+fn name_bytes_allowed(name: &[u8]) -> bool
+    ensures { λ r. ⌜ r ≡ nameBytesAllowed (now (name .entry)) ⌝ }
+{
+    if name.len() < 2 {
+        return false;
+    }
+    if name.len() % 2 != 0 {
+        return false;
+    }
+    entries::name_allowed(name)
+}
+
+// Writes the entry's fields in their order.
+fn put_entry(out: &mut [u8], contents: &[u8], status: u64, name: &[u8])
+    requires { ⌜ 56 + length (now name) ≤ length (now out) ⌝ }
+    ensures { λ _. ⌜ now (out .exit) ≡ sets (now (out .entry)) 0 (entryBytes (now (contents .entry)) status (now (name .entry))) ⌝ }
+{
+    let entry_size = entries::NAME_AT + name.len();
+    let whole = md5::digest(contents);
+    let first = md5::digest(hashes::first_part(contents));
+    little_endian::write64(out, 0, entry_size as u64);
+    little_endian::write64(out, entries::STATUS_AT, status);
+    little_endian::write64(out, entries::FILE_SIZE_AT, contents.len() as u64);
+    writing::put(out, entries::MD5_AT, &whole);
+    writing::put(out, entries::MD5_16K_AT, &first);
+    writing::put(out, entries::NAME_AT, name);
+}

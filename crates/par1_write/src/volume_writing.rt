@@ -1,0 +1,93 @@
+// Writing of index files and volumes (document 01, "What comes back").
+ghost use mathlib.Core.Path.{_≡_};
+ghost use Prim.Native.Nat.{_+_, _-_, _^_, _<_, _≤_};
+ghost use lib.ListN.{length, take, drop};
+ghost use lib.Seq.{sets};
+ghost use Rattle.par1_write.specs.VolumeWriting.{numberBytes, bodyBytes, headBytes, volumeRefusal, writeVolumeOf};
+use crate::writing;
+use crate::writing::Writing;
+use entries::Totals;
+use entries::Walked;
+use par1_rules::hashes;
+use par1_rules::layout;
+use par1_rules::rules;
+
+// Writes volume `number`, or the index where it is 0, over the first bytes of `out`.
+pub fn write_volume(program: u32, number: u64, list: &[u8], data: &[u8], out: &mut [u8]) -> Writing
+    ensures { λ r. ⌜ (r, now (out .exit)) ≡ writeVolumeOf program number (now (list .entry)) (now («data» .entry)) (now (out .entry)) ⌝ }
+{
+    match entries::walk(list) {
+        Walked::Entries(totals) => {
+            let refusal = volume_refusal(number, totals, list.len(), data.len(), out.len());
+            if refusal != 0 {
+                return Writing::Refused(refusal);
+            }
+            let total = layout::HEADER_LENGTH + list.len() + data.len();
+            put_body(out, number, totals.entries, list, data);
+            put_head(out, program, total);
+            Writing::Written(total)
+        }
+        Walked::Fault(fault) => Writing::Refused(entries::fault_number(fault)),
+    }
+}
+
+// The number of the first test that fails after the walk over a list of `list` bytes, with `area` bytes of data; 0 where none does.
+fn volume_refusal(number: u64, totals: Totals, list: usize, area: usize, room: usize) -> u32
+    ensures { λ r. ⌜ r ≡ volumeRefusal number totals list area room ⌝ }
+{
+    if !rules::number_allowed(number, totals.saved) {
+        return 7;
+    }
+    if !rules::data_allowed(number, totals.greatest, area as u64) {
+        return 9;
+    }
+    let most = rules::MAX_LENGTH - layout::HEADER_LENGTH;
+    if list > most {
+        return 1;
+    }
+    if area > most - list {
+        return 1;
+    }
+    if room < layout::HEADER_LENGTH + list + area {
+        return 14;
+    }
+    0
+}
+
+// Writes what the control hash covers: the set hash, the numbers of the header, the list and the data.
+fn put_body(out: &mut [u8], number: u64, entries: u64, list: &[u8], data: &[u8])
+    requires { ⌜ 96 + length (now list) + length (now «data») ≤ length (now out) ⌝ }
+    ensures { λ _. ⌜ now (out .exit) ≡ sets (now (out .entry)) 32 (bodyBytes entries number (now (list .entry)) (now («data» .entry))) ⌝ }
+{
+    let set_hash = hashes::of_set(list);
+    writing::put(out, layout::SET_HASH_AT, &set_hash);
+    put_numbers(out, number, entries, list.len(), data.len());
+    writing::put(out, layout::HEADER_LENGTH, list);
+    writing::put(out, layout::HEADER_LENGTH + list.len(), data);
+}
+
+// Writes the six numbers of the header of a file with `list` bytes of list and `area` bytes of data.
+fn put_numbers(out: &mut [u8], number: u64, entries: u64, list: usize, area: usize)
+    requires { ⌜ 96 + list < 2 ^ 64 ⌝ }
+    ensures { λ _. ⌜ now (out .exit) ≡ sets (now (out .entry)) 48 (numberBytes number entries list area) ⌝ }
+{
+    let data_start = layout::HEADER_LENGTH + list;
+    little_endian::write64(out, layout::NUMBER_AT, number);
+    little_endian::write64(out, layout::COUNT_AT, entries);
+    little_endian::write64(out, layout::LIST_START_AT, layout::LIST_START);
+    little_endian::write64(out, layout::LIST_SIZE_AT, list as u64);
+    little_endian::write64(out, layout::DATA_START_AT, data_start as u64);
+    little_endian::write64(out, layout::DATA_SIZE_AT, area as u64);
+}
+
+// Writes the start of a file of `total` bytes, with the control hash of the others.
+fn put_head(out: &mut [u8], program: u32, total: usize)
+    requires { ⌜ (32 ≤ total) × (total ≤ length (now out)) ⌝ }
+    ensures { λ _. ⌜ now (out .exit) ≡ sets (now (out .entry)) 0 (headBytes program (take (total - 32) (drop 32 (now (out .entry))))) ⌝ }
+{
+    let control_hash = md5::digest(&out[layout::SET_HASH_AT..total]);
+    little_endian::write64(out, 0, layout::SIGNATURE);
+    little_endian::write32(out, layout::VERSION_AT, layout::VERSION);
+    little_endian::write32(out, layout::PROGRAM_AT, program);
+    writing::put(out, layout::CONTROL_HASH_AT, &control_hash);
+}
