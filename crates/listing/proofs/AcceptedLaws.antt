@@ -6,20 +6,16 @@ use mathlib.Core.Path.{_≡_, refl, sym, subst}
 use mathlib.Core.List.{List}
 use Prim.Native.Nat.{ℕ, zero, suc}
 use native.Mathlib.Omega.{arith}
-use Rattle.par1_rules.specs.Rules.{orElse}
+use Rattle.par1_rules.proofs.RuleLaws.{or-none}
 use Rattle.par1_read.specs.Reading.{headerRefusal, refusalOf, readOf}
 use Rattle.par1_read.specs.declared.reading.Reading.{Reading}
 use Rattle.par1_read.proofs.ReadingLaws.{HeaderPassed, header-passed, read-accepted, read-refused}
 use Rattle.listing.specs.Listing.{ListIn}
 
-header-none : (n m : ℕ) → orElse n m ≡ 0 → n ≡ 0
-header-none zero m e = refl
-header-none (suc n) m e = absurd (omega arith)
-
 by-refusal : (f : List ℕ) (n : ℕ) → n ≡ refusalOf f → ListIn (readOf f) f
 unfolding refusalOf
 by-refusal f zero e =
-    let h : HeaderPassed f = header-passed f (header-none (headerRefusal f) _ (sym e)) in
+    let h : HeaderPassed f = header-passed f (or-none (headerRefusal f) _ (sym e) .0) in
     rw (read-accepted f (sym e)) (refl, omega (arith, h .layout .data-start, h .layout .data-end))
 by-refusal f (suc n) e = rw (read-refused f (suc n) e (λ z. omega arith)) tt
 

@@ -79,7 +79,6 @@ module _ {number : ℕ} {list : List ℕ} (area : List ℕ) {room : ℕ} (accept
           data-start = omega (arith, d .data-start, d .list-size);
           data-end = omega (arith, d .data-start, d .data-size, size);
         };
-        control-is = d .control-is ∙ ap md5 (sym (d .hashed-is));
       }
 
   written-totals : TotalsPassed f (accepted .totals-of)
@@ -96,6 +95,7 @@ module _ {number : ℕ} {list : List ℕ} (area : List ℕ) {room : ℕ} (accept
   written-passed =
       record {
         header = written-header;
+        control-is = d .control-is ∙ ap md5 (sym (d .hashed-is));
         totals-of = accepted .totals-of;
         walk-is = ap walkOf (d .list-is) ∙ accepted .walk-is;
         totals = written-totals;

@@ -71,7 +71,7 @@ module _ (f : List ℕ) (bytes : Bytes f) (tests : Passed f) where
       let low : 96 ≤ length f = tests .header .size .low in
       nested-head (toLe 8 signature) (toLe 4 version) (toLe 4 (programOf f)) (md5 body) body
       ∙ cc
-      (body-again, tests .header .begins, tests .header .version-is, tests .header .control-is, split 16 16 f, split-number 4 12 f bytes (omega arith), split-number 4 8 f bytes (omega arith), split-number 8 0 f bytes (omega arith))
+      (body-again, tests .header .begins, tests .header .version-is, tests .control-is, split 16 16 f, split-number 4 12 f bytes (omega arith), split-number 4 8 f bytes (omega arith), split-number 8 0 f bytes (omega arith))
 
   -- the parts that reading gives are the areas of the file
   data-again : take (dataSizeOf f) (drop (dataStartOf f) f) ≡ dataOf f

@@ -1,13 +1,15 @@
 -- What the tests of reading tell, and what reading gives from them.
 --
---   HeaderPassed, header-passed      what tests 1 to 5, passed, tell
+--   HeaderPassed, header-passed      what tests 1 to 4, passed, tell
+--   control-passed                   what test 5, passed, tells
 --   TotalsPassed, totals-passed      what the tests after the walk, passed, tell
---   header-none, totals-none         and the tests pass where that holds
---   header-refusal, list-refusal     the header decides, or after it the list
+--   header-none, control-none, totals-none     and the tests pass where that holds
+--   header-refusal, later-refusal    the header decides, or after it the control hash and the list
 --   read-refused, read-accepted      what reading gives, from the refusal
 --   Passed, passed-none, read-tells  the tests that an accepted file passed
+--   saved-passed                     its number of saved entries
 -- Assumes nothing.
-use mathlib.Core.Path.{_≡_, refl, sym, ap, _∙_}
+use mathlib.Core.Path.{_≡_, refl, sym, ap, ap₂, _∙_}
 use mathlib.Core.Bool.{true}
 use mathlib.Core.List.{List}
 use Prim.Native.Nat.{ℕ, zero, suc}
@@ -16,19 +18,21 @@ use lib.Dec.{eqb}
 use lib.ListN.{length}
 use borrow.Author.Tests.{eqb-true, eq-eqb}
 use Rattle.pieces.specs.Pieces.{ifZero}
+use Rattle.entries.specs.Numbering.{savedOf}
 use Rattle.entries.specs.Walk.{walkOf}
 use Rattle.entries.specs.declared.Fault.{Fault}
 use Rattle.entries.specs.declared.Totals.{Totals}
 use Rattle.entries.specs.declared.Walked.{Walked}
 use Rattle.entries.specs.declared.Walked.the-variants as walked
+use Rattle.entries.proofs.WalkLaws.{walk-saved}
 use Rattle.par1_rules.specs.Layout.{signature, version, signatureOf, versionOf, controlHashOf, setHashOf, numberOf, countOf, dataSizeOf, listOf}
 use Rattle.par1_rules.specs.Hashes.{equal, setHash, controlHash}
 use Rattle.par1_rules.specs.Rules.{orElse, lengthAllowed, versionAllowed, layoutAllowed, numberAllowed, dataAllowed}
-use Rattle.par1_read.specs.Reading.{entriesIn, headerRefusal, totalsRefusal, listRefusal, refusalOf, partsOf, readOf}
+use Rattle.par1_read.specs.Reading.{entriesIn, headerRefusal, controlRefusal, totalsRefusal, listRefusal, refusalOf, savedIn, partsOf, readOf}
 use Rattle.par1_read.specs.declared.reading.Parts.{Parts}
 use Rattle.par1_read.specs.declared.reading.Reading.the-variants.{Accepted, Refused}
 use Rattle.par1_rules.proofs.EqualLaws.{equal-true, equal-same}
-use Rattle.par1_rules.proofs.RuleLaws.{test-passed, or-else, fault-some, Between, between, long-enough, Laid, laid, laid-out}
+use Rattle.par1_rules.proofs.RuleLaws.{test-passed, or-else, or-none, fault-some, Between, between, long-enough, Laid, laid, laid-out}
 
 -- ---- the header
 
@@ -37,7 +41,6 @@ pub record HeaderPassed (f : List ℕ) : Type 0 where
   pub begins : signatureOf f ≡ signature
   pub version-is : versionOf f ≡ version
   pub layout : Laid f
-  pub control-is : controlHashOf f ≡ controlHash f
 
 pub header-passed : (f : List ℕ) → headerRefusal f ≡ 0 → HeaderPassed f
 unfolding headerRefusal versionAllowed
@@ -46,20 +49,28 @@ header-passed f e =
     let two = test-passed 2 (eqb (signatureOf f) signature) _ (omega arith) (one .1) in
     let three = test-passed 3 (versionAllowed (versionOf f)) _ (omega arith) (two .1) in
     let four = test-passed 4 (layoutAllowed f) _ (omega arith) (three .1) in
-    let five = test-passed 5 (equal (controlHashOf f) (controlHash f)) _ (omega arith) (four .1) in
     record {
       size = between (length f) (one .0);
       begins = eqb-true _ _ (two .0);
       version-is = eqb-true _ _ (three .0);
       layout = laid f (four .0);
-      control-is = equal-true _ _ (five .0);
     }
 
 pub header-none : (f : List ℕ) → HeaderPassed f → headerRefusal f ≡ 0
 unfolding headerRefusal versionAllowed
 header-none f p =
     simp
-    (long-enough (length f) (p .size .low) (p .size .high), eq-eqb _ _ (p .begins), eq-eqb _ _ (p .version-is), laid-out f (p .layout), equal-same (p .control-is))
+    (long-enough (length f) (p .size .low) (p .size .high), eq-eqb _ _ (p .begins), eq-eqb _ _ (p .version-is), laid-out f (p .layout))
+
+-- ---- the control hash
+
+pub control-passed : (f : List ℕ) → controlRefusal f ≡ 0 → controlHashOf f ≡ controlHash f
+unfolding controlRefusal
+control-passed f e = equal-true _ _ (test-passed 5 (equal (controlHashOf f) (controlHash f)) 0 (omega arith) e .0)
+
+pub control-none : (f : List ℕ) → controlHashOf f ≡ controlHash f → controlRefusal f ≡ 0
+unfolding controlRefusal
+control-none f e = simp (equal-same e)
 
 -- ---- the list
 
@@ -88,9 +99,9 @@ pub header-refusal : (f : List ℕ) → (headerRefusal f ≡ 0 → ⊥) → refu
 unfolding refusalOf
 header-refusal f h = or-else (headerRefusal f) _ h
 
-pub list-refusal : (f : List ℕ) → headerRefusal f ≡ 0 → refusalOf f ≡ listRefusal f (walkOf (listOf f))
+pub later-refusal : (f : List ℕ) → headerRefusal f ≡ 0 → refusalOf f ≡ orElse (controlRefusal f) (listRefusal f (walkOf (listOf f)))
 unfolding refusalOf
-list-refusal f e = simp e
+later-refusal f e = simp e
 
 pub read-refused : (f : List ℕ) (n : ℕ) → n ≡ refusalOf f → (n ≡ 0 → ⊥) → readOf f ≡ Refused n
 unfolding readOf
@@ -106,26 +117,31 @@ read-accepted f e = simp e
 -- the file f passed all tests, and t are the totals of its list
 pub record Passed (f : List ℕ) : Type 0 where
   pub header : HeaderPassed f
+  pub control-is : controlHashOf f ≡ controlHash f
   pub totals-of : Totals
   pub walk-is : walkOf (listOf f) ≡ walked.Entries totals-of
   pub totals : TotalsPassed f totals-of
 
 pub passed-none : (f : List ℕ) → Passed f → refusalOf f ≡ 0
 passed-none f p =
-    list-refusal f (header-none f (p .header)) ∙ ap (listRefusal f) (p .walk-is) ∙ totals-none f (p .totals-of) (p .totals)
+    later-refusal f (header-none f (p .header))
+    ∙ ap₂ (λ (n m : ℕ). orElse n m) (control-none f (p .control-is)) (ap (listRefusal f) (p .walk-is) ∙ totals-none f (p .totals-of) (p .totals))
 
 none-passed : (f : List ℕ) → refusalOf f ≡ 0 → Passed f
 unfolding refusalOf
-none-passed f e = by (headerRefusal f) refl e
+none-passed f e =
+    let header = or-none (headerRefusal f) _ e in
+    let control = or-none (controlRefusal f) _ (header .1) in
+    list (walkOf (listOf f)) refl (header-passed f (header .0)) (control-passed f (control .0)) (control .1)
   where
-    list : (w : Walked) → w ≡ walkOf (listOf f) → headerRefusal f ≡ 0 → listRefusal f w ≡ 0 → Passed f
-    list (walked.Entries t) w h e =
-        record { header = header-passed f h; totals-of = t; walk-is = sym w; totals = totals-passed f t e }
-    list (walked.Fault k) w h e = absurd (omega (arith, fault-some k))
+    list : (w : Walked) → w ≡ walkOf (listOf f) → HeaderPassed f → controlHashOf f ≡ controlHash f → listRefusal f w ≡ 0 → Passed f
+    list (walked.Entries t) w h c e =
+        record { header = h; control-is = c; totals-of = t; walk-is = sym w; totals = totals-passed f t e }
+    list (walked.Fault k) w h c e = absurd (omega (arith, fault-some k))
 
-    by : (n : ℕ) → n ≡ headerRefusal f → orElse n (listRefusal f (walkOf (listOf f))) ≡ 0 → Passed f
-    by zero h e = list (walkOf (listOf f)) refl (sym h) e
-    by (suc n) h e = absurd (omega arith)
+pub saved-passed : (f : List ℕ) → refusalOf f ≡ 0 → savedIn (walkOf (listOf f)) ≡ length (savedOf (entriesIn f))
+saved-passed f e =
+    let p = none-passed f e in ap (λ (w : Walked). savedIn w) (p .walk-is) ∙ walk-saved (listOf f) (p .walk-is)
 
 -- what an accepted file tells
 pub record ReadAccepted (f : List ℕ) (p : Parts) : Type 0 where

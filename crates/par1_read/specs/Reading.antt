@@ -1,9 +1,11 @@
 -- What reading a file gives (document 01, "What comes back": "Reading tests 1 to 9 in this order and returns the first that holds").
 --
---   headerRefusal f      the number of the first of tests 1 to 5 that holds, 0 where none does
+--   headerRefusal f      the number of the first of tests 1 to 4 that holds, 0 where none does
+--   controlRefusal f     that of test 5
 --   totalsRefusal f t    that of the tests on the count, 7, 8 and 9, where t are the totals of the list
 --   listRefusal f w      that of tests 6 to 9, where w is the walk over the list
 --   refusalOf f          that of tests 1 to 9
+--   savedIn w            the number of saved entries that the walk w found
 --   entriesIn f          the entries of the file f
 --   partsOf f            what an accepted file f gives
 --   readOf f             what reading f gives
@@ -30,8 +32,10 @@ headerRefusal f =
     test 1 (lengthAllowed (length f))
     (test 2 (eqb (signatureOf f) signature)
     (test 3 (versionAllowed (versionOf f))
-    (test 4 (layoutAllowed f)
-    (test 5 (equal (controlHashOf f) (controlHash f)) 0))))
+    (test 4 (layoutAllowed f) 0)))
+
+unfoldable pub controlRefusal : List ℕ → ℕ
+controlRefusal f = test 5 (equal (controlHashOf f) (controlHash f)) 0
 
 abbrev pub entriesIn : List ℕ → List (List ℕ)
 entriesIn f = entriesOf (listOf f) .pieces
@@ -49,7 +53,11 @@ listRefusal f (walked.Entries t) = totalsRefusal f t
 listRefusal f (walked.Fault fault) = faultNumber fault
 
 unfoldable pub refusalOf : List ℕ → ℕ
-refusalOf f = orElse (headerRefusal f) (listRefusal f (walkOf (listOf f)))
+refusalOf f = orElse (headerRefusal f) (orElse (controlRefusal f) (listRefusal f (walkOf (listOf f))))
+
+abbrev pub savedIn : Walked → ℕ
+savedIn (walked.Entries t) = t .saved
+savedIn (walked.Fault fault) = 0
 
 -- "program identifier, volume number, counts (entries and saved), and where list and data lie"
 abbrev pub partsOf : List ℕ → Parts

@@ -3,7 +3,8 @@ ghost use mathlib.Core.Path.{_≡_};
 ghost use Prim.Native.Nat.{_≤_};
 ghost use lib.ListN.{length};
 ghost use Rattle.par1_rules.specs.Layout.{listOf};
-ghost use Rattle.par1_read.specs.Reading.{headerRefusal, totalsRefusal, readOf};
+ghost use Rattle.par1_rules.specs.Rules.{orElse};
+ghost use Rattle.par1_read.specs.Reading.{headerRefusal, controlRefusal, totalsRefusal, listRefusal, savedIn, readOf};
 use entries::Totals;
 use entries::Walked;
 use par1_rules::hashes;
@@ -38,27 +39,25 @@ pub fn read(file: &[u8]) -> Reading
     let list_size = little_endian::read64(file, layout::LIST_SIZE_AT);
     let list_end = layout::HEADER_LENGTH + list_size as usize;
     let list = &file[layout::HEADER_LENGTH..list_end];
-    match entries::walk(list) {
-        Walked::Entries(totals) => {
-            let refusal = totals_refusal(file, list, totals);
-            if refusal != 0 {
-                return Reading::Refused(refusal);
-            }
-            Reading::Accepted(Parts {
-                program: little_endian::read32(file, layout::PROGRAM_AT),
-                number: little_endian::read64(file, layout::NUMBER_AT),
-                entries: little_endian::read64(file, layout::COUNT_AT),
-                saved: totals.saved,
-                list_size,
-                data_start: little_endian::read64(file, layout::DATA_START_AT),
-                data_size: little_endian::read64(file, layout::DATA_SIZE_AT),
-            })
-        }
-        Walked::Fault(fault) => Reading::Refused(entries::fault_number(fault)),
+    let walked = entries::walk(list);
+    let control = control_refusal(file);
+    let listed = list_refusal(file, list, walked);
+    let refusal = first_of(control, listed);
+    if refusal != 0 {
+        return Reading::Refused(refusal);
     }
+    Reading::Accepted(Parts {
+        program: little_endian::read32(file, layout::PROGRAM_AT),
+        number: little_endian::read64(file, layout::NUMBER_AT),
+        entries: little_endian::read64(file, layout::COUNT_AT),
+        saved: saved_in(walked),
+        list_size,
+        data_start: little_endian::read64(file, layout::DATA_START_AT),
+        data_size: little_endian::read64(file, layout::DATA_SIZE_AT),
+    })
 }
 
-// The number of the first of tests 1 to 5 that `file` fails, 0 where it passes them.
+// The number of the first of tests 1 to 4 that `file` fails, 0 where it passes them.
 fn header_refusal(file: &[u8]) -> u32
     ensures { λ r. ⌜ r ≡ headerRefusal (now (file .entry)) ⌝ }
 {
@@ -74,6 +73,14 @@ fn header_refusal(file: &[u8]) -> u32
     if !rules::layout_allowed(file) {
         return 4;
     }
+    0
+}
+
+// 5 where `file` fails test 5, 0 where it passes it.
+fn control_refusal(file: &[u8]) -> u32
+    requires { ⌜ 96 ≤ length (now file) ⌝ }
+    ensures { λ r. ⌜ r ≡ controlRefusal (now (file .entry)) ⌝ }
+{
     if !hashes::matches(
         &file[layout::CONTROL_HASH_AT..layout::SET_HASH_AT],
         &file[layout::SET_HASH_AT..],
@@ -81,6 +88,17 @@ fn header_refusal(file: &[u8]) -> u32
         return 5;
     }
     0
+}
+
+// The number of the first of tests 6 to 9 that `file` fails, 0 where it passes them; `list` is its list, and `walked` the walk over it.
+fn list_refusal(file: &[u8], list: &[u8], walked: Walked) -> u32
+    requires { ⌜ (96 ≤ length (now file)) × (now list ≡ listOf (now file)) ⌝ }
+    ensures { λ r. ⌜ r ≡ listRefusal (now (file .entry)) walked ⌝ }
+{
+    match walked {
+        Walked::Entries(totals) => totals_refusal(file, list, totals),
+        Walked::Fault(fault) => entries::fault_number(fault),
+    }
 }
 
 // The number of the first of the tests on the count, 7, 8 and 9 that `file` fails, 0 where it passes them; `list` is its list.
@@ -106,4 +124,24 @@ fn totals_refusal(file: &[u8], list: &[u8], totals: Totals) -> u32
         return 9;
     }
     0
+}
+
+// The first of two refusals that is not 0, else 0.
+fn first_of(first: u32, second: u32) -> u32
+    ensures { λ r. ⌜ r ≡ orElse first second ⌝ }
+{
+    if first != 0 {
+        return first;
+    }
+    second
+}
+
+// The number of saved entries that the walk found.
+fn saved_in(walked: Walked) -> u64
+    ensures { λ r. ⌜ r ≡ savedIn walked ⌝ }
+{
+    match walked {
+        Walked::Entries(totals) => totals.saved,
+        Walked::Fault(_) => 0,
+    }
 }

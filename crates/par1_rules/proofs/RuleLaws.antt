@@ -1,6 +1,6 @@
 -- The rules that reading and writing share: what a test tells where it passed, and when it passes.
 --
---   test-passed, or-else     a test that passed, and a refusal that stands
+--   test-passed, or-else, or-none     a test that passed, a refusal that stands, and none of two refusals
 --   fault-some               every fault has a refusal
 --   signature-is             the signature, as a number
 --   Between, between, long-enough, too-long     a right length, in numbers
@@ -17,7 +17,6 @@ use borrow.Author.Tests.{leb-true, eqb-true, eq-eqb, le-leb, lt-leb}
 use Rattle.entries.specs.Walk.{faultNumber}
 use Rattle.entries.specs.declared.Fault.{Fault}
 use Rattle.entries.specs.declared.Fault.the-variants.{Size, FileSize, Name}
-use Rattle.entries.specs.declared.Walked.the-variants as walked
 use Rattle.little_endian.specs.Bytes.{fromLe}
 use Rattle.entries.proofs.EntryLaws.{and-both}
 use Rattle.par1_rules.specs.Layout.{signature, listStartOf, listSizeOf, dataStartOf, dataSizeOf}
@@ -37,6 +36,10 @@ fault-some Name = omega arith
 pub or-else : (n m : ℕ) → (n ≡ 0 → ⊥) → orElse n m ≡ n
 or-else zero m h = absurd (h refl)
 or-else (suc n) m h = refl
+
+pub or-none : (n m : ℕ) → orElse n m ≡ 0 → (n ≡ 0) × (m ≡ 0)
+or-none zero m e = (refl, e)
+or-none (suc n) m e = absurd (omega arith)
 
 -- ---- the signature and the length
 

@@ -1,21 +1,17 @@
 -- `par1_read::reading::header_refusal` meets its contract: each test in its order.
 -- Assumes nothing.
 use mathlib.Core.Path.{_≡_, sym, ap, _∙_}
-use Prim.Native.Nat.{ℕ, _≤_}
-use native.Mathlib.Omega.{arith}
+use Prim.Native.Nat.{ℕ}
 use lib.ListN.{length}
 use mathlib.Core.List.{List}
 use denote.Ref.{now}
 use borrow.Author.Tests.{not-true, not-false, ne-eqb, eq-eqb}
 use mathlib.Core.Bool.{true}
 use lib.Dec.{eqb}
-use Rattle.par1_rules.specs.Layout.{signature, signatureOf, versionOf, controlHashOf}
-use Rattle.par1_rules.specs.Hashes.{equal, controlHash}
+use Rattle.par1_rules.specs.Layout.{signature, signatureOf, versionOf}
 use Rattle.par1_rules.specs.Rules.{lengthAllowed, versionAllowed, layoutAllowed}
 use Rattle.par1_read.specs.Reading.{headerRefusal}
-use Rattle.par1_rules.proofs.RuleLaws.{signature-is, between}
-use Rattle.pieces.proofs.CutLaws.{part-to-end}
-use Rattle.md5.specs.Digest.{md5}
+use Rattle.par1_rules.proofs.RuleLaws.{signature-is}
 use borrow.Author.Needs.{needs}
 use Rattle.par1_read.proofs.reading.header_refusal.Statement.{statement}
 use Rattle.par1_read.proofs.reading.header_refusal.Tie as tie
@@ -50,15 +46,6 @@ passed-3 c = sym (version-test (c .before)) ∙ not-false (c .before .version-al
 
 passed-4 : (c : tie.Else4) → layoutAllowed (file-4 c) ≡ true
 passed-4 c = sym (c .before .layout-allowed .ensures) ∙ not-false (c .before .layout-allowed .result) (c .if4 .left)
-
-control-test : (c : tie.After-matches)
-    → let f = file-4 (c .before .before .before) in c .matches .result ≡ equal (controlHashOf f) (controlHash f)
-control-test c =
-    let f : List ℕ = file-4 (c .before .before .before) in
-    c .matches .ensures ∙ ap (λ (t : List ℕ). equal (controlHashOf f) (md5 t)) (part-to-end f 32)
-
-low : (c : tie.Else4) → 96 ≤ length (file-4 c)
-low c = between (length (file-4 c)) (passed-1 (c .before .before .before .before .before .before .before)) .low
 
 length-allowed-requires : tie.Need-length-allowed-requires
 length-allowed-requires c κs = search needs
@@ -96,42 +83,12 @@ returns-4 c =
     let two = three .before .before .before in
     simp (passed-1 (two .before .before), passed-2 two, passed-3 three, sym (c .before .layout-allowed .ensures) ∙ not-true (c .before .layout-allowed .result) (c .if4 .taken))
 
-sub-matches : tie.Need-sub-matches
-sub-matches c = search needs
-
-part-matches-start : tie.Need-part-matches-start
-part-matches-start c = search needs
-
-part-matches-end : tie.Need-part-matches-end
-part-matches-end c = omega (arith, low c)
-
-sub-matches-2 : tie.Need-sub-matches-2
-sub-matches-2 c = omega (arith, low (c .before))
-
-part-matches-start-2 : tie.Need-part-matches-start-2
-part-matches-start-2 c = omega (arith, low (c .before))
-
-part-matches-end-2 : tie.Need-part-matches-end-2
-part-matches-end-2 c = search needs
-
-matches-requires : tie.Need-matches-requires
-matches-requires c κs = search needs
-
 returns-5 : tie.Need-returns-5
 unfolding headerRefusal
 returns-5 c =
-    let four = c .before .before .before .before in
-    let three = four .before .before in
+    let three = c .before .before in
     let two = three .before .before .before in
-    simp (passed-1 (two .before .before), passed-2 two, passed-3 three, passed-4 four, sym (control-test (c .before)) ∙ not-true (c .before .matches .result) (c .if5 .taken))
-
-returns-6 : tie.Need-returns-6
-unfolding headerRefusal
-returns-6 c =
-    let four = c .before .before .before .before in
-    let three = four .before .before in
-    let two = three .before .before .before in
-    simp (passed-1 (two .before .before), passed-2 two, passed-3 three, passed-4 four, sym (control-test (c .before)) ∙ not-false (c .before .matches .result) (c .if5 .left))
+    simp (passed-1 (two .before .before), passed-2 two, passed-3 three, passed-4 c)
 
 pub header-refusal-spec : {M : Type 1} → statement M
 header-refusal-spec =
@@ -146,12 +103,4 @@ header-refusal-spec =
     returns-3
     layout-allowed-requires
     returns-4
-    sub-matches
-    part-matches-start
-    part-matches-end
-    sub-matches-2
-    part-matches-start-2
-    part-matches-end-2
-    matches-requires
-    returns-5
-    returns-6)
+    returns-5)

@@ -1,18 +1,17 @@
--- `par1_read::read` meets its contract: the header decides, then the walk over the list, then its totals.
+-- `par1_read::read` meets its contract: the header decides, then the control hash and the list.
 -- Assumes nothing.
-use mathlib.Core.Path.{_≡_, sym, ap, _∙_}
+use mathlib.Core.Path.{_≡_, sym, ap, ap₂, _∙_}
 use Prim.Native.Nat.{ℕ, _-_, _+_}
 use native.Mathlib.Omega.{arith}
 use lib.ListN.{take, drop}
 use mathlib.Core.List.{List}
 use denote.Ref.{now}
-use Rattle.par1_read.proofs.ReadingLaws.{HeaderPassed, header-passed, header-refusal, list-refusal, read-refused, read-accepted}
-use Rattle.par1_rules.proofs.RuleLaws.{fault-some}
+use Rattle.par1_read.proofs.ReadingLaws.{HeaderPassed, header-passed, header-refusal, later-refusal, saved-passed, read-refused, read-accepted}
+use Rattle.par1_rules.specs.Rules.{orElse}
 use Rattle.entries.specs.Walk.{walkOf}
 use Rattle.entries.specs.declared.Walked.{Walked}
-use Rattle.entries.proofs.WalkLaws.{walk-saved}
 use Rattle.par1_rules.specs.Layout.{listSizeOf, listOf}
-use Rattle.par1_read.specs.Reading.{headerRefusal, listRefusal, refusalOf}
+use Rattle.par1_read.specs.Reading.{headerRefusal, listRefusal, refusalOf, savedIn}
 use borrow.Author.Needs.{needs}
 use Rattle.par1_read.proofs.reading.read.Statement.{statement}
 use Rattle.par1_read.proofs.reading.read.Tie as tie
@@ -36,10 +35,13 @@ list-is c =
 walk-is : (c : tie.After-walk) → c .walk .result ≡ walkOf (listOf (file-of c))
 walk-is c = c .walk .ensures ∙ ap walkOf (list-is c)
 
--- the walk decides
-walk-refusal : (c : tie.After-walk) {w : Walked} → c .walk .result ≡ w → refusalOf (file-of c) ≡ listRefusal (file-of c) w
-walk-refusal c e =
-    list-refusal (file-of c) (none-yet (c .before .before .before)) ∙ ap (listRefusal (file-of c)) (sym (walk-is c) ∙ e)
+-- the refusal is the first of the control hash's and the list's
+first-is : (c : tie.After-first-of) → c .first-of .result ≡ refusalOf (file-of (c .before .before .before))
+first-is c =
+    let w = c .before .before .before in
+    c .first-of .ensures
+    ∙ ap₂ (λ (n m : ℕ). orElse n m) (c .before .before .control-refusal .ensures) (c .before .list-refusal .ensures ∙ ap (listRefusal (file-of w)) (walk-is w))
+    ∙ sym (later-refusal (file-of w) (none-yet (w .before .before .before)))
 
 header-refusal-requires : tie.Need-header-refusal-requires
 header-refusal-requires c κs = search needs
@@ -68,18 +70,18 @@ part-list-end c = let p = passed (c .before) in omega (arith, c .read64 .ensures
 walk-requires : tie.Need-walk-requires
 walk-requires c κs = search needs
 
-enum-known-totals : tie.Need-enum-known-totals
-enum-known-totals c = search needs
+control-refusal-requires : tie.Need-control-refusal-requires
+control-refusal-requires c κs = omega (arith, passed (c .before .before .before) .size .low)
 
-totals-refusal-requires : tie.Need-totals-refusal-requires
-totals-refusal-requires c κs =
-    let w = c .before .before .before in (omega (arith, passed (w .before .before .before) .size .low), list-is w)
+list-refusal-requires : tie.Need-list-refusal-requires
+list-refusal-requires c κs =
+    let w = c .before in (omega (arith, passed (w .before .before .before) .size .low), list-is w)
+
+first-of-requires : tie.Need-first-of-requires
+first-of-requires c κs = search needs
 
 returns-2 : tie.Need-returns-2
-returns-2 c =
-    let k = c .before .before in
-    let w = k .before .before .before in
-    sym (read-refused (file-of w) _ (c .before .totals-refusal .ensures ∙ sym (walk-refusal w (k .before .totals .given .1))) (c .if2 .taken))
+returns-2 c = sym (read-refused (file-of (c .before .before .before .before)) _ (first-is (c .before)) (c .if2 .taken))
 
 read32-requires : tie.Need-read32-requires
 read32-requires c κs = search needs
@@ -90,35 +92,23 @@ read64-requires-2 c κs = search needs
 read64-requires-3 : tie.Need-read64-requires-3
 read64-requires-3 c κs = search needs
 
+saved-in-requires : tie.Need-saved-in-requires
+saved-in-requires c κs = search needs
+
 read64-requires-4 : tie.Need-read64-requires-4
 read64-requires-4 c κs = search needs
 
 read64-requires-5 : tie.Need-read64-requires-5
 read64-requires-5 c κs = search needs
 
-enum-known-fault : tie.Need-enum-known-fault
-enum-known-fault c = search needs
-
-fault-number-requires : tie.Need-fault-number-requires
-fault-number-requires c κs = search needs
-
 returns-3 : tie.Need-returns-3
 returns-3 c =
-    let r = c .before .before .before .before in
-    let k = r .before .before .before in
-    let w = k .before .before .before in
-    let walked = k .before .totals .given .1 in
-    let none : refusalOf (file-of w) ≡ 0 = walk-refusal w walked ∙ sym (r .before .before .totals-refusal .ensures) ∙ r .before .if2 .left in
-    let saved = walk-saved (listOf (file-of w)) (sym (walk-is w) ∙ walked) in
+    let r = c .before .before .before .before .before in
+    let w = r .before .before .before .before .before in
+    let none : refusalOf (file-of w) ≡ 0 = sym (first-is (r .before .before)) ∙ r .before .if2 .left in
+    let saved = c .before .before .saved-in .ensures ∙ ap (λ (k : Walked). savedIn k) (walk-is w) ∙ saved-passed (file-of w) none in
     sym (read-accepted (file-of w) none
-    ∙ cc (saved, w .before .before .read64 .ensures, r .read32 .ensures, c .before .before .before .read642 .ensures, c .before .before .read643 .ensures, c .before .read644 .ensures, c .read645 .ensures))
-
-returns-4 : tie.Need-returns-4
-returns-4 c =
-    let w = c .before .before .before .before in
-    let number = c .fault-number .ensures in
-    sym (read-refused (file-of w) _ (number ∙ sym (walk-refusal w (c .before .before .fault .given .1)))
-    (λ z. omega (arith, fault-some (c .before .before .fault .given .0 .0), number)))
+    ∙ cc (saved, w .before .before .read64 .ensures, r .read32 .ensures, c .before .before .before .before .read642 .ensures, c .before .before .before .read643 .ensures, c .before .read644 .ensures, c .read645 .ensures))
 
 pub read-spec : {M : Type 1} → statement M
 read-spec =
@@ -132,15 +122,14 @@ read-spec =
     part-list-start
     part-list-end
     walk-requires
-    enum-known-totals
-    totals-refusal-requires
+    control-refusal-requires
+    list-refusal-requires
+    first-of-requires
     returns-2
     read32-requires
     read64-requires-2
     read64-requires-3
+    saved-in-requires
     read64-requires-4
     read64-requires-5
-    enum-known-fault
-    fault-number-requires
-    returns-3
-    returns-4)
+    returns-3)
