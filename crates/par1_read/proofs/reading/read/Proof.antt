@@ -35,12 +35,12 @@ list-is c =
 walk-is : (c : tie.After-walk) → c .walk .result ≡ walkOf (listOf (file-of c))
 walk-is c = c .walk .ensures ∙ ap walkOf (list-is c)
 
--- the refusal is the first of the control hash's and the list's
-first-is : (c : tie.After-first-of) → c .first-of .result ≡ refusalOf (file-of (c .before .before .before))
-first-is c =
-    let w = c .before .before .before in
-    c .first-of .ensures
-    ∙ ap₂ (λ (n m : ℕ). orElse n m) (c .before .before .control-refusal .ensures) (c .before .list-refusal .ensures ∙ ap (listRefusal (file-of w)) (walk-is w))
+-- test 5 decides, then the list
+later-is : (c : tie.After-list-refusal)
+    → orElse (c .before .control-refusal .result) (c .list-refusal .result) ≡ refusalOf (file-of (c .before .before))
+later-is c =
+    let w = c .before .before in
+    ap₂ (λ (n m : ℕ). orElse n m) (c .before .control-refusal .ensures) (c .list-refusal .ensures ∙ ap (listRefusal (file-of w)) (walk-is w))
     ∙ sym (later-refusal (file-of w) (none-yet (w .before .before .before)))
 
 header-refusal-requires : tie.Need-header-refusal-requires
@@ -81,7 +81,9 @@ first-of-requires : tie.Need-first-of-requires
 first-of-requires c κs = search needs
 
 returns-2 : tie.Need-returns-2
-returns-2 c = sym (read-refused (file-of (c .before .before .before .before)) _ (first-is (c .before)) (c .if2 .taken))
+returns-2 c =
+    let l = c .before .before in
+    sym (read-refused (file-of (l .before .before)) _ (c .before .first-of .ensures ∙ later-is l) (c .if2 .taken))
 
 read32-requires : tie.Need-read32-requires
 read32-requires c κs = search needs
@@ -104,8 +106,9 @@ read64-requires-5 c κs = search needs
 returns-3 : tie.Need-returns-3
 returns-3 c =
     let r = c .before .before .before .before .before in
-    let w = r .before .before .before .before .before in
-    let none : refusalOf (file-of w) ≡ 0 = sym (first-is (r .before .before)) ∙ r .before .if2 .left in
+    let l = r .before .before .before in
+    let w = l .before .before in
+    let none : refusalOf (file-of w) ≡ 0 = sym (r .before .before .first-of .ensures ∙ later-is l) ∙ r .before .if2 .left in
     let saved = c .before .before .saved-in .ensures ∙ ap (λ (k : Walked). savedIn k) (walk-is w) ∙ saved-passed (file-of w) none in
     sym (read-accepted (file-of w) none
     ∙ cc (saved, w .before .before .read64 .ensures, r .read32 .ensures, c .before .before .before .before .read642 .ensures, c .before .before .before .read643 .ensures, c .before .read644 .ensures, c .read645 .ensures))
