@@ -7,6 +7,7 @@
 --   add-reduced                   a row that was added
 --   solvable-solution             solvable: the weights are the solution
 --   unsolvable-kernel             not solvable: there is a kernel vector
+--   weight-late, weight-none      no weight stands at a row that was not taken, nor, where it is solvable, at 0
 -- Assumes nothing.
 use mathlib.Core.Path.{_≡_, refl, sym, ap, ap₂, _∙_, subst}
 use mathlib.Core.Logic.{_≢_}
@@ -22,7 +23,7 @@ use lib.ListN.{length, getD, set, replicate, length-set, length-replicate}
 use lib.Seq.{getD-set-same, getD-set-other}
 use borrow.Author.Tests.{eq-eqb, ne-eqb}
 use Rattle.gf256.specs.Field.{product, inverse}
-use Rattle.gf256.proofs.Polynomials.{sumBelow-same}
+use Rattle.gf256.proofs.Polynomials.{sumBelow-same, sumBelow-none}
 use Rattle.elimination.specs.Field.{δ}
 use Rattle.elimination.specs.Matrix.{rowTimes, IsSolution, IsKernelVector}
 use Rattle.elimination.specs.Reduction.{entry, withDiagonal, rowProduct, IsPivot, sweptEntry, RowAdded, dependent, independent, IsSolvable, solvable, unsolvable, weightOf}
@@ -196,6 +197,26 @@ module _ (A : ℕ → ℕ → Byte) (m owners : List ℕ) (t : ℕ) (R : Reduced
           → byteField .mul (cond b (byteField .𝟙) (byteField .𝟘)) (entries m f k) .0 ≡ cond b (entry m f k) 0
       picked true k h = ap (λ (x : Byte). x .0) (byteField .one-mul (entries m f k)) ∙ value f k l h
       picked false k h = ap (λ (x : Byte). x .0) (S.zero-mul byteField (entries m f k))
+
+  pub weight-late : (f s : ℕ) → t ≤ s → weightOf m owners f (suc s) ≡ 0
+  unfolding weightOf
+  weight-late f s l =
+      sumBelow-same 256 (λ k. cond (eqb (ownerOf owners k) (suc s)) (entry m f k) 0) (λ k. 0)
+      (λ k b.
+      ap (λ (c : Bool). cond c (entry m f k) 0)
+      (ne-eqb (ownerOf owners k) (suc s) (λ e. let h = R .reduced .earlier k s b e in omega arith)))
+      ∙ sumBelow-none 256
+
+  pub weight-none : (f : ℕ) → IsSolvable m owners f true → weightOf m owners f 0 ≡ 0
+  unfolding weightOf
+  weight-none f (solvable P) =
+      sumBelow-same 256 (λ k. cond (eqb (ownerOf owners k) 0) (entry m f k) 0) (λ k. 0)
+      (λ k b.
+      elim (ℕ-discrete (ownerOf owners k) 0) [
+        | yes e ↦ ap (λ (c : Bool). cond c (entry m f k) 0) (eq-eqb (ownerOf owners k) 0 e) ∙ P .before k b e
+        | no q ↦ ap (λ (c : Bool). cond c (entry m f k) 0) (ne-eqb (ownerOf owners k) 0 q)
+      ])
+      ∙ sumBelow-none 256
 
   pub solvable-solution : (f : ℕ) → f < 256 → (answer : Bool) → IsSolvable m owners f answer → answer ≡ true
       → IsSolution byteField A 256 t f (weights f)

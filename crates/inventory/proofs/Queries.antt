@@ -19,7 +19,8 @@ use Rattle.parity.specs.Parity.{isFile}
 use Rattle.elimination.specs.Matrix.{IsSolution, IsKernelVector}
 use Rattle.elimination.proofs.ByteField.{Byte, byteField}
 use Rattle.number_sets.specs.Sets.{member}
-use Rattle.volume_weights.specs.Weights.{tableOf, Solved, solved, unsolved, fileWeight}
+use Rattle.volume_weights.specs.Weights.{tableOf, solved, unsolved, fileWeight}
+use Rattle.volume_weights.proofs.Steps.{weight-below}
 use Rattle.inventory.specs.Recoverable.{State, column, place, weighted, Recoverable, IsWeights}
 use Rattle.inventory.specs.Model.{Reply, queried, query, Gives, GivesQuery, undetermined, noRoom, recoverable}
 use Rattle.inventory.specs.Steps.{isInventory}
@@ -88,18 +89,18 @@ module _ (s : Inventory) (valid : isInventory s ≡ true) (f : ℕ) where
         → Recoverable coefficient (state size) f
     recovered ws found (empty e y z) t size matches =
         empty-recoverable coefficient (state size) f inRange (is-empty size matches e)
-    recovered ws found (notEmpty e (solved ws′ w W h)) t size matches =
+    recovered ws found (notEmpty e (solved w W h)) t size matches =
         subst (Recoverable coefficient (state size)) (sym as-suc)
         (solution-recoverable coefficient coefficient-small (state size) (few-files s valid) (f - 1) below w
         (solution-in size matches w W))
-    recovered ws found (notEmpty e (unsolved ws′ x X)) t size matches = absurd (false≢true t)
+    recovered ws found (notEmpty e (unsolved x X z)) t size matches = absurd (false≢true t)
 
     pub query-undetermined : (ws : List ℕ) (found : Bool) → Found (s .n) (s .files) (s .volumes) (s .nonempty) f found ws → found ≡ false
         → Queried s f room answer.Undetermined room
     unfolding answerOf
     query-undetermined ws found (empty e y z) t = absurd (true≢false (sym y ∙ t))
-    query-undetermined ws found (notEmpty e (solved ws′ w W h)) t = absurd (true≢false t)
-    query-undetermined ws found (notEmpty e (unsolved ws′ x X)) t =
+    query-undetermined ws found (notEmpty e (solved w W h)) t = absurd (true≢false t)
+    query-undetermined ws found (notEmpty e (unsolved x X z)) t =
         asModel valid 12 refl
         (λ size matches.
         as-model room size true false (queried 12 room) inRange missing
@@ -189,10 +190,10 @@ module _ (s : Inventory) (valid : isInventory s ≡ true) (f : ℕ) where
           ∙ sumBelow-none (255 - s .n)
 
       weights-of : (size : ℕ → ℕ) (w : ℕ → Byte) → Weighs coefficient coefficient-small (state size) (few-files s valid) f w
-          → ((v : ℕ) → v < 255 → getD ws (suc v) 0 ≡ w v .0) → IsWeights coefficient (state size) f written
+          → ((v : ℕ) → v < 255 - s .n → getD ws (suc v) 0 ≡ w v .0) → IsWeights coefficient (state size) f written
       weights-of size w weighs h =
           is-weights coefficient coefficient-small (state size) (few-files s valid) f w weighs written written-long written-bytes
-          (λ v l. written-volume v l ∙ h v (omega arith)) (present-weight size) missing-weight
+          (λ v l. written-volume v l ∙ h v l) (present-weight size) missing-weight
 
       written-weights : (found : Bool) → Found (s .n) (s .files) (s .volumes) (s .nonempty) f found ws → found ≡ true → (size : ℕ → ℕ) → Matches s size
           → IsWeights coefficient (state size) f written
@@ -201,12 +202,12 @@ module _ (s : Inventory) (valid : isInventory s ≡ true) (f : ℕ) where
           (zero-weighs coefficient coefficient-small (state size) (few-files s valid) f
           (ap₂ (λ (a b : Bool). not a && b) missing (sym (matches f inRange) ∙ e)))
           (λ v l. z (suc v))
-      written-weights found (notEmpty e (solved ws′ w X h)) t size matches =
+      written-weights found (notEmpty e (solved w X h)) t size matches =
           weights-of size w
           (subst (λ (k : ℕ). Weighs coefficient coefficient-small (state size) (few-files s valid) k w) (sym as-suc)
           (solution-weighs coefficient coefficient-small (state size) (few-files s valid) (f - 1) w (solution-in size matches w X)))
-          h
-      written-weights found (notEmpty e (unsolved ws′ x X)) t size matches = absurd (false≢true t)
+          (λ v l. h (suc v) (omega arith) ∙ weight-below (255 - s .n) w v l)
+      written-weights found (notEmpty e (unsolved x X z)) t size matches = absurd (false≢true t)
 
       pub query-recoverable : (found : Bool) → Found (s .n) (s .files) (s .volumes) (s .nonempty) f found ws → found ≡ true → Queried s f room answer.Recoverable room′
       unfolding answerOf

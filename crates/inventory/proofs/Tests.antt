@@ -3,7 +3,7 @@
 --   all-true      a test that passes at each number passes
 --   all-false     one that fails at some number fails
 --   all-at        where it passes, it passes at each number
---   is-true, is-false, and-true      tests taken apart
+--   and-true                         tests taken apart
 --   one-more      what holds below k and at k holds below k + 1
 --   file-in-range, file-range, volume-in-range, volume-range   the ranges of numbers
 --   eqb-suc       successors are equal where the numbers are
@@ -35,14 +35,6 @@ all-false (suc m) test k l h =
       | yes e ↦ ap (λ (a : Bool). a && allBelow m test) (ap test (sym e) ∙ h)
       | no q ↦ ap (λ (b : Bool). test m && b) (all-false m test k (omega arith) h) ∙ and-false (test m)
     ]
-
-pub is-false : (b : Bool) → not b ≡ true → b ≡ false
-is-false true e = absurd (false≢true e)
-is-false false e = refl
-
-pub is-true : (b : Bool) → not b ≡ false → b ≡ true
-is-true true e = refl
-is-true false e = absurd (false≢true (sym e))
 
 pub and-true : (a b : Bool) → (a && b) ≡ true → (a ≡ true) × (b ≡ true)
 and-true true b e = (refl, e)

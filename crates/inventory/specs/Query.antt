@@ -50,7 +50,7 @@ pub data Queried (s : Inventory) (f : ℕ) (room : List ℕ) (r : Answer) (room�
 -- an empty file comes back by no weight; any other by those that solve the rows of the volumes present
 pub data Found (n : ℕ) (files volumes nonempty : List ℕ) (f : ℕ) (found : Bool) (ws : List ℕ) : Type 0 where
   empty : member nonempty f ≡ false → found ≡ true → ((v : ℕ) → getD ws v 0 ≡ 0) → Found n files volumes nonempty f found ws
-  notEmpty : member nonempty f ≡ true → Solved nonempty files volumes (255 - n) (f - 1) found ws
+  notEmpty : member nonempty f ≡ true → Solved nonempty files volumes (255 - n) (f - 1) ws found
       → Found n files volumes nonempty f found ws
 
 pub record Written (n : ℕ) (files ws room room′ : List ℕ) (p : ℕ) : Type 0 where

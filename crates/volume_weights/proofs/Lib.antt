@@ -1,2 +1,3 @@
 pub mod CoefficientRows
 pub mod Steps
+pub mod Determined

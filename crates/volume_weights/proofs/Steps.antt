@@ -1,28 +1,33 @@
 -- The parts of a solution, put together.
 --
---   volume-reduced        one volume more, taken or left out
---   solved-by             what the elimination answers
---   sums-more, all-chosen the loop of `file_weights`, and the files that it takes
+--   volume-reduced              one volume more, taken or left out
+--   solved-by, unsolved-by      what the elimination answers
+--   weight-below                the weight of a volume
+--   sums-more, all-chosen       the loop of `file_weights`, and the files that it takes
 -- Assumes nothing.
 use mathlib.Core.Path.{_≡_, refl, sym, ap, ap₂, _∙_, subst}
 use mathlib.Core.Bool.{Bool, true, false, not, cond, _&&_}
 use mathlib.Core.List.{List}
-use Prim.Native.Nat.{ℕ, suc, _<_, _+_}
+use Prim.Native.Nat.{ℕ, zero, suc, _<_, _+_}
 use native.Mathlib.Numerals.{add-one}
 use native.Mathlib.Omega.{arith}
+use native.Mathlib.Decide.{decLt}
 use lib.Bits.{bitXor}
 use lib.ListN.{length, getD, replicate}
+use borrow.Author.Tests.{le-leb, lt-leb}
 use Rattle.gf256.specs.Polynomial.{sumBelow}
 use Rattle.gf256.specs.Field.{product}
+use Rattle.gf256.proofs.Products.{product-zero-r}
 use Rattle.parity.specs.Coefficient.{coefficient}
 use Rattle.parity.specs.MulAdd.{mulAdd}
 use Rattle.parity.proofs.MulAdds.{mulAdd-at}
 use Rattle.elimination.specs.Reduction.{RowAdded, IsSolvable, weightOf}
-use Rattle.elimination.proofs.Reductions.{ReducedBytes, skip-reduced, add-reduced, weight-value, solvable-solution, unsolvable-kernel}
-use Rattle.elimination.proofs.ByteField.{Byte}
+use Rattle.elimination.proofs.Reductions.{entries, ownerOf, ReducedBytes, skip-reduced, add-reduced, weight-value, weight-late, weight-none, solvable-solution, unsolvable-kernel}
+use Rattle.elimination.proofs.Elimination.{rowWeight}
+use Rattle.elimination.proofs.ByteField.{Byte, byteField}
 use Rattle.number_sets.specs.Sets.{member}
 use Rattle.number_sets.proofs.Words.{member-none}
-use Rattle.volume_weights.specs.Weights.{tableOf, MaskedRow, VolumeTaken, absent, added, Solved, solved, unsolved, fileWeight}
+use Rattle.volume_weights.specs.Weights.{tableOf, MaskedRow, VolumeTaken, absent, added, weightAt, Solved, solved, unsolved, fileWeight, FileWeights}
 use Rattle.volume_weights.proofs.CoefficientRows.{table-row, table-absent}
 
 -- ---- the rows of the volumes
@@ -49,26 +54,49 @@ module _ (inside outside volumes : List ℕ) where
 
   -- ---- what the elimination answers
 
-  pub solved-by : (rows i : ℕ) → i < 256 → (m owners ws : List ℕ) (found : Bool) → ReducedBytes table m owners rows
-      → IsSolvable m owners i found → ((v : ℕ) → v < 256 → getD ws v 0 ≡ weightOf m owners i v)
-      → Solved inside outside volumes rows i found ws
-  solved-by rows i small m owners ws true X A h =
-      solved ws _ (solvable-solution table m owners rows X i small true A refl)
-      (λ v l. h (suc v) (omega arith) ∙ weight-value table m owners rows X i v small)
-  solved-by rows i small m owners ws false X A h =
-      let kernel = unsolvable-kernel table m owners rows X i small false A refl in
-      unsolved ws (kernel .0) (kernel .1)
+  module _ (rows i : ℕ) (small : i < 256) (m owners ws : List ℕ) (X : ReducedBytes table m owners rows) where
+    weight-at : IsSolvable m owners i true → (v : ℕ) → weightOf m owners i v ≡ weightAt rows (λ s. rowWeight byteField 256 (ownerOf owners) (entries m i) s) v
+    unfolding weightAt
+    weight-at A zero = weight-none table m owners rows X i A
+    weight-at A (suc v) =
+        elim (decLt v rows) [
+          | yes l ↦
+              weight-value table m owners rows X i v small
+              ∙ sym (ap (λ (b : Bool). cond b (rowWeight byteField 256 (ownerOf owners) (entries m i) v .0) 0) (le-leb (suc v) rows l))
+          | no q ↦
+              weight-late table m owners rows X i v (omega arith)
+              ∙ sym (ap (λ (b : Bool). cond b (rowWeight byteField 256 (ownerOf owners) (entries m i) v .0) 0) (lt-leb (suc v) rows (omega arith)))
+        ]
+
+    pub solved-by : IsSolvable m owners i true → ((v : ℕ) → v < 256 → getD ws v 0 ≡ weightOf m owners i v)
+        → Solved inside outside volumes rows i ws true
+    solved-by A h =
+        solved _ (solvable-solution table m owners rows X i small true A refl) (λ v l. h v l ∙ weight-at A v)
+
+    pub unsolved-by : IsSolvable m owners i false → ws ≡ replicate 256 0 → Solved inside outside volumes rows i ws false
+    unsolved-by A h =
+        let kernel = unsolvable-kernel table m owners rows X i small false A refl in
+        unsolved (kernel .0) (kernel .1) h
+
+pub weight-below : (rows : ℕ) (w : ℕ → Byte) (v : ℕ) → v < rows → weightAt rows w (suc v) ≡ w v .0
+unfolding weightAt
+weight-below rows w v l = ap (λ (b : Bool). cond b (w v .0) 0) (le-leb (suc v) rows l)
 
 -- ---- the weights of the files
 
 pub sums-more : (files ws row sums : List ℕ) (v : ℕ) → length sums ≡ 256 → MaskedRow (member files) v row
-    → ((i : ℕ) → i < 255 → getD sums i 0 ≡ fileWeight files ws v i)
-    → (i : ℕ) → i < 255 → getD (mulAdd (getD ws (v + 1) 0) row sums) i 0 ≡ fileWeight files ws (v + 1) i
+    → FileWeights files ws v sums → FileWeights files ws (v + 1) (mulAdd (getD ws (v + 1) 0) row sums)
 unfolding fileWeight sumBelow
-sums-more files ws row sums v e M h i l =
-    mulAdd-at (getD ws (v + 1) 0) row sums i (omega arith)
-    ∙ ap₂ bitXor (h i l) (ap₂ (λ (k x : ℕ). product (getD ws k 0) x) (add-one v) (M .inside i l))
-    ∙ ap (λ (k : ℕ). fileWeight files ws k i) (sym (add-one v))
+sums-more files ws row sums v e M W = record {
+  inside = λ i l.
+      mulAdd-at weight row sums i (omega arith)
+      ∙ ap₂ bitXor (W .inside i l) (ap₂ (λ (k x : ℕ). product (getD ws k 0) x) (add-one v) (M .inside i l))
+      ∙ ap (λ (k : ℕ). fileWeight files ws k i) (sym (add-one v));
+  last = mulAdd-at weight row sums 255 (omega arith) ∙ ap₂ bitXor (W .last) (ap (product weight) (M .last) ∙ product-zero-r weight);
+}
+  where
+    weight : ℕ
+    weight = getD ws (v + 1) 0
 
 -- every file of a set, with none left out
 pub all-chosen : (files row : List ℕ) → MaskedRow (λ g. member files g && not (member (replicate 4 0) g)) 0 row → MaskedRow (member files) 0 row

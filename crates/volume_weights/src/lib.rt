@@ -2,14 +2,12 @@
 // then weigh.
 ghost use mathlib.Core.Path.{_≡_};
 ghost use mathlib.Core.Bool.{not, cond, _&&_};
-ghost use Prim.Native.Nat.{ℕ, _<_};
-ghost use lib.ListN.{getD};
 ghost use Rattle.number_sets.specs.Sets.{member};
 ghost use Rattle.elimination.proofs.Reductions.{ReducedBytes};
-ghost use Rattle.volume_weights.specs.Weights.{tableOf, MaskedRow, Advanced, VolumeTaken, Solved, fileWeight};
+ghost use Rattle.volume_weights.specs.Weights.{tableOf, MaskedRow, Advanced, VolumeTaken, Solved, FileWeights};
 use number_sets::has;
 
-// Whether weights bring a missing file back, and these weights by volume number.
+// Whether weights bring a missing file back, and these weights by volume number; zeros where none do.
 pub struct Solution {
     pub found: bool,
     pub weights: [u8; 256],
@@ -25,13 +23,19 @@ pub fn solve(
     rows: u8,
     column: u8,
 ) -> Solution
-    ensures { λ r. ⌜ Solved inside outside volumes rows column (r .found) (r .weights) ⌝ }
+    ensures { λ r. ⌜ Solved inside outside volumes rows column (r .weights) (r .found) ⌝ }
 {
     let mut matrix = [0u8; 65536];
     let mut owners = [0u8; 256];
     elimination::set_diagonal(&mut matrix);
     add_volumes(inside, outside, volumes, rows, &mut matrix, &mut owners);
     let found = elimination::solvable(&matrix, &owners, column);
+    if !found {
+        return Solution {
+            found,
+            weights: [0u8; 256],
+        };
+    }
     let weights = elimination::weights(&matrix, &owners, column);
     Solution { found, weights }
 }
@@ -110,7 +114,7 @@ fn advance(mut row: [u8; 256]) -> [u8; 256]
 
 // The weights of the files present, by file number less 1: what their bytes add to the first `rows` volumes, so weighted.
 pub fn file_weights(files: [u64; 4], rows: u8, weights: &[u8; 256]) -> [u8; 256]
-    ensures { λ r. ⌜ ((i : ℕ) → i < 255 → getD r i 0 ≡ fileWeight files (now (weights .entry)) rows i) ⌝ }
+    ensures { λ r. ⌜ FileWeights files (now (weights .entry)) rows r ⌝ }
 {
     let rows = rows as usize;
     let mut row = chosen_row(files, [0u64; 4]);

@@ -1,12 +1,12 @@
 -- `volume_weights::file_weights` meets its contract.
 -- Assumes nothing.
 use mathlib.Core.Path.{_≡_, refl, sym, ap, _∙_, subst}
-use Prim.Native.Nat.{ℕ, _≤_, _<_, _-_}
+use Prim.Native.Nat.{ℕ, _≤_, _<_, _+_, _-_}
 use native.Mathlib.Omega.{arith}
 use lib.ListN.{length, getD, getD-replicate}
 use Rattle.volume_weights.proofs.CoefficientRows.{next-row}
 use Rattle.volume_weights.proofs.Steps.{sums-more, all-chosen}
-use Rattle.volume_weights.specs.Weights.{MaskedRow, fileWeight}
+use Rattle.volume_weights.specs.Weights.{MaskedRow, FileWeights, fileWeight}
 use Rattle.number_sets.specs.Sets.{member}
 use mathlib.Core.List.{List}
 use native.Mathlib.Numerals.{add-one}
@@ -20,7 +20,7 @@ abbrev Inv-loop : tie.InvT-loop
 Inv-loop rows₀ weights rows row₀ sums₀ v₀ row sums v =
     (v ≤ rows) × (length row ≡ 256) × (length sums ≡ 256)
     × ((files : List ℕ) → MaskedRow (member files) 0 row₀
-    → MaskedRow (member files) v row × ((i : ℕ) → i < 255 → getD sums i 0 ≡ fileWeight files weights v i))
+    → MaskedRow (member files) v row × FileWeights files weights v sums)
 
 abbrev μ-loop : tie.MeasureT-loop
 μ-loop rows₀ weights rows row₀ sums₀ v₀ row sums v = rows - v
@@ -30,7 +30,7 @@ chosen-row-requires c κs = search needs
 
 loop-holds : tie.Need-loop-holds Inv-loop μ-loop
 unfolding fileWeight sumBelow
-loop-holds c = (omega arith, search needs, refl, λ files M. (M, λ i l. getD-replicate 256 i 0 0 (omega arith)))
+loop-holds c = (omega arith, search needs, refl, λ files M. (M, record { inside = λ i l. getD-replicate 256 i 0 0 (omega arith); last = getD-replicate 256 255 0 0 (omega arith) }))
 
 add-mul-add : tie.Need-add-mul-add Inv-loop μ-loop
 add-mul-add c = omega arith
@@ -68,7 +68,7 @@ loop-again c =
           let now = l .inv .3 files M in (
             subst (λ (k : ℕ). MaskedRow (member files) k (c .advance .result)) (sym (add-one (l .v)))
                 (next-row (member files) (l .v) (l .row) (c .advance .result) (now .0) (c .advance .ensures)),
-            λ i b. ap (λ (zs : List ℕ). getD zs i 0) (added .ensures) ∙ sums-more files weights (l .row) (l .sums) (l .v) (l .inv .2) (now .0) (now .1) i b,
+            subst (FileWeights files weights (l .v + 1)) (sym (added .ensures)) (sums-more files weights (l .row) (l .sums) (l .v) (l .inv .2) (now .0) (now .1)),
           ),
     )
 
@@ -77,9 +77,8 @@ returns c =
     let l = c .before .loop in
     let a = c .before .before .before .args in
     let e : l .v ≡ a .rows = omega arith in
-    λ i b.
-    l .inv .3 (a .files) (all-chosen (a .files) (c .before .before .chosen-row .result) (c .before .before .chosen-row .ensures)) .1 i b
-    ∙ ap (λ (k : ℕ). fileWeight (a .files) (a .weights .now) k i) e
+    subst (λ (k : ℕ). FileWeights (a .files) (a .weights .now) k (l .sums)) e
+    (l .inv .3 (a .files) (all-chosen (a .files) (c .before .before .chosen-row .result) (c .before .before .chosen-row .ensures)) .1)
 
 pub file-weights-spec : {M : Type 1} → statement M
 file-weights-spec =

@@ -1,8 +1,8 @@
 -- `inventory::Inventory::count` meets its contract.
 -- Assumes nothing.
 use mathlib.Core.Path.{sym, _∙_}
-use Rattle.inventory.proofs.Tests.{is-true, is-false}
 use Rattle.inventory.specs.Steps.{countStep}
+use borrow.Author.Tests.{not-true, not-false}
 use borrow.Author.Needs.{needs}
 use Rattle.inventory.proofs.Inventory.count.Statement.{statement}
 use Rattle.inventory.proofs.Inventory.count.Tie as tie
@@ -12,7 +12,7 @@ is-inventory-requires c κs = search needs
 
 returns : tie.Need-returns
 unfolding countStep
-returns c = simp (sym (c .before .is-inventory .ensures) ∙ is-false (c .before .is-inventory .result) (c .if1 .taken))
+returns c = simp (sym (c .before .is-inventory .ensures) ∙ not-true (c .before .is-inventory .result) (c .if1 .taken))
 
 size-requires : tie.Need-size-requires
 size-requires c κs = search needs
@@ -24,7 +24,7 @@ returns-2 : tie.Need-returns-2
 unfolding countStep
 returns-2 c =
     let valid = c .before .before .before .before in
-    simp (sym (valid .before .is-inventory .ensures) ∙ is-true (valid .before .is-inventory .result) (valid .if1 .left), c .before .size .ensures, c .size2 .ensures)
+    simp (sym (valid .before .is-inventory .ensures) ∙ not-false (valid .before .is-inventory .result) (valid .if1 .left), c .before .size .ensures, c .size2 .ensures)
 
 pub count-spec : {M : Type 1} → statement M
 count-spec =

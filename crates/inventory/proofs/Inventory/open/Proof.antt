@@ -5,11 +5,12 @@ use mathlib.Core.Logic.{⊎-elim}
 use Prim.Native.Nat.{ℕ, _≤_, _<_, _-_}
 use native.Mathlib.Omega.{arith}
 use lib.ListN.{length, getD, replicate}
-use Rattle.inventory.proofs.Tests.{is-true, is-false, one-more}
+use Rattle.inventory.proofs.Tests.{one-more}
 use Rattle.inventory.specs.Steps.{nonemptyOf, outcome}
 use Rattle.inventory.proofs.Outcomes.{open-out-of-range, open-miscounted, open-too-large, open-accepted, nonempty-more, nonempty-same}
 use native.Mathlib.Nat.{not-suc-le-zero}
 use mathlib.Core.List.{List}
+use borrow.Author.Tests.{not-true, not-false}
 use borrow.Author.Needs.{needs}
 use Rattle.inventory.proofs.Inventory.open.Statement.{statement}
 use Rattle.inventory.proofs.Inventory.open.Tie as tie
@@ -31,7 +32,7 @@ returns : tie.Need-returns Inv-loop μ-loop
 returns c =
     let a = c .before .before .before .before .args in
     c .refused-opening .ensures
-    ∙ open-out-of-range (a .n) (a .sizes .now) (sym (c .before .before .is-file .ensures) ∙ is-false (c .before .before .is-file .result) (c .before .if1 .taken))
+    ∙ open-out-of-range (a .n) (a .sizes .now) (sym (c .before .before .is-file .ensures) ∙ not-true (c .before .before .is-file .result) (c .before .if1 .taken))
 
 refused-opening-requires-2 : tie.Need-refused-opening-requires-2 Inv-loop μ-loop
 refused-opening-requires-2 c κs = search needs
@@ -59,7 +60,7 @@ returns-3 c =
     let l = c .before .before .before .before .loop in
     let ranged = c .before .before .before .before .before .before in
     let a = ranged .before .before .before .args in
-    let in-range = sym (ranged .before .is-file .ensures) ∙ is-true (ranged .before .is-file .result) (ranged .if1 .left) in
+    let in-range = sym (ranged .before .is-file .ensures) ∙ not-false (ranged .before .is-file .result) (ranged .if1 .left) in
     c .refused-opening3 .ensures ∙ open-too-large (a .n) (a .sizes .now) in-range (c .before .before .before .before .before .if2 .left) (l .k) (omega arith) (c .before .if3 .taken)
 
 mul-if4 : tie.Need-mul-if4 Inv-loop μ-loop
@@ -96,7 +97,7 @@ returns-4 c =
     let l = c .before .loop in
     let ranged = c .before .before .before in
     let a = ranged .before .before .before .args in
-    let in-range = sym (ranged .before .is-file .ensures) ∙ is-true (ranged .before .is-file .result) (ranged .if1 .left) in
+    let in-range = sym (ranged .before .is-file .ensures) ∙ not-false (ranged .before .is-file .result) (ranged .if1 .left) in
     let counted : length (a .sizes .now) ≡ a .n = c .before .before .if2 .left in
     let e : l .k ≡ a .n = omega arith in
     ap (λ (ws : List ℕ). outcome (record { n = a .n; files = replicate 4 0; volumes = replicate 4 0; nonempty = ws }) 0)

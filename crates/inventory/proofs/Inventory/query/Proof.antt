@@ -2,10 +2,10 @@
 -- Assumes nothing.
 use mathlib.Core.Path.{refl, sym, _∙_}
 use native.Mathlib.Omega.{arith}
-use Rattle.inventory.proofs.Tests.{is-true, is-false}
 use Rattle.inventory.specs.Query.{noInventory}
 use Rattle.inventory.proofs.CoefficientRows.{few-files}
 use Rattle.inventory.proofs.Queries.{query-out-of-range, query-present, query-undetermined, query-no-room, query-recoverable}
+use borrow.Author.Tests.{not-true, not-false}
 use borrow.Author.Needs.{needs}
 use Rattle.inventory.proofs.Inventory.query.Statement.{statement}
 use Rattle.inventory.proofs.Inventory.query.Tie as tie
@@ -14,7 +14,7 @@ is-inventory-requires : tie.Need-is-inventory-requires
 is-inventory-requires c κs = search needs
 
 returns : tie.Need-returns
-returns c = noInventory (sym (c .before .is-inventory .ensures) ∙ is-false (c .before .is-inventory .result) (c .if1 .taken)) refl refl
+returns c = noInventory (sym (c .before .is-inventory .ensures) ∙ not-true (c .before .is-inventory .result) (c .if1 .taken)) refl refl
 
 is-file-requires : tie.Need-is-file-requires
 is-file-requires c κs = search needs
@@ -23,8 +23,8 @@ returns-2 : tie.Need-returns-2
 returns-2 c =
     let known = c .before .before in
     let a = known .before .before .before .args in
-    let valid = sym (known .before .is-inventory .ensures) ∙ is-true (known .before .is-inventory .result) (known .if1 .left) in
-    query-out-of-range (a .self) valid (a .file) (a .out .now) (sym (c .before .is-file .ensures) ∙ is-false (c .before .is-file .result) (c .if2 .taken))
+    let valid = sym (known .before .is-inventory .ensures) ∙ not-false (known .before .is-inventory .result) (known .if1 .left) in
+    query-out-of-range (a .self) valid (a .file) (a .out .now) (sym (c .before .is-file .ensures) ∙ not-true (c .before .is-file .result) (c .if2 .taken))
 
 has-requires : tie.Need-has-requires
 has-requires c κs = search needs
@@ -34,8 +34,8 @@ returns-3 c =
     let asked = c .before .before .before .before .before in
     let known = asked .before .before in
     let a = known .before .before .before .args in
-    let valid = sym (known .before .is-inventory .ensures) ∙ is-true (known .before .is-inventory .result) (known .if1 .left) in
-    let ranged = sym (asked .before .is-file .ensures) ∙ is-true (asked .before .is-file .result) (asked .if2 .left) in
+    let valid = sym (known .before .is-inventory .ensures) ∙ not-false (known .before .is-inventory .result) (known .if1 .left) in
+    let ranged = sym (asked .before .is-file .ensures) ∙ not-false (asked .before .is-file .result) (asked .if2 .left) in
     query-present (a .self) valid (a .file) (a .out .now) ranged (sym (c .before .has .ensures) ∙ c .if3 .taken)
 
 solve-requires : tie.Need-solve-requires
@@ -43,8 +43,8 @@ solve-requires c κs =
     let asked = c .before .before .before .before .before in
     let known = asked .before .before in
     let a = known .before .before .before .args in
-    let valid = sym (known .before .is-inventory .ensures) ∙ is-true (known .before .is-inventory .result) (known .if1 .left) in
-    let ranged = sym (asked .before .is-file .ensures) ∙ is-true (asked .before .is-file .result) (asked .if2 .left) in
+    let valid = sym (known .before .is-inventory .ensures) ∙ not-false (known .before .is-inventory .result) (known .if1 .left) in
+    let ranged = sym (asked .before .is-file .ensures) ∙ not-false (asked .before .is-file .result) (asked .if2 .left) in
     (few-files (a .self) valid, ranged)
 
 returns-4 : tie.Need-returns-4
@@ -53,12 +53,12 @@ returns-4 c =
     let asked = there .before .before .before .before .before in
     let known = asked .before .before in
     let a = known .before .before .before .args in
-    let valid = sym (known .before .is-inventory .ensures) ∙ is-true (known .before .is-inventory .result) (known .if1 .left) in
-    let ranged = sym (asked .before .is-file .ensures) ∙ is-true (asked .before .is-file .result) (asked .if2 .left) in
+    let valid = sym (known .before .is-inventory .ensures) ∙ not-false (known .before .is-inventory .result) (known .if1 .left) in
+    let ranged = sym (asked .before .is-file .ensures) ∙ not-false (asked .before .is-file .result) (asked .if2 .left) in
     let missing = sym (there .before .has .ensures) ∙ there .if3 .left in
     let s = c .before .solve in
     query-undetermined (a .self) valid (a .file) ranged missing (a .out .now) (s .result .weights) (s .result .found) (s .ensures)
-    (is-false (s .result .found) (c .if4 .taken))
+    (not-true (s .result .found) (c .if4 .taken))
 
 returns-5 : tie.Need-returns-5
 returns-5 c =
@@ -66,18 +66,18 @@ returns-5 c =
     let asked = there .before .before .before .before .before in
     let known = asked .before .before in
     let a = known .before .before .before .args in
-    let valid = sym (known .before .is-inventory .ensures) ∙ is-true (known .before .is-inventory .result) (known .if1 .left) in
-    let ranged = sym (asked .before .is-file .ensures) ∙ is-true (asked .before .is-file .result) (asked .if2 .left) in
+    let valid = sym (known .before .is-inventory .ensures) ∙ not-false (known .before .is-inventory .result) (known .if1 .left) in
+    let ranged = sym (asked .before .is-file .ensures) ∙ not-false (asked .before .is-file .result) (asked .if2 .left) in
     let missing = sym (there .before .has .ensures) ∙ there .if3 .left in
     let s = c .before .before .solve in
     query-no-room (a .self) valid (a .file) ranged missing (a .out .now) (s .result .weights) (s .result .found) (s .ensures)
-    (is-true (s .result .found) (c .before .if4 .left)) (c .if5 .taken)
+    (not-false (s .result .found) (c .before .if4 .left)) (c .if5 .taken)
 
 write-requires : tie.Need-write-requires
 write-requires c κs =
     let known = c .before .before .before .before .before .before .before .before .before .before .before .before .before in
     let a = known .before .before .before .args in
-    let valid = sym (known .before .is-inventory .ensures) ∙ is-true (known .before .is-inventory .result) (known .if1 .left) in
+    let valid = sym (known .before .is-inventory .ensures) ∙ not-false (known .before .is-inventory .result) (known .if1 .left) in
     (few-files (a .self) valid, c .before .before .before .if5 .left)
 
 same-length : tie.Need-same-length
@@ -89,14 +89,14 @@ returns-6 c =
     let asked = there .before .before .before .before .before in
     let known = asked .before .before in
     let a = known .before .before .before .args in
-    let valid = sym (known .before .is-inventory .ensures) ∙ is-true (known .before .is-inventory .result) (known .if1 .left) in
-    let ranged = sym (asked .before .is-file .ensures) ∙ is-true (asked .before .is-file .result) (asked .if2 .left) in
+    let valid = sym (known .before .is-inventory .ensures) ∙ not-false (known .before .is-inventory .result) (known .if1 .left) in
+    let ranged = sym (asked .before .is-file .ensures) ∙ not-false (asked .before .is-file .result) (asked .if2 .left) in
     let missing = sym (there .before .has .ensures) ∙ there .if3 .left in
     let tested = c .before .before .before .before .before .before .before in
     let s = tested .before .solve in
     let w = c .before .before .write in
     query-recoverable (a .self) valid (a .file) ranged missing (a .out .now) (s .result .weights) (w .last .1 .1 .1 .0) (c .before .before .before .before .before .before .if5 .left)
-    (w .ensures) (λ p. omega (arith, c .slice-known2 .given p)) (s .result .found) (s .ensures) (is-true (s .result .found) (tested .if4 .left))
+    (w .ensures) (λ p. omega (arith, c .slice-known2 .given p)) (s .result .found) (s .ensures) (not-false (s .result .found) (tested .if4 .left))
 
 pub query-spec : {M : Type 1} → statement M
 query-spec =

@@ -2,9 +2,10 @@
 -- Assumes nothing.
 use mathlib.Core.Path.{refl, sym, _∙_}
 use native.Mathlib.Omega.{arith}
-use Rattle.inventory.proofs.Tests.{is-true, is-false, file-in-range}
+use Rattle.inventory.proofs.Tests.{file-in-range}
 use Rattle.inventory.specs.Query.{empty, notEmpty}
 use Rattle.elimination.proofs.Reductions.{zeros-at}
+use borrow.Author.Tests.{not-true, not-false}
 use borrow.Author.Needs.{needs}
 use Rattle.inventory.proofs.query.solve.Statement.{statement}
 use Rattle.inventory.proofs.query.solve.Tie as tie
@@ -13,7 +14,7 @@ has-requires : tie.Need-has-requires
 has-requires c κs = search needs
 
 returns : tie.Need-returns
-returns c = empty (sym (c .before .has .ensures) ∙ is-false (c .before .has .result) (c .if1 .taken)) refl (zeros-at 256)
+returns c = empty (sym (c .before .has .ensures) ∙ not-true (c .before .has .result) (c .if1 .taken)) refl (zeros-at 256)
 
 sub-solve : tie.Need-sub-solve
 sub-solve c = omega (arith, c .before .before .pre .0)
@@ -41,7 +42,7 @@ solve-requires c κs = search needs
 returns-2 : tie.Need-returns-2
 returns-2 c =
     let found = c .before .before .has in
-    notEmpty (sym (found .ensures) ∙ is-true (found .result) (c .before .if1 .left)) (c .solve .ensures)
+    notEmpty (sym (found .ensures) ∙ not-false (found .result) (c .before .if1 .left)) (c .solve .ensures)
 
 pub solve-spec : {M : Type 1} → statement M
 solve-spec =

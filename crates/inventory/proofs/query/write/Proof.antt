@@ -80,7 +80,7 @@ returns c =
     let a = c .before .before .before .before .args in
     let e : l .p ≡ 255 = omega arith in
     subst (Written (a .n) (a .files) (a .weights .now) (a .out .now) (l .out)) e
-    (l .inv .2 (a .files) (c .before .before .file-weights .ensures))
+    (l .inv .2 (a .files) (c .before .before .file-weights .ensures .inside))
 
 pub write-spec : {M : Type 1} → statement M
 write-spec =

@@ -2,9 +2,10 @@
 -- Assumes nothing.
 use mathlib.Core.Path.{sym, _∙_}
 use native.Mathlib.Omega.{arith}
-use Rattle.inventory.proofs.Tests.{is-true, is-false, file-in-range}
+use Rattle.inventory.proofs.Tests.{file-in-range}
 use Rattle.inventory.proofs.Outcomes.{first-fails, first-holds}
 use Rattle.inventory.specs.Steps.{isInventory}
+use borrow.Author.Tests.{not-true, not-false}
 use borrow.Author.Needs.{needs}
 use Rattle.inventory.proofs.ranges.is_inventory.Statement.{statement}
 use Rattle.inventory.proofs.ranges.is_inventory.Tie as tie
@@ -14,7 +15,7 @@ is-file-requires c κs = search needs
 
 returns : tie.Need-returns
 unfolding isInventory
-returns c = first-fails _ _ (sym (c .before .is-file .ensures) ∙ is-false (c .before .is-file .result) (c .if1 .taken))
+returns c = first-fails _ _ (sym (c .before .is-file .ensures) ∙ not-true (c .before .is-file .result) (c .if1 .taken))
 
 within-requires : tie.Need-within-requires
 within-requires c κs = search needs
@@ -23,8 +24,8 @@ returns-2 : tie.Need-returns-2
 unfolding isInventory
 returns-2 c =
     let ranged = c .before .before .before in
-    first-holds _ _ _ (sym (ranged .before .is-file .ensures) ∙ is-true (ranged .before .is-file .result) (ranged .if1 .left))
-    (first-fails _ _ (sym (c .before .within .ensures) ∙ is-false (c .before .within .result) (c .if2 .taken)))
+    first-holds _ _ _ (sym (ranged .before .is-file .ensures) ∙ not-false (ranged .before .is-file .result) (ranged .if1 .left))
+    (first-fails _ _ (sym (c .before .within .ensures) ∙ not-true (c .before .within .result) (c .if2 .taken)))
 
 within-requires-2 : tie.Need-within-requires-2
 within-requires-2 c κs = search needs
@@ -34,15 +35,15 @@ unfolding isInventory
 returns-3 c =
     let filed = c .before .before .before in
     let ranged = filed .before .before .before in
-    first-holds _ _ _ (sym (ranged .before .is-file .ensures) ∙ is-true (ranged .before .is-file .result) (ranged .if1 .left))
-    (first-holds _ _ _ (sym (filed .before .within .ensures) ∙ is-true (filed .before .within .result) (filed .if2 .left))
-    (first-fails _ _ (sym (c .before .within2 .ensures) ∙ is-false (c .before .within2 .result) (c .if3 .taken))))
+    first-holds _ _ _ (sym (ranged .before .is-file .ensures) ∙ not-false (ranged .before .is-file .result) (ranged .if1 .left))
+    (first-holds _ _ _ (sym (filed .before .within .ensures) ∙ not-false (filed .before .within .result) (filed .if2 .left))
+    (first-fails _ _ (sym (c .before .within2 .ensures) ∙ not-true (c .before .within2 .result) (c .if3 .taken))))
 
 sub-within : tie.Need-sub-within
 sub-within c =
     let ranged = c .before .before .before .before .before .before .before in
     let s = ranged .before .before .args .s in
-    let h = file-in-range 254 (s .n) (sym (ranged .before .is-file .ensures) ∙ is-true (ranged .before .is-file .result) (ranged .if1 .left)) in
+    let h = file-in-range 254 (s .n) (sym (ranged .before .is-file .ensures) ∙ not-false (ranged .before .is-file .result) (ranged .if1 .left)) in
     omega arith
 
 within-requires-3 : tie.Need-within-requires-3
@@ -54,9 +55,9 @@ returns-4 c =
     let sized = c .before .before in
     let filed = sized .before .before .before in
     let ranged = filed .before .before .before in
-    first-holds _ _ _ (sym (ranged .before .is-file .ensures) ∙ is-true (ranged .before .is-file .result) (ranged .if1 .left))
-    (first-holds _ _ _ (sym (filed .before .within .ensures) ∙ is-true (filed .before .within .result) (filed .if2 .left))
-    (first-holds _ _ _ (sym (sized .before .within2 .ensures) ∙ is-true (sized .before .within2 .result) (sized .if3 .left))
+    first-holds _ _ _ (sym (ranged .before .is-file .ensures) ∙ not-false (ranged .before .is-file .result) (ranged .if1 .left))
+    (first-holds _ _ _ (sym (filed .before .within .ensures) ∙ not-false (filed .before .within .result) (filed .if2 .left))
+    (first-holds _ _ _ (sym (sized .before .within2 .ensures) ∙ not-false (sized .before .within2 .result) (sized .if3 .left))
     (c .within3 .ensures)))
 
 pub is-inventory-spec : {M : Type 1} → statement M

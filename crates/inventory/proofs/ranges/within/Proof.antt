@@ -10,7 +10,8 @@ use native.Mathlib.Nat.{not-suc-le-zero}
 use Rattle.parity.specs.Parity.{isFile}
 use Rattle.number_sets.specs.Sets.{member}
 use Rattle.inventory.specs.Steps.{within}
-use Rattle.inventory.proofs.Tests.{all-true, all-false, is-true, is-false, one-more, or-left, or-right}
+use Rattle.inventory.proofs.Tests.{all-true, all-false, one-more, or-left, or-right}
+use borrow.Author.Tests.{not-true, not-false}
 use borrow.Author.Needs.{needs}
 use Rattle.inventory.proofs.ranges.within.Statement.{statement}
 use Rattle.inventory.proofs.ranges.within.Tie as tie
@@ -37,7 +38,7 @@ returns c =
     let a = c .before .before .before .before .before .before .args in
     sym (all-false 256 (λ k. not (member (a .set) k) || isFile (a .m) k) (l .k) (omega arith)
     (ap₂ (λ (x y : Bool). not x || y) (sym (c .before .before .before .has .ensures) ∙ c .before .before .if1 .taken)
-    (sym (c .before .is-file .ensures) ∙ is-false (c .before .is-file .result) (c .if2 .taken))))
+    (sym (c .before .is-file .ensures) ∙ not-true (c .before .is-file .result) (c .if2 .taken))))
 
 add-k : tie.Need-add-k Inv-loop μ-loop
 add-k c = omega arith
@@ -52,7 +53,7 @@ loop-again c =
     let test : ℕ → Bool = λ (k : ℕ). not (member (a .set) k) || isFile (a .m) k in (
       omega arith,
       one-more (λ k. test k ≡ true) (l .k) (l .inv .1)
-          (⊎-elim (λ w. or-right (member (a .set) (l .k)) (isFile (a .m) (l .k)) (sym (w .1 .ensures) ∙ is-true (w .1 .result) (w .2 .left)))
+          (⊎-elim (λ w. or-right (member (a .set) (l .k)) (isFile (a .m) (l .k)) (sym (w .1 .ensures) ∙ not-false (w .1 .result) (w .2 .left)))
           (λ w. or-left (member (a .set) (l .k)) (isFile (a .m) (l .k)) (sym (c .before .has .ensures) ∙ w .left)) (c .if1 .came)),
     )
 
