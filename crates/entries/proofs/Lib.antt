@@ -1,5 +1,5 @@
 pub mod EntryLaws
 mod Examples
 pub mod NameLaws
-pub mod NumberingLaws
+mod NumberingLaws
 pub mod WalkLaws

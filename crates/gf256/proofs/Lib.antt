@@ -1,9 +1,9 @@
 pub mod Xor
 pub mod Polynomials
 pub mod Remainder
-pub mod Linear
+mod Linear
 pub mod Products
 pub mod Shifts
 pub mod Powers
-pub mod Squares
+mod Squares
 pub mod Inverses

@@ -1,6 +1,5 @@
 -- The rows of a query are those of the state that the inventory stands for.
 --
---   coefficient-small          coefficients are bytes
 --   few-files, some-files      an inventory has 1 to 254 files
 --   table-matrix               the table of its sets is the matrix of its state
 -- Assumes nothing.
@@ -23,9 +22,6 @@ use Rattle.inventory.specs.declared.Inventory.{Inventory}
 use Rattle.inventory.proofs.Tests.{and-true, all-at, file-in-range}
 use Rattle.inventory.proofs.Rows as R
 use Rattle.inventory.proofs.Rows.{mask}
-
-pub coefficient-small : (f v : ℕ) → f < 256 → coefficient f v < 256
-coefficient-small f v l = coefficient-byte f v l
 
 module _ (s : Inventory) (valid : isInventory s ≡ true) where
   pub few-files : s .n ≤ 254
@@ -58,7 +54,7 @@ module _ (s : Inventory) (valid : isInventory s ≡ true) where
 
   module _ (size : ℕ → ℕ) (matches : Matches s size) where
     abbrev inColumn : ℕ → Bool
-    inColumn = R.inColumn coefficient coefficient-small (stateOf s size) few-files
+    inColumn = R.inColumn coefficient coefficient-byte (stateOf s size) few-files
 
     sized : (i : ℕ) → (isFile (s .n) (suc i) && (not (member (s .files) (suc i)) && member (s .nonempty) (suc i))) ≡ inColumn i
     sized i = go (isFile (s .n) (suc i)) refl
@@ -77,10 +73,10 @@ module _ (s : Inventory) (valid : isInventory s ≡ true) where
               ∙ column-bits (suc i) (omega arith) ∙ sized i
           | no q ↦
               ap (λ (b : Bool). b && (member (s .nonempty) (suc i) && not (member (s .files) (suc i)))) (lt-leb (suc i) 255 (omega arith))
-              ∙ sym (R.inColumn-past coefficient coefficient-small (stateOf s size) few-files i (omega (arith, few-files)))
+              ∙ sym (R.inColumn-past coefficient coefficient-byte (stateOf s size) few-files i (omega (arith, few-files)))
         ]
 
-    pub table-matrix : tableOf (s .nonempty) (s .files) (s .volumes) ≡ R.matrix coefficient coefficient-small (stateOf s size) few-files
+    pub table-matrix : tableOf (s .nonempty) (s .files) (s .volumes) ≡ R.matrix coefficient coefficient-byte (stateOf s size) few-files
     unfolding tableOf R.matrix R.coef mask
     table-matrix = fun-ext (λ v. fun-ext (λ i. at v i))
       where
@@ -89,7 +85,7 @@ module _ (s : Inventory) (valid : isInventory s ≡ true) where
         masked true false x = toByte-of-value (byteField .𝟘)
         masked false b x = toByte-of-value (byteField .𝟘)
 
-        at : (v i : ℕ) → tableOf (s .nonempty) (s .files) (s .volumes) v i ≡ R.matrix coefficient coefficient-small (stateOf s size) few-files v i
+        at : (v i : ℕ) → tableOf (s .nonempty) (s .files) (s .volumes) v i ≡ R.matrix coefficient coefficient-byte (stateOf s size) few-files v i
         at v i =
             masked (member (s .volumes) (suc v)) (columnIn (s .nonempty) (s .files) (suc i)) (coefficient (suc i) (suc v))
             ∙ ap (λ (b : Bool). mask (member (s .volumes) (suc v)) (mask b (toByte (coefficient (suc i) (suc v))))) (column-same i)

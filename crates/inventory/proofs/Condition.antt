@@ -16,13 +16,13 @@ use Rattle.parity.specs.Coefficient.{coefficient}
 use Rattle.parity.specs.MulAdd.{mulAddAll}
 use Rattle.parity.specs.Once.{Once}
 use Rattle.parity.specs.Parity.{Contents, isFile}
+use Rattle.parity.proofs.Coefficients.{coefficient-byte}
 use Rattle.inventory.specs.Recoverable.{State, IsContents, Recoverable, IsWeights, place, present, ComeFrom}
 use Rattle.inventory.specs.Model.{Call, query, Reply, queried, opened, next, after, Gives, GivesQuery, GivesMissing, undetermined, noRoom, recoverable, GivesAll}
 use Rattle.inventory.specs.Steps.{openStep}
 use Rattle.inventory.specs.Claim.{Did, Ran, sizeIn, Condition}
 use Rattle.inventory.specs.declared.Inventory.{Inventory}
 use Rattle.inventory.proofs.Tests.{file-in-range}
-use Rattle.inventory.proofs.CoefficientRows.{coefficient-small}
 use Rattle.inventory.proofs.Following.{follow}
 use Rattle.inventory.proofs.Representation.{Represents, opened-represents, meets}
 use Rattle.inventory.proofs.Calls.{after-n, after-size, after-told, givesAll-one}
@@ -62,7 +62,7 @@ follow-file : (t : State) → t .n ≤ 254 → (X : Contents) → IsContents t X
     → (ks : List ℕ) → Once (present t) ks → mulAddAll (place w) fragment ks (replicate (t .size f) 0) ≡ X f
 follow-file t l X hX zero r m w W fragment from ks once = absurd (not-suc-le-zero (file-in-range (t .n) zero r .0))
 follow-file t l X hX (suc f) r m w W fragment from ks once =
-    follow coefficient coefficient-small t l X hX f (file-in-range (t .n) (suc f) r .1) m w W fragment from ks once
+    follow coefficient coefficient-byte t l X hX f (file-in-range (t .n) (suc f) r .1) m w W fragment from ks once
 
 -- "For every list of calls on it from there (noting or withdrawing a file, noting or withdrawing a volume, counting, asking;
 -- refused ones too)"
@@ -74,7 +74,7 @@ condition n sizes accepted cs rs s run = record {
   replies = whole .0;
   afterwards = λ adds told ra s′ run′ more r r′ e e′ ran ran′.
       let R′ = subst (λ (t : State). Represents size t s′) (after-told n size cs adds told) (sound size start o adds ra s′ R run′ .1) in
-      givesAll-one coefficient coefficient-small now fits more r r′ (sound size now s more r e (whole .1) ran .0)
+      givesAll-one coefficient coefficient-byte now fits more r r′ (sound size now s more r e (whole .1) ran .0)
       (sound size now s′ more r′ e′ R′ ran′ .0);
   exactly = λ f r m room l number room′ e did.
       missing-exactly now f room l number room′ (queried number room′) refl (asked f r m room (queried number room′) e did);

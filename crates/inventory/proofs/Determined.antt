@@ -8,12 +8,13 @@ use mathlib.Core.List.{List}
 use Prim.Native.Nat.{ℕ}
 use lib.Dec.{leb}
 use Rattle.parity.specs.Coefficient.{coefficient}
+use Rattle.parity.proofs.Coefficients.{coefficient-byte}
 use Rattle.number_sets.specs.Sets.{member}
 use Rattle.inventory.specs.Model.{query, queried}
 use Rattle.inventory.specs.Query.{stateOf, Matches, answerOf, Queried, noInventory, asModel}
 use Rattle.inventory.specs.declared.Inventory.{Inventory}
 use Rattle.inventory.specs.declared.Answer.{Answer}
-use Rattle.inventory.proofs.CoefficientRows.{few-files, coefficient-small}
+use Rattle.inventory.proofs.CoefficientRows.{few-files}
 use Rattle.inventory.proofs.Calls.{gives-one}
 
 -- sizes that an inventory can stand for
@@ -41,6 +42,6 @@ queried-one s f room r r′ a b (noInventory v p q) (asModel v′ k p′ g) = ab
 queried-one s f room r r′ a b (asModel v k p g) (noInventory v′ p′ q′) = absurd (true≢false (sym v ∙ v′))
 queried-one s f room r r′ a b (asModel v k p g) (asModel v′ k′ p′ g′) =
     let same = same-reply k k′ a b
-    (gives-one coefficient coefficient-small (stateOf s (someSize s)) (few-files s v) (query f room) (queried k a) (queried k′ b)
+    (gives-one coefficient coefficient-byte (stateOf s (someSize s)) (few-files s v) (query f room) (queried k a) (queried k′ b)
     (g (someSize s) (some-matches s)) (g′ (someSize s) (some-matches s))) in
     (p ∙ ap answerOf (same .0) ∙ sym p′, same .1)

@@ -1,14 +1,14 @@
 pub mod Tests
-pub mod Outcomes
+mod Outcomes
 pub mod Rows
 pub mod Recovery
 pub mod Weights
-pub mod Following
-pub mod CoefficientRows
-pub mod QuerySteps
-pub mod Queries
-pub mod Representation
-pub mod Calls
+mod Following
+mod CoefficientRows
+mod QuerySteps
+mod Queries
+mod Representation
+mod Calls
 pub mod Condition
 pub mod Determined
 pub mod Reachable

@@ -16,6 +16,7 @@ use Rattle.gf256.proofs.Polynomials.{sumBelow-same, sumBelow-none}
 use Rattle.gf256.proofs.Products.{product-zero-r}
 use Rattle.parity.specs.Coefficient.{coefficient}
 use Rattle.parity.specs.Parity.{isFile}
+use Rattle.parity.proofs.Coefficients.{coefficient-byte}
 use Rattle.elimination.specs.Matrix.{IsSolution, IsKernelVector}
 use Rattle.elimination.proofs.ByteField.{Byte, byteField}
 use Rattle.number_sets.specs.Sets.{member}
@@ -31,7 +32,7 @@ use Rattle.inventory.proofs.Tests.{file-in-range}
 use Rattle.inventory.proofs.Rows as R
 use Rattle.inventory.proofs.Recovery.{solution-recoverable, kernel-unrecoverable, empty-recoverable}
 use Rattle.inventory.proofs.Weights.{Weighs, solution-weighs, zero-weighs, is-weights}
-use Rattle.inventory.proofs.CoefficientRows.{few-files, coefficient-small, table-matrix}
+use Rattle.inventory.proofs.CoefficientRows.{few-files, table-matrix}
 
 module _ (s : Inventory) (valid : isInventory s ≡ true) (f : ℕ) where
   -- ---- the cases
@@ -61,7 +62,7 @@ module _ (s : Inventory) (valid : isInventory s ≡ true) (f : ℕ) where
     table = tableOf (s .nonempty) (s .files) (s .volumes)
 
     abbrev matrix : (ℕ → ℕ) → ℕ → ℕ → Byte
-    matrix size = R.matrix coefficient coefficient-small (state size) (few-files s valid)
+    matrix size = R.matrix coefficient coefficient-byte (state size) (few-files s valid)
 
     -- file f is f - 1 and one
     as-suc : f ≡ suc (f - 1)
@@ -91,7 +92,7 @@ module _ (s : Inventory) (valid : isInventory s ≡ true) (f : ℕ) where
         empty-recoverable coefficient (state size) f inRange (is-empty size matches e)
     recovered ws found (notEmpty e (solved w W h)) t size matches =
         subst (Recoverable coefficient (state size)) (sym as-suc)
-        (solution-recoverable coefficient coefficient-small (state size) (few-files s valid) (f - 1) below w
+        (solution-recoverable coefficient coefficient-byte (state size) (few-files s valid) (f - 1) below w
         (solution-in size matches w W))
     recovered ws found (notEmpty e (unsolved x X z)) t size matches = absurd (false≢true t)
 
@@ -106,7 +107,7 @@ module _ (s : Inventory) (valid : isInventory s ≡ true) (f : ℕ) where
         as-model room size true false (queried 12 room) inRange missing
         (undetermined
         (λ r.
-        kernel-unrecoverable coefficient coefficient-small (state size) (few-files s valid) (f - 1) below
+        kernel-unrecoverable coefficient coefficient-byte (state size) (few-files s valid) (f - 1) below
         (is-column size matches e) x
         (subst (λ (A : ℕ → ℕ → Byte). IsKernelVector byteField A 256 (255 - s .n) (f - 1) x) (table-matrix s valid size matches) X)
         (subst (Recoverable coefficient (state size)) as-suc r))))
@@ -189,23 +190,23 @@ module _ (s : Inventory) (valid : isInventory s ≡ true) (f : ℕ) where
           (λ v h. file-term false i v e)
           ∙ sumBelow-none (255 - s .n)
 
-      weights-of : (size : ℕ → ℕ) (w : ℕ → Byte) → Weighs coefficient coefficient-small (state size) (few-files s valid) f w
+      weights-of : (size : ℕ → ℕ) (w : ℕ → Byte) → Weighs coefficient coefficient-byte (state size) (few-files s valid) f w
           → ((v : ℕ) → v < 255 - s .n → getD ws (suc v) 0 ≡ w v .0) → IsWeights coefficient (state size) f written
       weights-of size w weighs h =
-          is-weights coefficient coefficient-small (state size) (few-files s valid) f w weighs written written-long written-bytes
+          is-weights coefficient coefficient-byte (state size) (few-files s valid) f w weighs written written-long written-bytes
           (λ v l. written-volume v l ∙ h v l) (present-weight size) missing-weight
 
       written-weights : (found : Bool) → Found (s .n) (s .files) (s .volumes) (s .nonempty) f found ws → found ≡ true → (size : ℕ → ℕ) → Matches s size
           → IsWeights coefficient (state size) f written
       written-weights found (empty e y z) t size matches =
           weights-of size (λ v. byteField .𝟘)
-          (zero-weighs coefficient coefficient-small (state size) (few-files s valid) f
+          (zero-weighs coefficient coefficient-byte (state size) (few-files s valid) f
           (ap₂ (λ (a b : Bool). not a && b) missing (sym (matches f inRange) ∙ e)))
           (λ v l. z (suc v))
       written-weights found (notEmpty e (solved w X h)) t size matches =
           weights-of size w
-          (subst (λ (k : ℕ). Weighs coefficient coefficient-small (state size) (few-files s valid) k w) (sym as-suc)
-          (solution-weighs coefficient coefficient-small (state size) (few-files s valid) (f - 1) w (solution-in size matches w X)))
+          (subst (λ (k : ℕ). Weighs coefficient coefficient-byte (state size) (few-files s valid) k w) (sym as-suc)
+          (solution-weighs coefficient coefficient-byte (state size) (few-files s valid) (f - 1) w (solution-in size matches w X)))
           (λ v l. h (suc v) (omega arith) ∙ weight-below (255 - s .n) w v l)
       written-weights found (notEmpty e (unsolved x X z)) t size matches = absurd (false≢true t)
 

@@ -5,7 +5,7 @@
 --   changeNumber         10 for no inventory or out of range, 11 where all is already as it is to be; else 0
 --   unlessRefused k a b  a, or b where the number k is a refusal's
 --   openStep, addFileStep, removeFileStep, addVolumeStep, removeVolumeStep, countStep     the calls
---   countNumber, answerNumber   the document's number for each case of an answer
+--   answerNumber         the document's number for each case of an answer
 -- Assumes nothing.
 use mathlib.Core.Bool.{Bool, true, not, cond, _&&_, _||_}
 use mathlib.Core.List.{List}
@@ -107,10 +107,6 @@ countStep s =
     (counted.Refused 10)
 
 -- ---- the numbers of answers
-
-unfoldable pub countNumber : Counted → ℕ
-countNumber (counted.Counts f v) = 0
-countNumber (counted.Refused number) = number
 
 -- "In hand is number 13 and not fixed is number 12"
 unfoldable pub answerNumber : Answer → ℕ

@@ -1,2 +1,2 @@
-pub mod AcceptedLaws
-pub mod LineLaws
+mod AcceptedLaws
+mod LineLaws

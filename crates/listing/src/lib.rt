@@ -7,10 +7,8 @@ ghost use Rattle.listing.specs.Listing.{refusal as refusalOf, listingBy,
 mod lines;
 
 use par1::Reading;
+use par1_rules::layout::HEADER_LENGTH;
 use text::Reply;
-
-// Where the list begins in a file.
-const LIST_START: usize = 96;
 
 // The longest input that the program takes, in bytes.
 const MAX_INPUT: usize = 65536;
@@ -54,8 +52,8 @@ fn put_listing<'a, 'b>(out: &'a mut [u8], file: &'b [u8], reading: Reading) -> u
         return lines::put_refused(out, 0, refusal(reading));
     };
     let at = lines::put_head(out, 0, parts.number, parts.entries, parts.saved);
-    let end = LIST_START + parts.list_size as usize;
-    lines::put_entries(out, at, &file[LIST_START..end])
+    let end = HEADER_LENGTH + parts.list_size as usize;
+    lines::put_entries(out, at, &file[HEADER_LENGTH..end])
 }
 
 // The number of a refused reading, 0 of an accepted one.

@@ -1,16 +1,12 @@
 // The lines of a listing, each put into a buffer.
 ghost use mathlib.Core.Path.{_≡_};
-ghost use mathlib.Core.Bool.{cond};
 ghost use mathlib.Core.List.{map};
 ghost use Prim.Native.Nat.{_+_, _<_, _^_};
-ghost use Rattle.entries.specs.Entry.{unitsOf, isSaved};
+ghost use Rattle.entries.specs.Entry.{unitsOf};
 ghost use Rattle.entries.specs.Walk.{entriesOf};
 ghost use Rattle.text.specs.Buffer.{buffer, put as putOf};
 ghost use Rattle.listing.specs.Lines.{shown as shownOf, refusedLine, headLine, label, lineOf, savedAfter, entryLines};
 use entries::Item;
-
-// Where the name begins in an entry.
-const NAME_START: usize = 56;
 
 // The line of a refused file.
 pub fn put_refused(out: &mut [u8], at: usize, number: u32) -> usize
@@ -50,7 +46,7 @@ pub fn put_entries<'a, 'b>(out: &'a mut [u8], start: usize, list: &'b [u8]) -> u
             } => {
                 let entry = &list[from..from + length];
                 saved = saved_after(saved, status);
-                at = put_line(out, at, status, saved, size, &entry[NAME_START..]);
+                at = put_line(out, at, status, saved, size, &entry[entries::NAME_AT..]);
                 from += length;
             }
             Item::End => return at,

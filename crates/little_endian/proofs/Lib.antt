@@ -1,5 +1,5 @@
 pub mod Numbers
-pub mod Past
+mod Past
 pub mod Reading
 pub mod Stores
 pub mod Writing

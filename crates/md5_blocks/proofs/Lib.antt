@@ -1,3 +1,3 @@
 pub mod BlockLaws
-pub mod Rows
-pub mod Steps
+mod Rows
+mod Steps

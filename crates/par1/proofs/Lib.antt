@@ -1,5 +1,5 @@
-pub mod CheckingLaws
+mod CheckingLaws
 pub mod EntryWritten
 pub mod ReadWritten
-pub mod VolumeFields
+mod VolumeFields
 pub mod WrittenRead

@@ -36,7 +36,7 @@ layoutAllowed f = eqb (listStartOf f) 96 && eqb (dataStartOf f) (96 + listSizeOf
 
 -- "7: n above 254; or volume number 1 or more with n = 0 or number + n above 255"
 unfoldable pub numberAllowed : ℕ → ℕ → Bool
-numberAllowed v n = leb n 254 && (eqb v 0 || leb 1 n && leb (v + n) 255)
+numberAllowed v n = leb n 254 && (eqb v 0 || (leb 1 n && leb (v + n) 255))
 
 -- "In the index the data area is a comment in 16-bit units, so its size is even. In a volume its size is the greatest file size in the
 -- list."

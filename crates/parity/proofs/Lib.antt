@@ -1,10 +1,10 @@
-pub mod Bits
-pub mod Steps
+mod Bits
+mod Steps
 pub mod Coefficients
 pub mod MulAdds
-pub mod Counts
-pub mod Sums
-pub mod Files
+mod Counts
+mod Sums
+mod Files
 pub mod Parities
 pub mod AnyOrder
 pub mod Volumes

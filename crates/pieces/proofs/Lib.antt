@@ -1,4 +1,4 @@
-pub mod AllLaws
+mod AllLaws
 pub mod CutLaws
 mod Examples
-pub mod WholeLaws
+mod WholeLaws

@@ -1,5 +1,5 @@
 pub mod BufferLaws
-pub mod DecimalLaws
+mod DecimalLaws
 mod Examples
 pub mod FitLaws
-pub mod HexLaws
+mod HexLaws

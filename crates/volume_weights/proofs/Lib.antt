@@ -1,3 +1,3 @@
-pub mod CoefficientRows
+mod CoefficientRows
 pub mod Steps
 pub mod Determined

@@ -1,6 +1,6 @@
-pub mod Tests
-pub mod Determined
-pub mod Chosen
-pub mod ListedStates
-pub mod StatedWeights
+mod Tests
+mod Determined
+mod Chosen
+mod ListedStates
+mod StatedWeights
 pub mod Examples
