@@ -81,7 +81,7 @@ int main(void) {
         if (f != 7 && f != 24) accepted("add_file", par1_add_file(inventory, 104, f));
     accepted("add_volume", par1_add_volume(inventory, 104, 1));
     accepted("add_volume", par1_add_volume(inventory, 104, 4));
-    puts("files 7 and 24 lost, volumes 1 and 4 present:");
+    puts("files 7 and 24 missing, volumes 1 and 4 present:");
     ask(7);
     ask(24);
     accepted("add_volume", par1_add_volume(inventory, 104, 2));
