@@ -8,6 +8,7 @@
 --   greatestOf es    the greatest file size of the entries es that count for the data size
 --   totalsOf es      how many entries es are, how many of them are saved, and the greatest size
 --   addEntry t st n  the totals t and an entry more, with the status st and the file size n
+--   walkedTo t s     the totals t, where s, which remains after their entries, is empty; or the fault at its front
 --   walkOf s         the totals of the entries of s, where they fill it; or the first fault
 -- Assumes nothing.
 use Prim.Native.Nat.{ℕ, _+_, max}

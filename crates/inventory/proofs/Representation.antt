@@ -1,8 +1,12 @@
 -- An inventory stands for a state of the model, and each call keeps that.
 --
 --   Represents size t s     the inventory s stands for the state t, of files of these sizes
---   opened-represents       an accepted opening gives the model's opened state
+--   within-bits             each number of a set in range is in range
+--   n-valid, files-valid, nonempty-valid, volumes-valid     the parts of a valid inventory are in range
 --   meets                   the code's reply is the model's, and what it hands back stands for the next state
+--   no-file, file-more      no number above m is one of m files; one file more adds its own number alone
+--   nonempty-member         the files that an opening has as not empty are those of size 1 or more
+--   opened-represents       an accepted opening gives the model's opened state
 -- Assumes nothing.
 use mathlib.Core.Path.{_≡_, refl, sym, ap, ap₂, _∙_, subst, fun-ext}
 use mathlib.Core.Logic.{_≢_}

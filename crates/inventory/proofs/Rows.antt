@@ -1,10 +1,16 @@
 -- The parity of contents as rows over the field of bytes: row s is volume s + 1, column i is file i + 1.
 --
---   matrix                the coefficients of the missing files that are not empty in the volumes present, else 0
---   inColumn              whether column i is such a file
+--   K                     the field of bytes
+--   mask                  a byte where the test holds, else 0
+--   mask-mul, mask-same, mask-zero     in a product; on a byte that is 0 where the test does not hold; on 0
 --   cell, cell-value      byte p of file i + 1, as a byte of the field
---   parity-sum            a parity byte as a sum of coefficients times cells
+--   coef, coef-value      the coefficient of file i + 1 in volume s + 1, as such a byte
+--   inColumn              whether column i is a missing file that is not empty
+--   matrix                the coefficients of these files in the volumes present, else 0
+--   inColumn-file, inColumn-past       among the files it is as `column` says, past them false
+--   matrix-present, matrix-absent, matrix-off     an entry by its volume and its column
 --   rows-sum              a row at a vector, over the files alone
+--   parity-sum            a parity byte as a sum of coefficients times cells
 -- Assumes nothing.
 use mathlib.Core.Path.{_≡_, refl, sym, ap, ap₂, _∙_}
 use mathlib.Core.Bool.{Bool, true, false, _&&_}
@@ -28,7 +34,7 @@ open Field K using (𝟘, 𝟙, add as _⊕_, mul as _⊗_)
 
 infixl 60 _⊕_
 infixl 70 _⊗_
--- the byte where the test passes, else 0
+-- the byte where the test holds, else 0
 unfoldable pub mask : Bool → Byte → Byte
 mask true b = b
 mask false b = 𝟘

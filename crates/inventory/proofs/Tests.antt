@@ -3,7 +3,8 @@
 --   all-true      a test that passes at each number passes
 --   all-false     one that fails at some number fails
 --   all-at        where it passes, it passes at each number
---   and-true                         tests taken apart
+--   and-true      two tests taken apart
+--   or-left, or-right        an implication, where its premise is false, or its conclusion true
 --   one-more      what holds below k and at k holds below k + 1
 --   file-in-range, file-range, volume-in-range, volume-range   the ranges of numbers
 --   eqb-suc       successors are equal where the numbers are

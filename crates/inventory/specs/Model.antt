@@ -2,8 +2,13 @@
 --
 --   Call, Reply                the calls, and what comes back: a number and, from a query, the room afterwards
 --   opened n size              a set of n files of these sizes, nothing present
+--   withFiles t s, withVolumes t s     the state t with the files, the volumes of the set s present
+--   insert f s, remove f s     the set s with f, without f
 --   next t c                   the state after the call c
 --   after t cs                 the state after the calls cs
+--   adding r h, removing r h   the number of an addition, of a removal, where r says whether it is in range, h whether it is present
+--   GivesMissing rule t f room r      the model's reply to a query for the missing file f is r
+--   GivesQuery rule t f room i h r    that to any query, where i says whether f is in range, h whether it is present
 --   Gives rule t c r           the model's reply to the call c is r
 --   GivesAll rule t cs rs      its replies to the calls cs, one after another, are rs
 -- Assumes nothing.

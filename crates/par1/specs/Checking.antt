@@ -1,5 +1,6 @@
 -- What checking contents against an entry gives (document 01, "Checking tests 6 (the lent entry, which fills its slice), then 15").
 --
+--   itemRefusal n i  the refusal of n bytes that begin with the item i, 0 where i is an entry that fills them
 --   loneRefusal e    the refusal of an entry e that stands alone, 0 where it keeps the rules and fills e
 --   checkOf e m      the refusal of the contents m by the entry e, 0 where they are those of its file
 -- Assumes nothing.

@@ -1,5 +1,6 @@
 -- Inventories in lent bytes: 13 numbers of 64 bits (n; files present, volumes present, files of size 1 or more, four words each).
 --
+--   wordsAt b i           the four numbers in the bytes b from i on
 --   inventoryOf b         the inventory that the bytes b are
 --   inventoryBytes s      the bytes of the inventory s
 --   sizesOf k s           the first k sizes in the bytes s
@@ -7,8 +8,9 @@
 --   openInto n s out      its number, and what `out` then holds
 --   storedBy o b          the number of the outcome o, and the bytes b after it
 --   changedBy step k b    the number of a call that changes the inventory b, and the bytes after it
---   QueryInto b f out r out′   r is the number of a query for file f of the inventory b, and out′ what `out` then holds
+--   countedInto c out     the number of the count c, and what `out` then holds
 --   countInto b out       the number of a count of the inventory b, and what `out` then holds
+--   QueryInto b f out r out′   r is the number of a query for file f of the inventory b, and out′ what `out` then holds
 -- Assumes nothing.
 use mathlib.Core.Path.{_≡_}
 use mathlib.Core.Bool.{true, false, cond, _&&_}

@@ -1,11 +1,16 @@
 -- A list cut into pieces that say their length: the entries of a Par 1.0 list, the lines of a text, the words of a line.
 --
---   Cut          the pieces of a list, in order, and the rest
---   cut f s      s cut by f, where f t is the length of the first piece of t, or 0 where t begins with no piece
---   after ps s   what remains of s after the pieces ps at its front
---   All P ps     P holds of each of the pieces ps
---   Whole f p    p is a piece by f whatever follows it
---   Local f      f sees no further than the first piece
+--   Cut            the pieces of a list, in order, and the rest
+--   none s         no piece, and the rest s
+--   before p c     the piece p, then those of c
+--   prepend ps c   the pieces ps, then those of c
+--   ifZero n a b   a where n is 0, else b
+--   cutIn f n s    s cut by f into at most n pieces
+--   cut f s        s cut by f, where f t is the length of the first piece of t, or 0 where t begins with no piece
+--   after ps s     what remains of s after the pieces ps at its front
+--   All P ps       P holds of each of the pieces ps
+--   Whole f p      p is a piece by f whatever follows it
+--   Local f        f sees no further than the first piece
 -- Assumes nothing.
 use mathlib.Core.Path.{_≡_}
 use Prim.Native.Nat.{ℕ, zero, suc, _≤_, _<_}
