@@ -1,10 +1,16 @@
 -- Condition 3 of the tender: one claim about a whole list of calls on an inventory newly opened.
 --
+--   countReply c              the reply that the code's count c is
+--   Stepped o r s₁            the code's outcome o is the reply r and the inventory s₁
 --   Did s c r s₁              the code's reply to the call c on the inventory s is r, and s₁ is what it hands back: by the very
 --                             definitions that the contracts of the calls cite
 --   Ran s cs rs e             the calls cs, each on the inventory last handed back, give the replies rs and leave e
+--   addsFile f cs, addsVolume v cs     whether the calls cs add file f, volume v
+--   OnlyAdds cs               the calls cs add and do nothing else
 --   Told t cs                 the calls cs add what is present in t and nothing else, in whatever order
+--   sizeIn sizes f            the size of file f in the sizes of an opening
 --   Condition n size o cs rs s     what holds after the calls cs on the inventory o opened for n files of these sizes
+-- Sentences in quotation marks are document 01's, or the tender's condition 3.
 -- Assumes nothing.
 use mathlib.Core.Path.{_≡_}
 use mathlib.Core.Logic.{_↔_}

@@ -1,9 +1,17 @@
 -- What each call on an inventory does (document 01, "The sheet", "What comes back"), on its words.
 --
+--   allBelow m test      whether the test holds at each number below m
 --   within m ws          whether each number of the set ws is one of 1 to m
 --   isInventory s        whether opening and accepted calls could have given s
+--   zeros                the inventory of zeros
+--   nonemptyOf sizes k   the files among the first k that are not empty
+--   fresh n sizes        an inventory of n files of these sizes, nothing present
+--   outcome s k          the outcome of the inventory s and the number k
+--   refusedOpening k     the outcome of an opening refused with k
 --   changeNumber         10 for no inventory or out of range, 11 where all is already as it is to be; else 0
+--   withFiles s ws, withVolumes s ws     the inventory s with the files, the volumes of the set ws present
 --   unlessRefused k a b  a, or b where the number k is a refusal's
+--   accepted k s₁ s      the outcome of a call with the number k: s₁, or s where it is refused
 --   openStep, addFileStep, removeFileStep, addVolumeStep, removeVolumeStep, countStep     the calls
 --   answerNumber         the document's number for each case of an answer
 -- Assumes nothing.
@@ -31,7 +39,8 @@ allBelow (suc m) test = test m && allBelow m test
 unfoldable pub within : ℕ → List ℕ → Bool
 within m ws = allBelow 256 (λ k. not (member ws k) || isFile m k)
 
--- "A sheet needs n from 1 to 254"; bits of files, and of files that are not empty, in 1 to n, of volumes in 1 to 255 - n
+-- "A sheet needs n from 1 to 254"; bits of files, and of files that are not empty, in 1 to n, of volumes in 1 to 255 - n.
+-- proofs/Reachable.antt shows that this is exact: `given-valid`, `valid-given`
 unfoldable pub isInventory : Inventory → Bool
 isInventory s =
     isFile 254 (s .n) && (within (s .n) (s .files) && (within (s .n) (s .nonempty) && within (255 - s .n) (s .volumes)))
