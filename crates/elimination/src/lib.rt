@@ -118,6 +118,7 @@ fn add_multiple(weight: u8, fragment: &[u8], buffer: &mut [u8])
     }
 }
 
+// A byte as a place in an array of 256.
 fn index(x: u8) -> usize
     ensures { λ r. ⌜ (r ≡ x) × (r < 256) ⌝ }
 {

@@ -152,6 +152,7 @@ fn size_allowed(size: u64, room: usize) -> bool
     size <= room as u64
 }
 
+// Whether a unit may stand in a name: any but a slash and a backslash.
 fn unit_allowed(unit: u16) -> bool
     ensures { λ r. ⌜ r ≡ unitAllowed unit ⌝ }
 {
@@ -201,6 +202,7 @@ fn is_counted(status: u64) -> bool
     true
 }
 
+// The greater of two sizes.
 fn greater(a: u64, b: u64) -> u64
     ensures { λ r. ⌜ r ≡ max a b ⌝ }
 {

@@ -26,6 +26,7 @@ pub fn is_inventory(s: Inventory) -> bool
     within(255 - n, volumes)
 }
 
+// Whether `file` is the number of one of n files: 1 to n.
 pub fn is_file(n: u64, file: u64) -> bool
     ensures { λ r. ⌜ r ≡ isFile n file ⌝ }
 {
@@ -35,6 +36,7 @@ pub fn is_file(n: u64, file: u64) -> bool
     file <= n
 }
 
+// Whether `volume` is the number of a volume of n files: 1 to 255 - n.
 pub fn is_volume(n: u64, volume: u64) -> bool
     ensures { λ r. ⌜ r ≡ isVolume n volume ⌝ }
 {

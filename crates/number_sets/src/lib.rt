@@ -48,6 +48,7 @@ pub fn size(set: [u64; 4]) -> u32
     a + b + c + d
 }
 
+// How many bits of a word are set.
 fn ones(word: u64) -> u32
     ensures { λ r. ⌜ Ones word r ⌝ }
 {

@@ -132,7 +132,7 @@ fn opened(n: u64, sizes: &[u8]) -> Outcome
     Inventory::open(n, &numbers[..count])
 }
 
-// The refusal of an opening whose sizes are not n numbers.
+// The refusal with 10, made by an opening with n = 0.
 fn no_opening() -> Outcome
     ensures { λ r. ⌜ r ≡ refusedOpening 10 ⌝ }
 {

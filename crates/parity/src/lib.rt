@@ -44,6 +44,7 @@ pub fn mul_add(weight: u8, fragment: &[u8], buffer: &mut [u8])
     }
 }
 
+// The lesser of two lengths.
 fn least(a: usize, b: usize) -> usize
     ensures { λ r. ⌜ r ≡ min a b ⌝ }
 {

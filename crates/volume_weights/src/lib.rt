@@ -91,6 +91,7 @@ fn chosen_row(inside: [u64; 4], outside: [u64; 4]) -> [u8; 256]
     row
 }
 
+// 1 for a file that is in the one set and not in the other, else 0.
 fn one_if(inside: bool, outside: bool) -> u8
     ensures { λ r. ⌜ r ≡ cond (inside && not outside) 1 0 ⌝ }
 {
