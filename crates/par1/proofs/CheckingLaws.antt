@@ -2,6 +2,7 @@
 --
 --   lone-passed     an entry that stands alone and passes has its fields and a name
 --   check-refused, check-lone    what checking gives, from the refusal of the entry
+-- A test of document 01 is passed where it does not hold.
 -- Assumes nothing.
 use mathlib.Core.Path.{_≡_, refl}
 use mathlib.Core.Bool.{_&&_}

@@ -3,6 +3,7 @@
 --   ReadBack f p v list area     the file f is read as volume v of the program p, with this list and this data
 --   ListPassed, list-passed      what the tests of writing, passed, tell
 --   read-written                 every written volume is read back
+-- A test of document 01 is passed where it does not hold.
 -- Assumes nothing.
 use mathlib.Core.Path.{_≡_, refl, sym, ap, ap₂, _∙_, subst}
 use mathlib.Core.List.{List}

@@ -8,6 +8,7 @@
 --   read-refused, read-accepted      what reading gives, from the refusal
 --   Passed, passed-none, read-tells  the tests that an accepted file passed
 --   saved-passed                     its number of saved entries
+-- A test of document 01 is passed where it does not hold.
 -- Assumes nothing.
 use mathlib.Core.Path.{_≡_, refl, sym, ap, ap₂, _∙_}
 use mathlib.Core.Bool.{true}

@@ -23,12 +23,13 @@ pub struct Parts {
     pub data_size: u64,
 }
 
+// What reading a file gives: its parts, or the number of the first test that holds.
 pub enum Reading {
     Accepted(Parts),
     Refused(u32),
 }
 
-// The parts of `file`, or the number of the first test that it fails.
+// The parts of `file`, or the number of the first test that holds.
 pub fn read(file: &[u8]) -> Reading
     ensures { λ r. ⌜ r ≡ readOf (now (file .entry)) ⌝ }
 {
@@ -57,7 +58,7 @@ pub fn read(file: &[u8]) -> Reading
     })
 }
 
-// The number of the first of tests 1 to 4 that `file` fails, 0 where it passes them.
+// The number of the first of tests 1 to 4 that holds, 0 where none does.
 fn header_refusal(file: &[u8]) -> u32
     ensures { λ r. ⌜ r ≡ headerRefusal (now (file .entry)) ⌝ }
 {
@@ -76,7 +77,7 @@ fn header_refusal(file: &[u8]) -> u32
     0
 }
 
-// 5 where `file` fails test 5, 0 where it passes it.
+// 5 where test 5 holds, else 0.
 fn control_refusal(file: &[u8]) -> u32
     requires { ⌜ 96 ≤ length (now file) ⌝ }
     ensures { λ r. ⌜ r ≡ controlRefusal (now (file .entry)) ⌝ }
@@ -90,7 +91,7 @@ fn control_refusal(file: &[u8]) -> u32
     0
 }
 
-// The number of the first of tests 6 to 9 that `file` fails, 0 where it passes them; `list` is its list, and `walked` the walk over it.
+// The number of the first of tests 6 to 9 that holds, 0 where none does; `list` is the list of `file`, and `walked` the walk over it.
 fn list_refusal(file: &[u8], list: &[u8], walked: Walked) -> u32
     requires { ⌜ (96 ≤ length (now file)) × (now list ≡ listOf (now file)) ⌝ }
     ensures { λ r. ⌜ r ≡ listRefusal (now (file .entry)) walked ⌝ }
@@ -101,7 +102,7 @@ fn list_refusal(file: &[u8], list: &[u8], walked: Walked) -> u32
     }
 }
 
-// The number of the first of the tests on the count, 7, 8 and 9 that `file` fails, 0 where it passes them; `list` is its list.
+// The number of the first of the tests on the count, 7, 8 and 9 that holds, 0 where none does; `list` is the list of `file`.
 fn totals_refusal(file: &[u8], list: &[u8], totals: Totals) -> u32
     requires { ⌜ (96 ≤ length (now file)) × (now list ≡ listOf (now file)) ⌝ }
     ensures { λ r. ⌜ r ≡ totalsRefusal (now (file .entry)) totals ⌝ }

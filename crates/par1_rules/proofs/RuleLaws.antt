@@ -5,6 +5,7 @@
 --   signature-is             the signature, as a number
 --   Between, between, long-enough, too-long     a right length, in numbers
 --   Laid, laid, not-laid, laid-out              a right layout, in numbers
+-- A test of document 01 is passed where it does not hold.
 -- Assumes nothing.
 use mathlib.Core.Path.{_≡_, refl, sym}
 use mathlib.Core.Bool.{Bool, true, false, _&&_}

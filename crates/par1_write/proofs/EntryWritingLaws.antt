@@ -2,6 +2,7 @@
 --
 --   length-entry     the length of an entry's bytes
 --   EntryPassed, entry-passed     what the tests of writing an entry, passed, tell
+-- A test of document 01 is passed where it does not hold.
 -- Assumes nothing.
 use mathlib.Core.Path.{_≡_}
 use mathlib.Core.Bool.{true}

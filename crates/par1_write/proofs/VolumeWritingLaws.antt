@@ -4,6 +4,7 @@
 --   VolumePassed, volume-passed     what the tests of writing a volume, passed, tell
 --   volume-none     and the tests pass where that holds
 --   volume-over     the body stored from byte 32 on, then the head with its hash, are the volume
+-- A test of document 01 is passed where it does not hold.
 -- Assumes nothing.
 use mathlib.Core.Path.{_≡_, sym, ap, ap₂, _∙_}
 use mathlib.Core.Bool.{true}

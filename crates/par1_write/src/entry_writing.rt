@@ -24,7 +24,7 @@ pub fn write_entry(contents: &[u8], status: u64, name: &[u8], out: &mut [u8]) ->
     Writing::Written(entries::NAME_AT + name.len())
 }
 
-// The number of the first test that fails, 0 where none does.
+// The number of the first test that holds, 0 where none does.
 fn entry_refusal(size: usize, status: u64, name: &[u8], room: usize) -> u32
     ensures { λ r. ⌜ r ≡ entryRefusal size status (now (name .entry)) room ⌝ }
 {

@@ -31,7 +31,7 @@ pub fn write_volume(program: u32, number: u64, list: &[u8], data: &[u8], out: &m
     }
 }
 
-// The number of the first test that fails after the walk over a list of `list` bytes, with `area` bytes of data; 0 where none does.
+// The number of the first test after the walk that holds, 0 where none does; the list has `list` bytes, the data `area`.
 fn volume_refusal(number: u64, totals: Totals, list: usize, area: usize, room: usize) -> u32
     ensures { λ r. ⌜ r ≡ volumeRefusal number totals list area room ⌝ }
 {
