@@ -28,6 +28,7 @@ unfoldable pub entryBytes : List ℕ → ℕ → List ℕ → List ℕ
 entryBytes m status name =
     flatten (toLe 8 (56 + length name) ∷ toLe 8 status ∷ toLe 8 (length m) ∷ md5 m ∷ md5First m ∷ name ∷ [])
 
+-- "status above 3" is refused
 abbrev pub statusAllowed : ℕ → Bool
 statusAllowed status = leb status 3
 
@@ -35,7 +36,8 @@ statusAllowed status = leb status 3
 unfoldable pub nameBytesAllowed : List ℕ → Bool
 nameBytesAllowed name = leb 2 (length name) && eqb (length name % 2) 0 && nameAllowed (unitsOf name)
 
--- a status has the number of a file size
+-- "6 (contents too long, status above 3, bad name)": an entry's faults have none for the status,
+-- so it takes the number of the file size's
 unfoldable pub entryRefusal : ℕ → ℕ → List ℕ → ℕ → ℕ
 entryRefusal size status name room =
     test (faultNumber fault.FileSize) (fileSizeAllowed size)
