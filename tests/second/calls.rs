@@ -1,4 +1,4 @@
-//! The C library's calls, each on lent bytes with guard bytes on both sides.
+//! The C library's calls. Each room that a call writes has guard bytes on both sides; those of mul_add's buffer are where it is compared.
 
 use std::sync::atomic::{AtomicU64, Ordering};
 

@@ -89,19 +89,34 @@ fn damaged(counts: &mut Counts, random: &mut Random) {
     }
 }
 
-/// The numbers of saved files and of the volume at the ends of their ranges.
-fn many_files(counts: &mut Counts, random: &mut Random) {
-    for n in [1, 2, 128, 253, 254, 255] {
+/// A file with this list and volume number, no data, and a control hash that is right; its set hash is zeros.
+fn unhashed(volume: u64, entries: u64, list: &[u8]) -> Vec<u8> {
+    let mut file = [&b"PAR\0\0\0\0\0"[..], &[0; 88], list].concat();
+    file[8..12].copy_from_slice(&65536u32.to_le_bytes());
+    let size = list.len() as u64;
+    for (at, number) in [(48, volume), (56, entries), (64, 96), (72, size), (80, 96 + size), (88, 0)] {
+        file[at..at + 8].copy_from_slice(&number.to_le_bytes());
+    }
+    rehashed(file)
+}
+
+/// The numbers of saved files and of the volume at the ends of their ranges, read and written.
+fn many_files(counts: &mut Counts) {
+    for n in [0, 1, 2, 128, 253, 254, 255] {
         let list = par1::write_entry(b"", 1, b"A\0").unwrap().repeat(n);
         for volume in [0, 1, 2, 127, 128, 254, 255, 256, u64::MAX] {
-            if let Ok(whole) = par1::write_volume(random.below(9) as u32, 0, &list[..list.len().min(58 * 254)], &[]) {
-                let mut one = whole;
-                one[48..56].copy_from_slice(&volume.to_le_bytes());
-                read(counts, "another volume number", &rehashed(one), 60);
+            read(counts, "a volume number", &unhashed(volume, n as u64, &list), 60);
+            let room = vec![5; 96 + list.len()];
+            counts.same(
+                || format!("writing volume {volume} of {n} files"),
+                calls::write_volume(9, volume, &list, &[], &room),
+                expected::write_volume(9, volume, &list, &[], &room),
+            );
+            if let Ok(file) = par1::write_volume(9, volume, &list, &[]) {
+                read(counts, "a volume of many files", &file, 60);
             }
         }
-        let all = [&vec![0; 96][..], &list].concat();
-        read(counts, "a list and no header", &all, 60);
+        read(counts, "a list and no header", &[&vec![0; 96][..], &list].concat(), 60);
     }
 }
 
@@ -210,7 +225,7 @@ fn check(counts: &mut Counts, random: &mut Random) {
 
 pub fn run(counts: &mut Counts, random: &mut Random) {
     damaged(counts, random);
-    many_files(counts, random);
+    many_files(counts);
     small_entries(counts);
     other_client(counts);
     check(counts, random);
