@@ -1,7 +1,6 @@
 -- Condition 2, for entries: a written entry walks back to its fields, and checking accepts the contents that it was written from.
 --
---   EntryBack e m st name     the entry e is that of a file with the contents m, the status st and the name
---   entry-written             every written entry is that of its file
+--   entry-written     every written entry is that of its file
 -- Assumes nothing.
 use mathlib.Core.Path.{_≡_, refl, sym, ap, ap₂, _∙_, subst}
 use mathlib.Core.Bool.{true, _&&_}
@@ -23,24 +22,15 @@ use Rattle.entries.specs.declared.Item.the-variants.{Entry}
 use Rattle.entries.proofs.EntryLaws.{and-both, first-entry, is-entry}
 use Rattle.entries.proofs.WalkLaws.{entries-more}
 use Rattle.par1_rules.specs.Hashes.{md5First}
+use Rattle.par1.specs.Claim.{EntryBack, EntryWritten}
 use Rattle.par1.specs.Checking.{itemRefusal, loneRefusal, checkOf}
 use Rattle.par1_write.specs.EntryWriting.{entryBytes, nameBytesAllowed, entryRefusal, writeEntryOf}
-use Rattle.par1_write.specs.declared.writing.Writing.the-variants.{Written}
 use Rattle.par1.proofs.CheckingLaws.{check-lone}
 use Rattle.par1_write.proofs.EntryWritingLaws.{length-entry, entry-passed}
 use Rattle.par1_rules.proofs.EqualLaws.{equal-same}
 use Rattle.par1_rules.proofs.HashLaws.{length-md5}
 use Rattle.par1_rules.proofs.PartLaws.{At, at-part, at-next, at-number, at-last}
 use Rattle.par1_write.proofs.WritingLaws.{write-tells}
-
--- whatever follows the entry
-pub record EntryBack (e m : List ℕ) (status : ℕ) (name : List ℕ) : Type 0 where
-  pub first-is : (rest : List ℕ) → firstOf (e ++ rest) ≡ Entry (length e) status (length m)
-  pub entries-are : (rest : List ℕ) → entriesOf (e ++ rest) ≡ before e (entriesOf rest)
-  pub md5-is : md5Of e ≡ md5 m
-  pub md5-first-is : md5Of16k e ≡ md5First m
-  pub name-is : nameOf e ≡ name
-  pub check-is : checkOf e m ≡ 0
 
 -- ---- the fields of the bytes of an entry, and of what follows
 
@@ -129,10 +119,9 @@ module _ {e m : List ℕ} {status : ℕ} {name : List ℕ} (size : length e ≡ 
         check-is = checked-back;
       }
 
-pub entry-written : (m : List ℕ) (status : ℕ) (name out : List ℕ) {n : ℕ} {room : List ℕ} → length out < 2 ^ 64
-    → writeEntryOf m status name out ≡ (Written n, room) → EntryBack (take n room) m status name
+pub entry-written : EntryWritten
 unfolding writeEntryOf
-entry-written m status name out {n} {room} few e =
+entry-written m status name out n room few e =
     let s : List ℕ = entryBytes m status name in
     let told = write-tells (entryRefusal (length m) status name (length out)) s out e in
     let passed = entry-passed (length m) status name (length out) (told .none) in

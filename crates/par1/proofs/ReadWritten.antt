@@ -1,6 +1,6 @@
--- Condition 2, first half: reading what was written returns the parts.
+-- Condition 2, first half: what is written is what the format defines, and reading it returns the parts.
 --
---   ReadBack f p v list area     the file f is read as volume v of the program p, with this list and this data
+--   volume-written               a written volume has the bytes that the format defines
 --   ListPassed, list-passed      what the tests of writing, passed, tell
 --   read-written                 every written volume is read back
 -- A test of document 01 is passed where it does not hold.
@@ -12,44 +12,28 @@ use native.Mathlib.Omega.{arith}
 use lib.ListN.{length, take}
 use Rattle.pieces.proofs.CutLaws.{cut-count}
 use Rattle.entries.specs.Entry.{lengthOf}
-use Rattle.entries.specs.Numbering.{savedOf}
 use Rattle.entries.specs.Walk.{entriesOf, walkOf}
 use Rattle.entries.specs.declared.Totals.{Totals}
 use Rattle.entries.specs.declared.Walked.{Walked}
 use Rattle.entries.specs.declared.Walked.the-variants as walked
 use Rattle.entries.proofs.WalkLaws.{walk-count}
 use Rattle.md5.specs.Digest.{md5}
-use Rattle.par1_rules.specs.Layout.{listOf, dataOf}
 use Rattle.par1_rules.specs.Hashes.{setHash}
 use Rattle.par1_rules.specs.Rules.{numberAllowed, dataAllowed}
-use Rattle.par1_read.specs.Reading.{partsOf, readOf}
+use Rattle.par1_read.specs.Reading.{partsOf}
 use Rattle.par1_write.specs.VolumeWriting.{volumeBytes, walkRefusal, writeVolumeOf}
-use Rattle.par1_read.specs.declared.reading.Parts.{Parts}
 use Rattle.par1_read.specs.declared.reading.Reading.the-variants.{Accepted}
-use Rattle.par1_write.specs.declared.writing.Writing.the-variants.{Written}
 use Rattle.par1_read.proofs.ReadingLaws.{HeaderPassed, TotalsPassed, Passed, passed-none, read-accepted}
 use Rattle.par1_rules.proofs.RuleLaws.{Between, fault-some}
+use Rattle.par1.specs.Claim.{VolumeWritten, partsFor, ReadWritten}
 use Rattle.par1.proofs.VolumeFields.{Fields, volume-fields}
 use Rattle.par1_write.proofs.VolumeWritingLaws.{VolumePassed, volume-passed, length-volume}
 use Rattle.par1_write.proofs.WritingLaws.{write-tells}
 
-abbrev pub partsFor : ℕ → ℕ → List ℕ → List ℕ → Parts
-partsFor program number list area =
-    let es : List (List ℕ) = entriesOf list .pieces in
-    record {
-      program = program;
-      number = number;
-      entries = length es;
-      saved = length (savedOf es);
-      «list_size» = length list;
-      «data_start» = 96 + length list;
-      «data_size» = length area;
-    }
-
-pub record ReadBack (f : List ℕ) (program number : ℕ) (list area : List ℕ) : Type 0 where
-  pub read-is : readOf f ≡ Accepted (partsFor program number list area)
-  pub list-is : listOf f ≡ list
-  pub data-is : dataOf f ≡ area
+pub volume-written : VolumeWritten
+unfolding writeVolumeOf
+volume-written program number list area out n room e =
+    write-tells (walkRefusal number (walkOf list) (length list) (length area) (length out)) (volumeBytes program number list area) out e .written-is
 
 -- the list of a written volume was walked to its end
 pub record ListPassed (number : ℕ) (list : List ℕ) (area room : ℕ) : Type 0 where
@@ -105,10 +89,9 @@ module _ {number : ℕ} {list : List ℕ} (area : List ℕ) {room : ℕ} (accept
   written-parts : partsOf f ≡ partsFor program number list area
   written-parts = cc
 
-pub read-written : {program number : ℕ} (list area out : List ℕ) {n : ℕ} {room : List ℕ} → program < 2 ^ 32 → number < 2 ^ 64
-    → writeVolumeOf program number list area out ≡ (Written n, room) → ReadBack (take n room) program number list area
+pub read-written : ReadWritten
 unfolding writeVolumeOf volumeBytes
-read-written {program} {number} list area out {n} {room} p v e =
+read-written program number p v list area out n room e =
     let told = write-tells (walkRefusal number (walkOf list) (length list) (length area) (length out)) (volumeBytes program number list area) out e in
     let accepted = list-passed number list (length area) (length out) (told .none) in
     let f : List ℕ = take n room in

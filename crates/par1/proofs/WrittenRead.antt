@@ -17,11 +17,11 @@ use Rattle.md5.specs.Digest.{md5}
 use Rattle.par1_rules.specs.Layout.{signature, version, programOf, hashedOf, numberOf, countOf, listSizeOf, dataStartOf, dataSizeOf, listOf, dataOf}
 use Rattle.par1_rules.specs.Hashes.{setHash}
 use Rattle.par1_rules.specs.Rules.{dataAllowed}
-use Rattle.par1_read.specs.Reading.{entriesIn, readOf}
+use Rattle.par1_read.specs.Reading.{entriesIn}
 use Rattle.par1_write.specs.VolumeWriting.{numberBytes, bodyBytes, headBytes, volumeBytes, walkRefusal, writeVolumeOf}
 use Rattle.par1_read.specs.declared.reading.Parts.{Parts}
-use Rattle.par1_read.specs.declared.reading.Reading.the-variants.{Accepted}
 use Rattle.par1_write.specs.declared.writing.Writing.the-variants.{Written}
+use Rattle.par1.specs.Claim.{WrittenRead}
 use Rattle.par1_rules.proofs.PartLaws.{split, split-number}
 use Rattle.par1_read.proofs.ReadingLaws.{Passed, read-tells}
 use Rattle.par1_rules.proofs.RuleLaws.{Between}
@@ -100,9 +100,7 @@ module _ (f : List ℕ) (bytes : Bytes f) (tests : Passed f) where
       sym (outcome-written s out none (ap length (sym volume-again)) (ap (λ (u : List ℕ). u ++ drop (length u) out) (sym volume-again)))
 
 -- an accepted file, written from what reading gave, into room that holds it
-pub written-read : (f : List ℕ) (p : Parts) (out : List ℕ) → Bytes f → readOf f ≡ Accepted p → length f ≤ length out
-    → writeVolumeOf (p .program) (p .number) (take (p .«list_size») (drop 96 f)) (take (p .«data_size») (drop (p .«data_start») f)) out
-    ≡ (Written (length f), f ++ drop (length f) out)
+pub written-read : WrittenRead
 written-read f p out bytes e room =
     let told = read-tells f p e in
     ap (λ (q : Parts). writeVolumeOf (q .program) (q .number) (take (q .«list_size») (drop 96 f)) (take (q .«data_size») (drop (q .«data_start») f)) out) (told .parts-are)

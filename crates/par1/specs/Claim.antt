@@ -1,0 +1,92 @@
+-- Condition 2 of the tender: a volume is written as the format defines, is read back, and is written again with the same bytes.
+--
+--   VolumeWritten                a written volume has the bytes that the format defines
+--   partsFor p v list area       what reading returns of volume v of the program p, with this list and this data
+--   ReadBack f p v list area     the file f is read so, and its areas are this list and this data
+--   ReadWritten                  every written volume is read back
+--   WrittenRead                  every accepted file, written from what reading gave, has the same bytes
+--   EntryBack e m st name        the entry e is that of a file with the contents m, the status st and the name
+--   EntryWritten                 every written entry is that of its file
+-- The contracts of write_volume, read, write_entry and check cite writeVolumeOf, readOf, writeEntryOf and checkOf.
+-- Assumes nothing.
+use mathlib.Core.Path.{_≡_}
+use mathlib.Core.List.{List, _++_}
+use Prim.Native.Nat.{ℕ, _+_, _^_, _<_, _≤_}
+use lib.ListN.{length, take, drop}
+use Rattle.pieces.specs.Pieces.{before}
+use Rattle.little_endian.specs.Bytes.{Bytes}
+use Rattle.entries.specs.Entry.{md5Of, md5Of16k, nameOf}
+use Rattle.entries.specs.Numbering.{savedOf}
+use Rattle.entries.specs.Walk.{firstOf, entriesOf}
+use Rattle.entries.specs.declared.Item.the-variants.{Entry}
+use Rattle.md5.specs.Digest.{md5}
+use Rattle.par1_rules.specs.Layout.{listOf, dataOf}
+use Rattle.par1_rules.specs.Hashes.{md5First}
+use Rattle.par1_read.specs.Reading.{readOf}
+use Rattle.par1_read.specs.declared.reading.Parts.{Parts}
+use Rattle.par1_read.specs.declared.reading.Reading.the-variants.{Accepted}
+use Rattle.par1_write.specs.VolumeWriting.{volumeBytes, writeVolumeOf}
+use Rattle.par1_write.specs.EntryWriting.{writeEntryOf}
+use Rattle.par1_write.specs.declared.writing.Writing.the-variants.{Written}
+use Rattle.par1.specs.Checking.{checkOf}
+
+-- ---- "A volume written is, byte by byte, the one that Par 1.0, RFC 1321 and document 01 define."
+
+-- proved: proofs/ReadWritten.antt, `volume-written`
+abbrev pub VolumeWritten : Type 0
+VolumeWritten =
+    (program number : ℕ) (list area out : List ℕ) (n : ℕ) (room : List ℕ)
+    → writeVolumeOf program number list area out ≡ (Written n, room) → take n room ≡ volumeBytes program number list area
+
+-- ---- "Reading returns the parts it was written from"
+
+-- "program identifier, volume number, counts (entries and saved), and where list and data lie"
+abbrev pub partsFor : ℕ → ℕ → List ℕ → List ℕ → Parts
+partsFor program number list area =
+    let es : List (List ℕ) = entriesOf list .pieces in
+    record {
+      program = program;
+      number = number;
+      entries = length es;
+      saved = length (savedOf es);
+      «list_size» = length list;
+      «data_start» = 96 + length list;
+      «data_size» = length area;
+    }
+
+pub record ReadBack (f : List ℕ) (program number : ℕ) (list area : List ℕ) : Type 0 where
+  pub read-is : readOf f ≡ Accepted (partsFor program number list area)
+  pub list-is : listOf f ≡ list
+  pub data-is : dataOf f ≡ area
+
+-- the program identifier is a u32, the number a u64; proved: proofs/ReadWritten.antt, `read-written`
+abbrev pub ReadWritten : Type 0
+ReadWritten =
+    (program number : ℕ) → program < 2 ^ 32 → number < 2 ^ 64 → (list area out : List ℕ) (n : ℕ) (room : List ℕ)
+    → writeVolumeOf program number list area out ≡ (Written n, room) → ReadBack (take n room) program number list area
+
+-- ---- "an accepted volume written again from its parts has the same bytes"
+
+-- into any room that holds it, and the rest of the room stays; proved: proofs/WrittenRead.antt, `written-read`
+abbrev pub WrittenRead : Type 0
+WrittenRead =
+    (f : List ℕ) (p : Parts) (out : List ℕ) → Bytes f → readOf f ≡ Accepted p → length f ≤ length out
+    → writeVolumeOf (p .program) (p .number) (take (p .«list_size») (drop 96 f)) (take (p .«data_size») (drop (p .«data_start») f)) out
+    ≡ (Written (length f), f ++ drop (length f) out)
+
+-- ---- the same for an entry
+
+-- whatever follows the entry; checking accepts the contents
+pub record EntryBack (e m : List ℕ) (status : ℕ) (name : List ℕ) : Type 0 where
+  pub first-is : (rest : List ℕ) → firstOf (e ++ rest) ≡ Entry (length e) status (length m)
+  pub entries-are : (rest : List ℕ) → entriesOf (e ++ rest) ≡ before e (entriesOf rest)
+  pub md5-is : md5Of e ≡ md5 m
+  pub md5-first-is : md5Of16k e ≡ md5First m
+  pub name-is : nameOf e ≡ name
+  pub check-is : checkOf e m ≡ 0
+
+-- the room has a length of 64 bits; proved: proofs/EntryWritten.antt, `entry-written`
+abbrev pub EntryWritten : Type 0
+EntryWritten =
+    (m : List ℕ) (status : ℕ) (name out : List ℕ) (n : ℕ) (room : List ℕ) → length out < 2 ^ 64
+    → writeEntryOf m status name out ≡ (Written n, room) → EntryBack (take n room) m status name
