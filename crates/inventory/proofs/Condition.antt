@@ -20,7 +20,7 @@ use Rattle.parity.proofs.Coefficients.{coefficient-byte}
 use Rattle.inventory.specs.Recoverable.{State, IsContents, Recoverable, IsWeights, place, present, ComeFrom}
 use Rattle.inventory.specs.Model.{Call, query, Reply, queried, opened, next, after, Gives, GivesQuery, GivesMissing, undetermined, noRoom, recoverable, GivesAll}
 use Rattle.inventory.specs.Steps.{openStep}
-use Rattle.inventory.specs.Claim.{Did, Ran, sizeIn, Condition}
+use Rattle.inventory.specs.Claim.{Did, Ran, sizeIn, Condition3}
 use Rattle.inventory.specs.declared.Inventory.{Inventory}
 use Rattle.inventory.proofs.Tests.{file-in-range}
 use Rattle.inventory.proofs.Following.{follow}
@@ -64,11 +64,7 @@ follow-file t l X hX zero r m w W fragment from ks once = absurd (not-suc-le-zer
 follow-file t l X hX (suc f) r m w W fragment from ks once =
     follow coefficient coefficient-byte t l X hX f (file-in-range (t .n) (suc f) r .1) m w W fragment from ks once
 
--- "For every list of calls on it from there (noting or withdrawing a file, noting or withdrawing a volume, counting, asking;
--- refused ones too)"
-pub condition : (n : ℕ) (sizes : List ℕ) → openStep n sizes .number ≡ 0
-    → (cs : List Call) (rs : List Reply) (s : Inventory) → Ran (openStep n sizes .next) cs rs s
-    → Condition n (sizeIn sizes) (openStep n sizes .next) cs rs s
+pub condition : Condition3
 unfolding Gives
 condition n sizes accepted cs rs s run = record {
   replies = whole .0;

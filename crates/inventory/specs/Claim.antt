@@ -10,6 +10,7 @@
 --   Told t cs                 the calls cs add what is present in t and nothing else, in whatever order
 --   sizeIn sizes f            the size of file f in the sizes of an opening
 --   Condition n size o cs rs s     what holds after the calls cs on the inventory o opened for n files of these sizes
+--   Condition3                the whole claim: it holds for every accepted opening and every list of calls
 -- Sentences in quotation marks are document 01's, or the tender's condition 3.
 -- Assumes nothing.
 use mathlib.Core.Path.{_≡_}
@@ -25,7 +26,7 @@ use Rattle.parity.specs.Once.{Once}
 use Rattle.parity.specs.Parity.{Contents, isFile}
 use Rattle.inventory.specs.Recoverable.{State, IsContents, Recoverable, place, present, ComeFrom}
 use Rattle.inventory.specs.Model.{Call, addFile, removeFile, addVolume, removeVolume, count, query, Reply, numbered, counts, queried, opened, after, GivesAll}
-use Rattle.inventory.specs.Steps.{addFileStep, removeFileStep, addVolumeStep, removeVolumeStep, countStep, answerNumber}
+use Rattle.inventory.specs.Steps.{openStep, addFileStep, removeFileStep, addVolumeStep, removeVolumeStep, countStep, answerNumber}
 use Rattle.inventory.specs.Query.{Queried}
 use Rattle.inventory.specs.declared.Inventory.{Inventory}
 use Rattle.inventory.specs.declared.Outcome.{Outcome}
@@ -118,3 +119,11 @@ pub record Condition (n : ℕ) (size : ℕ → ℕ) (o : Inventory) (cs : List C
       → (fragment : ℕ → List ℕ) → ComeFrom coefficient (after (opened n size) cs) X fragment
       → (ks : List ℕ) → Once (present (after (opened n size) cs)) ks
       → mulAddAll (place (take 255 room′)) fragment ks (replicate (size f) 0) ≡ X f
+
+-- "For every list of calls on it from there (noting or withdrawing a file, noting or withdrawing a volume, counting, asking;
+-- refused ones too)"; proved: proofs/Condition.antt, `condition`
+abbrev pub Condition3 : Type 0
+Condition3 =
+    (n : ℕ) (sizes : List ℕ) → openStep n sizes .number ≡ 0
+    → (cs : List Call) (rs : List Reply) (s : Inventory) → Ran (openStep n sizes .next) cs rs s
+    → Condition n (sizeIn sizes) (openStep n sizes .next) cs rs s
