@@ -16,7 +16,7 @@ use lib.ListN.{length, take, drop, length-drop}
 use lib.Seq.{length-take-le}
 use borrow.Author.Tests.{leb-true, eqb-true}
 use Rattle.pieces.proofs.CutLaws.{part-to-end}
-use Rattle.entries.specs.Entry.{entrySize, statusOf, sizeOf, nameOf, unitsOf, nameAllowed, fileSizeAllowed, sizeAllowed, bodyAllowed, entryAllowed, lengthOf}
+use Rattle.entries.specs.Entry.{entrySize, statusOf, fileSizeOf, nameOf, unitsOf, nameAllowed, fileSizeAllowed, entrySizeAllowed, bodyAllowed, entryAllowed, lengthOf}
 use Rattle.entries.specs.Walk.{faultOf, itemOf, firstOf}
 use Rattle.entries.specs.declared.Fault.{Fault}
 use Rattle.entries.specs.declared.Fault.the-variants as fault
@@ -34,8 +34,8 @@ pub record Sized (n m : ℕ) : Type 0 where
   pub low : 58 ≤ n
   pub high : n ≤ m
 
-pub sized : (n m : ℕ) → sizeAllowed n m ≡ true → Sized n m
-unfolding sizeAllowed
+pub sized : (n m : ℕ) → entrySizeAllowed n m ≡ true → Sized n m
+unfolding entrySizeAllowed
 sized n m e =
     let both = and-both (eqb (n % 2) 0 && leb 58 n) (leb n m) e in
     let two = and-both (eqb (n % 2) 0) (leb 58 n) (both .0) in
@@ -55,16 +55,16 @@ first-some [] h = absurd (omega arith)
 first-some (b ∷ s) h = refl
 
 module _ (s : List ℕ) (some : 0 < length s) {n : ℕ} (size-is : n ≡ entrySize s) where
-  pub first-size : sizeAllowed n (length s) ≡ false → firstOf s ≡ item.Fault fault.Size
+  pub first-size : entrySizeAllowed n (length s) ≡ false → firstOf s ≡ item.Fault fault.Size
   unfolding entryAllowed faultOf
   first-size z = first-some s some ∙ simp (sym size-is, z)
 
-  module _ (size : sizeAllowed n (length s) ≡ true) where
-    pub first-file-size : fileSizeAllowed (sizeOf (take n s)) ≡ false → firstOf s ≡ item.Fault fault.FileSize
+  module _ (size : entrySizeAllowed n (length s) ≡ true) where
+    pub first-file-size : fileSizeAllowed (fileSizeOf (take n s)) ≡ false → firstOf s ≡ item.Fault fault.FileSize
     unfolding entryAllowed bodyAllowed faultOf
     first-file-size f = first-some s some ∙ simp (sym size-is, size, f)
 
-    module _ (file-size : fileSizeAllowed (sizeOf (take n s)) ≡ true) where
+    module _ (file-size : fileSizeAllowed (fileSizeOf (take n s)) ≡ true) where
       pub first-name : nameAllowed (unitsOf (nameOf (take n s))) ≡ false → firstOf s ≡ item.Fault fault.Name
       unfolding entryAllowed bodyAllowed faultOf
       first-name r = first-some s some ∙ simp (sym size-is, size, file-size, r)
@@ -80,7 +80,7 @@ pub record IsEntry (s : List ℕ) (n status size : ℕ) : Type 0 where
   pub allowed : entryAllowed s ≡ true
   pub length-is : lengthOf s ≡ n
   pub status-is : status ≡ statusOf (take n s)
-  pub size-is : size ≡ sizeOf (take n s)
+  pub size-is : size ≡ fileSizeOf (take n s)
   pub even : n % 2 ≡ 0
   pub low : 58 ≤ n
   pub high : n ≤ length s
@@ -93,14 +93,14 @@ pub record IsFault (s : List ℕ) (f : Fault) : Type 0 where
 
 allowed-sized : (s : List ℕ) → entryAllowed s ≡ true → Sized (entrySize s) (length s)
 unfolding entryAllowed
-allowed-sized s e = sized (entrySize s) (length s) (and-both (sizeAllowed (entrySize s) (length s)) _ e .0)
+allowed-sized s e = sized (entrySize s) (length s) (and-both (entrySizeAllowed (entrySize s) (length s)) _ e .0)
 
 no-length : (s : List ℕ) → entryAllowed s ≡ false → lengthOf s ≡ 0
 unfolding lengthOf
 no-length s e = simp e
 
 entry-is : (s : List ℕ) → entryAllowed s ≡ true
-    → IsEntry s (length (take (entrySize s) s)) (statusOf (take (entrySize s) s)) (sizeOf (take (entrySize s) s))
+    → IsEntry s (length (take (entrySize s) s)) (statusOf (take (entrySize s) s)) (fileSizeOf (take (entrySize s) s))
 unfolding lengthOf
 entry-is s e =
     let z = allowed-sized s e in

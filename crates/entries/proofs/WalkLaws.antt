@@ -15,7 +15,7 @@ use native.Mathlib.Omega.{arith}
 use lib.ListN.{length, take, drop}
 use Rattle.pieces.specs.Pieces.{Cut, before}
 use Rattle.pieces.proofs.CutLaws.{cut-none, cut-stop, cut-more}
-use Rattle.entries.specs.Entry.{statusOf, sizeOf, isSaved, counts, lengthOf}
+use Rattle.entries.specs.Entry.{statusOf, fileSizeOf, isSaved, isCounted, lengthOf}
 use Rattle.entries.specs.Numbering.{keep, savedOf}
 use Rattle.entries.specs.Walk.{faultOf, entriesOf, totalsOf, addEntry, walkedTo, walkOf}
 use Rattle.entries.specs.declared.Fault.{Fault}
@@ -44,7 +44,7 @@ plus-none : (t : Totals) → plus (totals 0 0 0) t ≡ t
 plus-none t = same (omega arith) (omega arith) (omega arith)
 
 abbrev greatest : List (List ℕ) → ℕ
-greatest es = foldr max 0 (map (λ e. sizeOf e) es)
+greatest es = foldr max 0 (map (λ e. fileSizeOf e) es)
 
 plus-saved : (b : Bool) (n : ℕ) (e : List ℕ) (es : List (List ℕ))
     → cond b (n + 1) n + length es ≡ n + length (cond b (e ∷ es) es)
@@ -52,16 +52,16 @@ plus-saved true n e es = omega arith
 plus-saved false n e es = refl
 
 plus-greatest : (b : Bool) (n : ℕ) (e : List ℕ) (es : List (List ℕ))
-    → max (cond b (max n (sizeOf e)) n) (greatest es) ≡ max n (greatest (cond b (e ∷ es) es))
+    → max (cond b (max n (fileSizeOf e)) n) (greatest es) ≡ max n (greatest (cond b (e ∷ es) es))
 plus-greatest true n e es = omega arith
 plus-greatest false n e es = refl
 
 plus-entry : (t : Totals) (e : List ℕ) (es : List (List ℕ))
-    → plus (addEntry t (statusOf e) (sizeOf e)) (totalsOf es) ≡ plus t (totalsOf (e ∷ es))
+    → plus (addEntry t (statusOf e) (fileSizeOf e)) (totalsOf es) ≡ plus t (totalsOf (e ∷ es))
 unfolding addEntry
 plus-entry t e es =
     same (omega arith) (plus-saved (isSaved (statusOf e)) (t .saved) e (savedOf es))
-    (plus-greatest (counts (statusOf e)) (t .greatest) e (keep (λ e. counts (statusOf e)) es))
+    (plus-greatest (isCounted (statusOf e)) (t .greatest) e (keep (λ e. isCounted (statusOf e)) es))
 
 one-most : (b : Bool) (n : ℕ) → cond b (n + 1) n ≤ n + 1
 one-most true n = omega arith

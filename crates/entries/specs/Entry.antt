@@ -2,11 +2,11 @@
 -- An entry is the list of all its bytes.
 --
 --   entrySize s         the entry size that s begins with
---   statusOf e, sizeOf e, md5Of e, md5Of16k e, nameOf e     the fields of the entry e; the name in bytes
+--   statusOf e, fileSizeOf e, md5Of e, md5Of16k e, nameOf e     the fields of the entry e; the name in bytes
 --   unitsOf n           the 16-bit units of the bytes n
---   isSaved st, counts st   whether an entry with the status st is saved in the parity, and whether it counts for the data size
+--   isSaved st, isCounted st   whether an entry with the status st is saved in the parity, and whether it counts for the data size
 --   unitAllowed u, nameAllowed us     whether a unit may stand in a name, and whether the units us may be one
---   sizeAllowed n m     whether an entry of n bytes may stand at the front of m bytes
+--   entrySizeAllowed n m     whether an entry of n bytes may stand at the front of m bytes
 --   fileSizeAllowed n   whether a listed file may have n bytes
 --   entryAllowed s      whether s begins with an entry that keeps every rule
 --   lengthOf s          the length of the entry that s begins with, 0 where there is none that keeps every rule
@@ -27,8 +27,8 @@ entrySize s = leAt 8 s 0
 abbrev pub statusOf : List ℕ → ℕ
 statusOf e = leAt 8 e 8
 
-abbrev pub sizeOf : List ℕ → ℕ
-sizeOf e = leAt 8 e 16
+abbrev pub fileSizeOf : List ℕ → ℕ
+fileSizeOf e = leAt 8 e 16
 
 abbrev pub md5Of : List ℕ → List ℕ
 md5Of e = take 16 (drop 24 e)
@@ -49,8 +49,8 @@ abbrev pub isSaved : ℕ → Bool
 isSaved status = eqb (status % 2) 1
 
 -- "In a volume its size is the greatest file size in the list": every entry counts
-unfoldable pub counts : ℕ → Bool
-counts status = true
+unfoldable pub isCounted : ℕ → Bool
+isCounted status = true
 
 -- ---- the rules
 
@@ -67,15 +67,15 @@ abbrev pub fileSizeAllowed : ℕ → Bool
 fileSizeAllowed n = leb n 16777216
 
 -- "An entry size is even and at least 58, so a name has one unit or more", and the entry lies within the list
-unfoldable pub sizeAllowed : ℕ → ℕ → Bool
-sizeAllowed n m = eqb (n % 2) 0 && leb 58 n && leb n m
+unfoldable pub entrySizeAllowed : ℕ → ℕ → Bool
+entrySizeAllowed n m = eqb (n % 2) 0 && leb 58 n && leb n m
 
 -- the rules on what an entry says
 unfoldable pub bodyAllowed : List ℕ → Bool
-bodyAllowed e = fileSizeAllowed (sizeOf e) && nameAllowed (unitsOf (nameOf e))
+bodyAllowed e = fileSizeAllowed (fileSizeOf e) && nameAllowed (unitsOf (nameOf e))
 
 unfoldable pub entryAllowed : List ℕ → Bool
-entryAllowed s = sizeAllowed (entrySize s) (length s) && bodyAllowed (take (entrySize s) s)
+entryAllowed s = entrySizeAllowed (entrySize s) (length s) && bodyAllowed (take (entrySize s) s)
 
 unfoldable pub lengthOf : List ℕ → ℕ
 lengthOf s = cond (entryAllowed s) (entrySize s) 0

@@ -16,7 +16,7 @@ use mathlib.Core.Bool.{cond}
 use mathlib.Core.List.{List, [], _∷_, map, foldr}
 use lib.ListN.{length, take}
 use Rattle.pieces.specs.Pieces.{Cut, cut}
-use Rattle.entries.specs.Entry.{entrySize, statusOf, sizeOf, isSaved, counts, sizeAllowed, fileSizeAllowed, entryAllowed, lengthOf}
+use Rattle.entries.specs.Entry.{entrySize, statusOf, fileSizeOf, isSaved, isCounted, entrySizeAllowed, fileSizeAllowed, entryAllowed, lengthOf}
 use Rattle.entries.specs.Numbering.{keep, savedOf}
 use Rattle.entries.specs.declared.Fault.{Fault}
 use Rattle.entries.specs.declared.Fault.the-variants.{Size, FileSize, Name}
@@ -29,7 +29,7 @@ use Rattle.entries.specs.declared.Walked.the-variants as walked
 -- the rules in their order: the entry's size, its file's size, its name
 unfoldable pub faultOf : List ℕ → Fault
 faultOf s =
-    cond (sizeAllowed (entrySize s) (length s)) (cond (fileSizeAllowed (sizeOf (take (entrySize s) s))) Name FileSize) Size
+    cond (entrySizeAllowed (entrySize s) (length s)) (cond (fileSizeAllowed (fileSizeOf (take (entrySize s) s))) Name FileSize) Size
 
 -- "6: an entry or the list breaks its rules"
 abbrev pub faultNumber : Fault → ℕ
@@ -38,7 +38,7 @@ faultNumber FileSize = 6
 faultNumber Name = 6
 
 abbrev pub itemOf : List ℕ → Item
-itemOf e = item.Entry (length e) (statusOf e) (sizeOf e)
+itemOf e = item.Entry (length e) (statusOf e) (fileSizeOf e)
 
 unfoldable pub firstOf : List ℕ → Item
 firstOf [] = item.End
@@ -49,7 +49,7 @@ abbrev pub entriesOf : List ℕ → Cut
 entriesOf s = cut lengthOf s
 
 abbrev pub greatestOf : List (List ℕ) → ℕ
-greatestOf es = foldr max 0 (map (λ e. sizeOf e) (keep (λ e. counts (statusOf e)) es))
+greatestOf es = foldr max 0 (map (λ e. fileSizeOf e) (keep (λ e. isCounted (statusOf e)) es))
 
 abbrev pub totalsOf : List (List ℕ) → Totals
 totalsOf es = record { entries = length es; saved = length (savedOf es); greatest = greatestOf es }
@@ -59,7 +59,7 @@ addEntry t status size =
     record {
       entries = t .entries + 1;
       saved = cond (isSaved status) (t .saved + 1) (t .saved);
-      greatest = cond (counts status) (max (t .greatest) size) (t .greatest);
+      greatest = cond (isCounted status) (max (t .greatest) size) (t .greatest);
     }
 
 abbrev pub walkedTo : Totals → List ℕ → Walked

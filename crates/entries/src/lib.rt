@@ -2,7 +2,7 @@
 ghost use mathlib.Core.Path.{_≡_};
 ghost use mathlib.Core.Bool.{cond};
 ghost use Prim.Native.Nat.{_+_, _<_, _^_, max};
-ghost use Rattle.entries.specs.Entry.{unitAllowed, nameAllowed, unitsOf, sizeAllowed, isSaved, counts};
+ghost use Rattle.entries.specs.Entry.{unitAllowed, nameAllowed, unitsOf, entrySizeAllowed, isSaved, isCounted};
 ghost use Rattle.entries.specs.Walk.{faultNumber, firstOf, addEntry, walkOf};
 
 // The greatest size of a listed file, in bytes.
@@ -61,7 +61,7 @@ pub fn first(list: &[u8]) -> Item
         return Item::End;
     }
     let entry_size = little_endian::read64(list, 0);
-    if !size_allowed(entry_size, list.len()) {
+    if !entry_size_allowed(entry_size, list.len()) {
         return Item::Fault(Fault::Size);
     }
     let length = entry_size as usize;
@@ -140,8 +140,8 @@ pub fn fault_number(fault: Fault) -> u32
 }
 
 // Whether an entry of `size` bytes may stand at the front of `room` bytes.
-fn size_allowed(size: u64, room: usize) -> bool
-    ensures { λ r. ⌜ r ≡ sizeAllowed size room ⌝ }
+fn entry_size_allowed(size: u64, room: usize) -> bool
+    ensures { λ r. ⌜ r ≡ entrySizeAllowed size room ⌝ }
 {
     if size % 2 != 0 {
         return false;
@@ -187,7 +187,7 @@ fn saved_after(saved: u64, status: u64) -> u64
 
 // The greatest size that counts, with one entry more.
 fn greatest_after(greatest: u64, status: u64, size: u64) -> u64
-    ensures { λ r. ⌜ r ≡ cond (counts status) (max greatest size) greatest ⌝ }
+    ensures { λ r. ⌜ r ≡ cond (isCounted status) (max greatest size) greatest ⌝ }
 {
     if is_counted(status) {
         return greater(greatest, size);
@@ -197,7 +197,7 @@ fn greatest_after(greatest: u64, status: u64, size: u64) -> u64
 
 // Whether an entry counts for the data size.
 fn is_counted(status: u64) -> bool
-    ensures { λ r. ⌜ r ≡ counts status ⌝ }
+    ensures { λ r. ⌜ r ≡ isCounted status ⌝ }
 {
     true
 }

@@ -12,7 +12,7 @@ use Prim.Native.Nat.{ℕ, _+_}
 use mathlib.Core.Bool.{cond, _&&_}
 use mathlib.Core.List.{List, [], _∷_, _++_, map, flatten}
 use lib.Dec.{leb}
-use Rattle.entries.specs.Entry.{statusOf, sizeOf, nameOf, unitsOf, isSaved}
+use Rattle.entries.specs.Entry.{statusOf, fileSizeOf, nameOf, unitsOf, isSaved}
 use Rattle.text.specs.Decimal.{decimal}
 
 -- "Name units 32 to 126 are printed, others as "?""
@@ -46,7 +46,7 @@ lineOf status number size name =
     flatten (label status number ∷ (32 ∷ []) ∷ decimal size ∷ (32 ∷ []) ∷ map shown (unitsOf name) ∷ (10 ∷ []) ∷ [])
 
 abbrev pub entryLine : ℕ → List ℕ → List ℕ
-entryLine number e = lineOf (statusOf e) number (sizeOf e) (nameOf e)
+entryLine number e = lineOf (statusOf e) number (fileSizeOf e) (nameOf e)
 
 -- "Files are numbered 1 to n over the saved entries only, in list order"
 abbrev pub savedAfter : ℕ → ℕ → ℕ

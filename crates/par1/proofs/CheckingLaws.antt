@@ -13,7 +13,7 @@ use lib.Dec.{eqb}
 use lib.ListN.{length}
 use borrow.Author.Tests.{eqb-true}
 use Rattle.md5.specs.Digest.{md5}
-use Rattle.entries.specs.Entry.{sizeOf, md5Of, md5Of16k}
+use Rattle.entries.specs.Entry.{fileSizeOf, md5Of, md5Of16k}
 use Rattle.entries.specs.Walk.{firstOf}
 use Rattle.entries.specs.declared.Item.{Item}
 use Rattle.entries.specs.declared.Item.the-variants as item
@@ -40,6 +40,6 @@ module _ (e m : List ℕ) where
   check-refused h = or-else (loneRefusal e) _ h
 
   pub check-lone : loneRefusal e ≡ 0
-      → checkOf e m ≡ test 15 (eqb (sizeOf e) (length m) && equal (md5Of e) (md5 m) && equal (md5Of16k e) (md5First m)) 0
+      → checkOf e m ≡ test 15 (eqb (fileSizeOf e) (length m) && equal (md5Of e) (md5 m) && equal (md5Of16k e) (md5First m)) 0
   unfolding checkOf
   check-lone z = simp z

@@ -16,7 +16,7 @@ use Rattle.little_endian.specs.Bytes.{toLe}
 use Rattle.little_endian.proofs.Numbers.{length-toLe}
 use Rattle.little_endian.proofs.Reading.{leAt-append}
 use Rattle.md5.specs.Digest.{md5}
-use Rattle.entries.specs.Entry.{entrySize, statusOf, sizeOf, md5Of, md5Of16k, nameOf, unitsOf, nameAllowed, fileSizeAllowed, sizeAllowed}
+use Rattle.entries.specs.Entry.{entrySize, statusOf, fileSizeOf, md5Of, md5Of16k, nameOf, unitsOf, nameAllowed, fileSizeAllowed, entrySizeAllowed}
 use Rattle.entries.specs.Walk.{firstOf, entriesOf}
 use Rattle.entries.specs.declared.Item.the-variants.{Entry}
 use Rattle.entries.proofs.EntryLaws.{and-both, first-entry, is-entry}
@@ -37,7 +37,7 @@ use Rattle.par1_write.proofs.WritingLaws.{write-tells}
 record EntryFields (s m : List ℕ) (status : ℕ) (name : List ℕ) : Type 0 where
   entry-size : entrySize s ≡ 56 + length name
   status-is : statusOf s ≡ status
-  size-is : sizeOf s ≡ length m
+  size-is : fileSizeOf s ≡ length m
   md5-is : md5Of s ≡ md5 m
   md5-first-is : md5Of16k s ≡ md5First m
   named : drop 56 s ≡ name
@@ -76,8 +76,8 @@ named-right name e =
     let two = and-both (leb 2 (length name)) (eqb (length name % 2) 0) (both .0) in
     record { some = leb-true _ _ (two .0); even = eqb-true _ _ (two .1); allowed = both .1 }
 
-size-right : (n m : ℕ) → n % 2 ≡ 0 → 58 ≤ n → n ≤ m → sizeAllowed n m ≡ true
-unfolding sizeAllowed
+size-right : (n m : ℕ) → n % 2 ≡ 0 → 58 ≤ n → n ≤ m → entrySizeAllowed n m ≡ true
+unfolding entrySizeAllowed
 size-right n m even low high = simp (eq-eqb (n % 2) 0 even, le-leb 58 n low, le-leb n m high)
 
 module _ {e m : List ℕ} {status : ℕ} {name : List ℕ} (size : length e ≡ 56 + length name) (d : EntryFields e m status name)
@@ -89,10 +89,10 @@ module _ {e m : List ℕ} {status : ℕ} {name : List ℕ} (size : length e ≡ 
       let own : take (length e) s ≡ e = take-append-seam e rest in
       let told : length e ≡ entrySize s = sym (leAt-append 8 e rest 0 (omega (arith, right .some)) ∙ d .entry-size ∙ sym size) in
       let allowed = size-right (length e) (length s) (omega (arith, right .even)) (omega (arith, right .some)) (omega arith) in
-      let file-size : fileSizeAllowed (sizeOf (take (length e) s)) ≡ true = ap (λ (l : List ℕ). fileSizeAllowed (sizeOf l)) own ∙ ap fileSizeAllowed (d .size-is) ∙ short in
+      let file-size : fileSizeAllowed (fileSizeOf (take (length e) s)) ≡ true = ap (λ (l : List ℕ). fileSizeAllowed (fileSizeOf l)) own ∙ ap fileSizeAllowed (d .size-is) ∙ short in
       let name-right = ap (λ (l : List ℕ). nameAllowed (unitsOf (nameOf l))) own ∙ ap (λ (l : List ℕ). nameAllowed (unitsOf l)) (d .named) ∙ right .allowed in
       first-entry s (omega (arith, right .some)) told allowed file-size name-right
-      ∙ ap (λ (l : List ℕ). Entry (length l) (statusOf l) (sizeOf l)) own
+      ∙ ap (λ (l : List ℕ). Entry (length l) (statusOf l) (fileSizeOf l)) own
       ∙ ap₂ (λ (x y : ℕ). Entry (length e) x y) (d .status-is) (d .size-is)
 
   listed-back : (rest : List ℕ) → entriesOf (e ++ rest) ≡ before e (entriesOf rest)

@@ -10,7 +10,7 @@ use mathlib.Core.List.{List}
 use lib.Dec.{eqb}
 use lib.ListN.{length}
 use Rattle.md5.specs.Digest.{md5}
-use Rattle.entries.specs.Entry.{sizeOf, md5Of, md5Of16k}
+use Rattle.entries.specs.Entry.{fileSizeOf, md5Of, md5Of16k}
 use Rattle.entries.specs.Walk.{faultNumber, firstOf}
 use Rattle.entries.specs.declared.Fault.the-variants as fault
 use Rattle.entries.specs.declared.Item.{Item}
@@ -31,4 +31,4 @@ loneRefusal e = itemRefusal (length e) (firstOf e)
 unfoldable pub checkOf : List ℕ → List ℕ → ℕ
 checkOf e m =
     orElse (loneRefusal e)
-    (test 15 (eqb (sizeOf e) (length m) && equal (md5Of e) (md5 m) && equal (md5Of16k e) (md5First m)) 0)
+    (test 15 (eqb (fileSizeOf e) (length m) && equal (md5Of e) (md5 m) && equal (md5Of16k e) (md5First m)) 0)

@@ -7,7 +7,7 @@ use lib.ListN.{length, take, length-take}
 use mathlib.Core.List.{List}
 use mathlib.Core.Bool.{true}
 use denote.Ref.{now}
-use Rattle.entries.specs.Entry.{fileSizeAllowed, sizeAllowed, nameAllowed, unitsOf}
+use Rattle.entries.specs.Entry.{fileSizeAllowed, entrySizeAllowed, nameAllowed, unitsOf}
 use Rattle.entries.proofs.EntryLaws.{Sized, sized, first-end, first-size, first-file-size, first-name, first-entry}
 use borrow.Author.Tests.{not-true, not-false, le-leb, lt-leb}
 use Rattle.pieces.proofs.CutLaws.{part-to-end}
@@ -17,8 +17,8 @@ use Rattle.entries.proofs.first.Statement.{statement}
 use Rattle.entries.proofs.first.Tie as tie
 
 -- the entry lies within the list
-allowed-at : (c : tie.Else2) → sizeAllowed (c .before .before .read64 .result) (length (now (c .before .before .before .before .before .args .list))) ≡ true
-allowed-at c = sym (c .before .size-allowed .ensures) ∙ not-false _ (c .if2 .left)
+allowed-at : (c : tie.Else2) → entrySizeAllowed (c .before .before .read64 .result) (length (now (c .before .before .before .before .before .args .list))) ≡ true
+allowed-at c = sym (c .before .entry-size-allowed .ensures) ∙ not-false _ (c .if2 .left)
 
 sized-at : (c : tie.Else2) → Sized (c .before .before .read64 .result) (length (now (c .before .before .before .before .before .args .list)))
 sized-at c = sized _ _ (allowed-at c)
@@ -29,14 +29,14 @@ returns c = sym (first-end (now (c .before .before .args .list)) (c .if1 .taken)
 read64-requires : tie.Need-read64-requires
 read64-requires c κs = search needs
 
-size-allowed-requires : tie.Need-size-allowed-requires
-size-allowed-requires c κs = search needs
+entry-size-allowed-requires : tie.Need-entry-size-allowed-requires
+entry-size-allowed-requires c κs = search needs
 
 returns-2 : tie.Need-returns-2
 returns-2 c =
     let s : List ℕ = now (c .before .before .before .before .before .args .list) in
     sym (first-size s (omega (arith, c .before .before .before .if1 .left)) (c .before .before .read64 .ensures)
-    (sym (c .before .size-allowed .ensures) ∙ not-true _ (c .if2 .taken)))
+    (sym (c .before .entry-size-allowed .ensures) ∙ not-true _ (c .if2 .taken)))
 
 slice-aggregate-entry : tie.Need-slice-aggregate-entry
 slice-aggregate-entry c = simp length-take (omega (arith, sized-at (c .before) .high))
@@ -94,7 +94,7 @@ first-spec =
     (tie.spec
     returns
     read64-requires
-    size-allowed-requires
+    entry-size-allowed-requires
     returns-2
     slice-aggregate-entry
     read64-requires-2

@@ -1,12 +1,12 @@
 -- `entries::is_counted` meets its contract: every entry counts.
 -- Assumes nothing.
 use mathlib.Core.Path.{refl}
-use Rattle.entries.specs.Entry.{counts}
+use Rattle.entries.specs.Entry.{isCounted}
 use Rattle.entries.proofs.is_counted.Statement.{statement}
 use Rattle.entries.proofs.is_counted.Tie as tie
 
 returns : tie.Need-returns
-unfolding counts
+unfolding isCounted
 returns c = refl
 
 pub is-counted-spec : {M : Type 1} → statement M

@@ -10,7 +10,7 @@ use borrow.Author.Tests.{not-true, not-false, ne-eqb, eq-eqb}
 use mathlib.Core.Bool.{true}
 use lib.Dec.{eqb}
 use Rattle.md5.specs.Digest.{md5}
-use Rattle.entries.specs.Entry.{sizeOf, md5Of, md5Of16k}
+use Rattle.entries.specs.Entry.{fileSizeOf, md5Of, md5Of16k}
 use Rattle.par1_rules.specs.Hashes.{equal, md5First}
 use Rattle.par1.specs.Checking.{loneRefusal}
 use Rattle.par1.proofs.CheckingLaws.{lone-passed, check-refused, check-lone}
@@ -43,7 +43,7 @@ contents-3 c = contents-2 (c .before .before .before)
 lone : (c : tie.Else1) → loneRefusal (entry-1 c) ≡ 0
 lone c = sym (c .before .lone-refusal .ensures) ∙ c .if1 .left
 
-size-passed : (c : tie.Else2) → eqb (sizeOf (entry-2 c)) (length (contents-2 c)) ≡ true
+size-passed : (c : tie.Else2) → eqb (fileSizeOf (entry-2 c)) (length (contents-2 c)) ≡ true
 size-passed c = eq-eqb _ _ (sym (c .before .read64 .ensures) ∙ c .if2 .left)
 
 whole-passed : (c : tie.Else3) → equal (md5Of (entry-3 c)) (md5 (contents-3 c)) ≡ true
