@@ -1,2 +1,3 @@
 mod AcceptedLaws
+pub mod LengthLaws
 mod LineLaws

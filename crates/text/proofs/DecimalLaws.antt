@@ -3,16 +3,18 @@
 --   decimal-one, decimal-more    decimal, as equations: one digit, and the last of several
 --   decimal-induct    what holds of a digit, and of a number with one digit more, holds of every number
 --   decimal-value     a number's digits spell the number
+--   decimal-length    a number below 10 ^ (k + 1) has at most k + 1 digits
 --   decimal-shape     a number's digits have no leading zero
 --   value-decimal     digits with no leading zero are those of the number that they spell
 -- Assumes nothing.
 use mathlib.Core.Path.{_≡_, refl, sym, ap, ap₂, _∙_, subst}
 use mathlib.Core.Bool.{Bool, true, false, not, _&&_, and-true, and-assoc, false≢true}
 use mathlib.Core.List.{List, [], _∷_, _++_, append-nil, foldl, foldl-append}
-use Prim.Native.Nat.{ℕ, zero, suc, _+_, _/_, _%_, _≤_, _<_}
-use native.Mathlib.Nat.{lt-suc-self}
+use Prim.Native.Nat.{ℕ, zero, suc, _+_, _/_, _%_, _^_, _≤_, _<_}
+use native.Mathlib.Nat.{lt-suc-self, pow-succ'}
 use native.Mathlib.Omega.{arith}
 use borrow.Author.Tests.{ltb-true, ltb-false, leb-true, eqb-false, lt-ltb, le-ltb, le-leb, ne-eqb, not-true}
+use lib.ListN.{length, length-append}
 use lib.Seq.{append-snoc}
 use lib.Dec.{leb, ltb, eqb}
 use Rattle.text.specs.Decimal.{digit, decimalIn, decimal, isDigit, allDigits, isDecimal, withDigit, valueOf}
@@ -62,6 +64,18 @@ unfolding valueOf
 decimal-value =
     decimal-induct (λ n w. valueOf w ≡ n) (λ n h. omega arith)
     (λ n w h e. foldl-append withDigit 0 w (digit (n % 10) ∷ []) ∙ omega (arith, e))
+
+-- ---- the length
+
+pub decimal-length : (n k : ℕ) → n < 10 ^ suc k → length (decimal n) ≤ suc k
+decimal-length = decimal-induct (λ n w. (k : ℕ) → n < 10 ^ suc k → length w ≤ suc k) (λ n h k g. omega arith) more
+  where
+    more : (n : ℕ) (w : List ℕ) → 10 ≤ n → ((k : ℕ) → n / 10 < 10 ^ suc k → length w ≤ suc k)
+        → (k : ℕ) → n < 10 ^ suc k → length (w ++ (digit (n % 10) ∷ [])) ≤ suc k
+    more n w h r zero g = absurd (omega arith)
+    more n w h r (suc k) g =
+        let q : n / 10 < 10 ^ suc k = omega (arith, pow-succ' 10 (suc k)) in
+        omega (arith, length-append w (digit (n % 10) ∷ []), r k q)
 
 -- ---- the shape
 

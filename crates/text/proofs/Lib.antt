@@ -1,5 +1,5 @@
 pub mod BufferLaws
-mod DecimalLaws
+pub mod DecimalLaws
 mod Examples
 pub mod FitLaws
 mod HexLaws

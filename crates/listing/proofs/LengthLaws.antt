@@ -1,0 +1,199 @@
+-- A listing is shorter than its file, and that of the program's input has room in 65,536 bytes.
+--
+--   line-most, head-most, refused-most     the lengths of the lines, where numbers have at most eight digits
+--   lines-most            the lines of entries are no longer than the entries
+--   refusal-most          reading refuses with a number of one digit
+--   listing-shorter       the listing of an accepted file is shorter than the file
+--   input-listing-most    the listing of any input has at most 65,536 bytes
+--   input-listing-fits    so room of 65,536 bytes is never too short for it
+-- Assumes nothing.
+use mathlib.Core.Path.{_≡_, refl, sym, ap, _∙_, subst}
+use mathlib.Core.Bool.{Bool, true, false, cond, _&&_, _||_}
+use mathlib.Core.List.{List, [], _∷_, flatten}
+use Prim.Native.Nat.{ℕ, zero, suc, _+_, _≤_, _<_}
+use native.Mathlib.Omega.{arith}
+use lib.Dec.{leb, eqb}
+use lib.ListN.{length, take, drop, length-append, length-take, length-drop, length-map}
+use lib.Seq.{length-take-le}
+use borrow.Author.Tests.{leb-true, eqb-true, le-leb}
+use Rattle.pieces.specs.Pieces.{All, all-none, all-more}
+use Rattle.pieces.proofs.CutLaws.{cut-all, cut-count, cut-length}
+use Rattle.entries.specs.Entry.{entrySize, statusOf, fileSizeOf, nameOf, unitsOf, isSaved, entrySizeAllowed, fileSizeAllowed, bodyAllowed, entryAllowed, lengthOf}
+use Rattle.entries.specs.Walk.{faultNumber, walkOf}
+use Rattle.entries.specs.declared.Fault.{Fault}
+use Rattle.entries.specs.declared.Fault.the-variants.{Size, FileSize, Name}
+use Rattle.entries.specs.declared.Walked.{Walked}
+use Rattle.entries.specs.declared.Walked.the-variants as walked
+use Rattle.entries.proofs.EntryLaws.{and-both, sized}
+use Rattle.entries.proofs.WalkLaws.{walk-count, walk-saved}
+use Rattle.text.specs.Decimal.{decimal}
+use Rattle.text.specs.Fit.{fit}
+use Rattle.text.specs.declared.Reply.the-variants.{Written}
+use Rattle.text.proofs.DecimalLaws.{decimal-length}
+use Rattle.par1_rules.specs.Layout.{signature, signatureOf, versionOf, controlHashOf, setHashOf, numberOf, countOf, listSizeOf, dataSizeOf, listOf}
+use Rattle.par1_rules.specs.Hashes.{equal, setHash, controlHash}
+use Rattle.par1_rules.specs.Rules.{test, orElse, lengthAllowed, versionAllowed, layoutAllowed, numberAllowed, dataAllowed}
+use Rattle.par1_read.specs.Reading.{headerRefusal, controlRefusal, totalsRefusal, listRefusal, refusalOf, entriesIn, partsOf, readOf}
+use Rattle.par1_read.specs.declared.reading.Parts.{Parts}
+use Rattle.par1_read.specs.declared.reading.Reading.{Reading}
+use Rattle.par1_read.specs.declared.reading.Reading.the-variants.{Accepted}
+use Rattle.par1_read.proofs.ReadingLaws.{Passed, read-accepted, read-refused, read-tells}
+use Rattle.listing.specs.Lines.{refusedLine, headLine, label, lineOf, entryLine, savedAfter, entryLines}
+use Rattle.listing.specs.Listing.{listingBy, listingOf, inputListing}
+use Rattle.listing.proofs.LineLaws.{saved-most}
+
+-- ---- lines
+
+eight-digits : (n : ℕ) → n < 100000000 → length (decimal n) ≤ 8
+eight-digits n h = decimal-length n 7 h
+
+units-most : (s : List ℕ) → length (unitsOf s) ≤ length s
+unfolding unitsOf
+units-most [] = omega arith
+units-most (a ∷ []) = omega arith
+units-most (a ∷ b ∷ s) = omega (arith, units-most s)
+
+label-most : (status n : ℕ) → n < 100000000 → length (label status n) ≤ 8
+unfolding label
+label-most status n h = by (isSaved status)
+  where
+    by : (b : Bool) → length (cond b (decimal n) (45 ∷ [])) ≤ 8
+    by true = eight-digits n h
+    by false = omega arith
+
+line-most : (status n size : ℕ) (name : List ℕ) → n < 100000000 → size < 100000000
+    → length (lineOf status n size name) ≤ 19 + length name
+unfolding lineOf flatten
+line-most status n size name h k =
+    simp (length-append, length-map)
+    (omega (arith, label-most status n h, eight-digits size k, units-most name))
+
+head-most : (v n k : ℕ) → v < 100000000 → n < 100000000 → k < 100000000 → length (headLine v n k) ≤ 46
+unfolding headLine flatten
+head-most v n k a b c = simp length-append (omega (arith, eight-digits v a, eight-digits n b, eight-digits k c))
+
+refused-most : (n : ℕ) → n < 100000000 → length (refusedLine n) ≤ 17
+unfolding refusedLine flatten
+refused-most n h = simp length-append (omega (arith, eight-digits n h))
+
+-- ---- the lines of entries
+
+-- the rules of an entry that bound its line
+record Listed (e : List ℕ) : Type 0 where
+  long : 58 ≤ length e
+  small : fileSizeOf e ≤ 16777216
+
+listed-first : (s : List ℕ) → 0 < length s → 0 < lengthOf s → Listed (take (lengthOf s) s)
+unfolding lengthOf entryAllowed bodyAllowed
+listed-first s some found = by (entryAllowed s) refl found
+  where
+    by : (b : Bool) → b ≡ entryAllowed s → 0 < cond b (entrySize s) 0 → Listed (take (cond b (entrySize s) 0) s)
+    by true e h =
+        let both = and-both (entrySizeAllowed (entrySize s) (length s)) (bodyAllowed (take (entrySize s) s)) (sym e) in
+        let z = sized (entrySize s) (length s) (both .0) in
+        let size = and-both (fileSizeAllowed (fileSizeOf (take (entrySize s) s))) _ (both .1) in
+        record { long = omega (arith, length-take-le (entrySize s) s (z .high), z .low); small = leb-true _ _ (size .0) }
+    by false e h = absurd (omega arith)
+
+lines-most : (k : ℕ) (es : List (List ℕ)) → All Listed es → k + length es < 100000000
+    → length (entryLines k es) ≤ length (flatten es)
+unfolding entryLines flatten
+lines-most k [] all-none h = omega arith
+lines-most k (e ∷ es) (all-more l ls) h =
+    let n : ℕ = savedAfter k (statusOf e) in
+    let more : n ≤ k + 1 = saved-most k (statusOf e) in
+    let one = line-most (statusOf e) n (fileSizeOf e) (nameOf e) (omega arith) (omega (arith, l .small)) in
+    omega
+    (arith, one, lines-most n es ls (omega arith), length-append (entryLine n e) (entryLines n es), length-append e (flatten es), length-drop 56 e, l .long)
+
+-- ---- the numbers of an accepted file
+
+number-most : (v n : ℕ) → numberAllowed v n ≡ true → (v ≤ 255) × (n ≤ 254)
+unfolding numberAllowed
+number-most v n e =
+    let both = and-both (leb n 254) (eqb v 0 || leb 1 n && leb (v + n) 255) e in
+    (by (eqb v 0) refl (both .1), leb-true n 254 (both .0))
+  where
+    by : (b : Bool) → eqb v 0 ≡ b → (b || leb 1 n && leb (v + n) 255) ≡ true → v ≤ 255
+    by true z e = omega (arith, eqb-true v 0 z)
+    by false z e = omega (arith, leb-true (v + n) 255 (and-both (leb 1 n) (leb (v + n) 255) e .1))
+
+accepted-shorter : (f : List ℕ) → Passed f → length (listingBy (Accepted (partsOf f)) f) < length f
+accepted-shorter f tests =
+    let es : List (List ℕ) = entriesIn f in
+    let list : length (listOf f) ≤ listSizeOf f = omega (arith, length-take (listSizeOf f) (drop 96 f)) in
+    let fits : 96 + listSizeOf f ≤ length f = omega (arith, tests .header .layout .data-start, tests .header .layout .data-end) in
+    let few : length es ≤ length (listOf f) = cut-count lengthOf (listOf f) in
+    let most : length f ≤ 33554432 = tests .header .size .high in
+    let small = number-most (numberOf f) (tests .totals-of .saved) (tests .totals .number-right) in
+    let count : countOf f ≡ length es = sym (tests .totals .count-is) ∙ walk-count (listOf f) (tests .walk-is) in
+    let saved = walk-saved (listOf f) (tests .walk-is) in
+    let head = head-most (partsOf f .number) (partsOf f .entries) (partsOf f .saved) (omega (arith, small .0)) (omega arith) (omega (arith, small .1, saved)) in
+    let lines = lines-most 0 es (cut-all lengthOf Listed listed-first (listOf f)) (omega arith) in
+    omega
+    (arith, head, lines, cut-length lengthOf (listOf f), length-append (headLine (partsOf f .number) (partsOf f .entries) (partsOf f .saved)) (entryLines 0 es))
+
+-- ---- refusals
+
+test-most : (n : ℕ) (ok : Bool) (m : ℕ) → n ≤ 9 → m ≤ 9 → test n ok m ≤ 9
+test-most n true m h k = k
+test-most n false m h k = h
+
+four-most : (n : ℕ) (a b c d : Bool) → n ≤ 6 → test n a (test (n + 1) b (test (n + 2) c (test (n + 3) d 0))) ≤ 9
+four-most n a b c d h =
+    test-most n a (test (n + 1) b (test (n + 2) c (test (n + 3) d 0))) (omega arith)
+    (test-most (n + 1) b (test (n + 2) c (test (n + 3) d 0)) (omega arith)
+    (test-most (n + 2) c (test (n + 3) d 0) (omega arith) (test-most (n + 3) d 0 (omega arith) (omega arith))))
+
+or-most : (n m : ℕ) → n ≤ 9 → m ≤ 9 → orElse n m ≤ 9
+or-most zero m h k = k
+or-most (suc n) m h k = h
+
+fault-most : (f : Fault) → faultNumber f ≤ 9
+fault-most Size = omega arith
+fault-most FileSize = omega arith
+fault-most Name = omega arith
+
+list-most : (f : List ℕ) (w : Walked) → listRefusal f w ≤ 9
+unfolding totalsRefusal
+list-most f (walked.Entries t) =
+    four-most 6 (eqb (t .entries) (countOf f)) (numberAllowed (numberOf f) (t .saved)) (equal (setHashOf f) (setHash (entriesIn f)))
+    (dataAllowed (numberOf f) (t .greatest) (dataSizeOf f)) (omega arith)
+list-most f (walked.Fault fault) = fault-most fault
+
+refusal-most : (f : List ℕ) → refusalOf f ≤ 9
+unfolding refusalOf headerRefusal controlRefusal
+refusal-most f =
+    or-most (headerRefusal f) (orElse (controlRefusal f) (listRefusal f (walkOf (listOf f))))
+    (four-most 1 (lengthAllowed (length f)) (eqb (signatureOf f) signature) (versionAllowed (versionOf f)) (layoutAllowed f) (omega arith))
+    (or-most (controlRefusal f) (listRefusal f (walkOf (listOf f)))
+    (test-most 5 (equal (controlHashOf f) (controlHash f)) 0 (omega arith) (omega arith))
+    (list-most f (walkOf (listOf f))))
+
+-- ---- listings
+
+pub listing-shorter : (f : List ℕ) (p : Parts) → readOf f ≡ Accepted p → length (listingOf f) < length f
+unfolding listingOf
+listing-shorter f p e =
+    let told = read-tells f p e in
+    subst (λ (r : Reading). length (listingBy r f) < length f) (sym (e ∙ ap Accepted (told .parts-are))) (accepted-shorter f (told .tests))
+
+by-refusal : (s : List ℕ) → length s ≤ 65536 → (n : ℕ) → n ≡ refusalOf s → length (listingOf s) ≤ 65536
+unfolding listingOf
+by-refusal s h zero e = omega (arith, listing-shorter s (partsOf s) (read-accepted s (sym e)))
+by-refusal s h (suc n) e =
+    let few : suc n ≤ 9 = omega (arith, refusal-most s) in
+    rw (read-refused s (suc n) e (λ z. omega arith)) (omega (arith, refused-most (suc n) (omega arith)))
+
+pub input-listing-most : (s : List ℕ) → length (inputListing s) ≤ 65536
+unfolding inputListing
+input-listing-most s = by (leb (length s) 65536) refl
+  where
+    by : (b : Bool) → leb (length s) 65536 ≡ b → length (cond b (listingOf s) (refusedLine 1)) ≤ 65536
+    by true e = by-refusal s (leb-true (length s) 65536 e) (refusalOf s) refl
+    by false e = omega (arith, refused-most 1 (omega arith))
+
+pub input-listing-fits : (s out : List ℕ) → 65536 ≤ length out → fit (inputListing s) out .reply ≡ Written (length (inputListing s))
+unfolding fit
+input-listing-fits s out h =
+    simp (le-leb (length (inputListing s)) (length out) (omega (arith, input-listing-most s)))
