@@ -181,6 +181,19 @@ fn seven_and_twenty_four(counts: &mut Counts) {
     counts.same(|| "P12".into(), numbers(&bytes), [0, 0, 0]);
 }
 
+/// A query ends on a stack of 80 KiB, of which it needs some 70: 127 files missing, every volume present.
+fn small_stack(counts: &mut Counts) {
+    let sizes: Vec<u8> = (0..127).flat_map(|_| 9u64.to_le_bytes()).collect();
+    let (_, mut bytes) = calls::open(127, &sizes, &[0; LENGTH]);
+    for v in 1..=128 {
+        bytes = calls::change(&bytes, true, true, v).1;
+    }
+    let expected = expected::query(&bytes, 7, &[0; 255]);
+    let query = move || calls::query(&bytes, 7, &[0; 255]);
+    let got = std::thread::Builder::new().stack_size(80 << 10).spawn(query).unwrap().join().unwrap();
+    counts.same(|| "a query on a stack of 80 KiB".into(), got, expected);
+}
+
 pub fn run(counts: &mut Counts, random: &mut Random) {
     opening(counts, random);
     lists(counts, random);
@@ -190,4 +203,5 @@ pub fn run(counts: &mut Counts, random: &mut Random) {
         brute_force(counts);
     }
     seven_and_twenty_four(counts);
+    small_stack(counts);
 }

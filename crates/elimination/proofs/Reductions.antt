@@ -30,7 +30,8 @@ use Rattle.elimination.specs.Reduction.{entry, withDiagonal, rowProduct,
 use Rattle.elimination.proofs.Sums as S
 use Rattle.elimination.proofs.Elimination.{Reduced, rowWeight, reduced-start, reduced-dependent, reduced-independent}
 use Rattle.elimination.proofs.Solutions.{solution, kernel-vector}
-use Rattle.elimination.proofs.ByteField.{Byte, byte-eq, toByte, toByte-value, toByte-of-value, byteField, sum-value, δ-value}
+use Rattle.elimination.specs.ByteField.{Byte, byte-eq, toByte, byteField}
+use Rattle.elimination.proofs.ByteField.{toByte-value, toByte-of-value, sum-value, δ-value}
 
 -- the entries of a list as a matrix of bytes, and its owners
 abbrev pub entries : List ℕ → ℕ → ℕ → Byte

@@ -1,3 +1,4 @@
 pub mod Field
+pub mod ByteField
 pub mod Matrix
 pub mod Reduction

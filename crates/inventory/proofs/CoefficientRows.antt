@@ -13,7 +13,8 @@ use borrow.Author.Tests.{le-leb, lt-leb}
 use Rattle.parity.specs.Coefficient.{coefficient}
 use Rattle.parity.specs.Parity.{isFile}
 use Rattle.parity.proofs.Coefficients.{coefficient-byte}
-use Rattle.elimination.proofs.ByteField.{toByte, toByte-of-value, byteField}
+use Rattle.elimination.specs.ByteField.{toByte, byteField}
+use Rattle.elimination.proofs.ByteField.{toByte-of-value}
 use Rattle.number_sets.specs.Sets.{member}
 use Rattle.volume_weights.specs.Weights.{columnIn, tableOf}
 use Rattle.inventory.specs.Steps.{isInventory, within}

@@ -28,7 +28,8 @@ use Rattle.parity.proofs.AnyOrder.{mulAddAll-once}
 use Rattle.elimination.specs.Field.{Field, sum}
 use Rattle.elimination.proofs.Sums as S
 use Rattle.elimination.proofs.Solutions.{by-columns}
-use Rattle.elimination.proofs.ByteField.{Byte, byte-eq, sum-value}
+use Rattle.elimination.specs.ByteField.{Byte, byte-eq}
+use Rattle.elimination.proofs.ByteField.{sum-value}
 use Rattle.inventory.specs.Recoverable.{State, isVolume, IsContents, place, present, weighted, IsWeights, ComeFrom}
 use Rattle.inventory.proofs.Tests.{and-true, file-range, volume-range}
 use Rattle.inventory.proofs.Rows as R

@@ -18,7 +18,7 @@ use Rattle.parity.specs.Coefficient.{coefficient}
 use Rattle.parity.specs.Parity.{isFile}
 use Rattle.parity.proofs.Coefficients.{coefficient-byte}
 use Rattle.elimination.specs.Matrix.{IsSolution, IsKernelVector}
-use Rattle.elimination.proofs.ByteField.{Byte, byteField}
+use Rattle.elimination.specs.ByteField.{Byte, byteField}
 use Rattle.number_sets.specs.Sets.{member}
 use Rattle.volume_weights.specs.Weights.{tableOf, solved, unsolved, fileWeight}
 use Rattle.volume_weights.proofs.Steps.{weight-below}

@@ -20,7 +20,8 @@ use Rattle.elimination.specs.Field.{Field, sum}
 use Rattle.elimination.specs.Matrix.{IsSolution, IsKernelVector}
 use Rattle.elimination.proofs.Sums as S
 use Rattle.elimination.proofs.Solutions.{solution-zero}
-use Rattle.elimination.proofs.ByteField.{Byte, byte-eq, toByte, toByte-of-value}
+use Rattle.elimination.specs.ByteField.{Byte, byte-eq, toByte}
+use Rattle.elimination.proofs.ByteField.{toByte-of-value}
 use Rattle.elimination.proofs.Reductions.{zeros-at}
 use Rattle.inventory.specs.Recoverable.{State, isVolume, IsContents, column, Alike, Recoverable}
 use Rattle.inventory.proofs.Tests.{file-range, volume-range, volume-in-range}

@@ -23,7 +23,8 @@ use Rattle.gf256.proofs.Polynomials.{sumBelow-same}
 use Rattle.parity.specs.Parity.{Contents, isFile, parityByte}
 use Rattle.elimination.specs.Field.{Field, sum}
 use Rattle.elimination.proofs.Sums as S
-use Rattle.elimination.proofs.ByteField.{Byte, toByte, toByte-value, byteField, sum-value}
+use Rattle.elimination.specs.ByteField.{Byte, toByte, byteField}
+use Rattle.elimination.proofs.ByteField.{toByte-value, sum-value}
 use Rattle.inventory.specs.Recoverable.{State, IsContents, column}
 use Rattle.inventory.proofs.Tests.{file-range}
 

@@ -26,7 +26,8 @@ use Rattle.elimination.specs.Field.{Field, sum}
 use Rattle.elimination.specs.Matrix.{Dependent, IsSolution}
 use Rattle.elimination.proofs.Sums as S
 use Rattle.elimination.proofs.Solutions as Solutions
-use Rattle.elimination.proofs.ByteField.{Byte, byte-eq, is-zero, sum-value, δ-value}
+use Rattle.elimination.specs.ByteField.{Byte, byte-eq}
+use Rattle.elimination.proofs.ByteField.{is-zero, sum-value, δ-value}
 use Rattle.inventory.specs.Recoverable.{State, isVolume, column, place, SumOfLower, Used, weighted, IsWeights}
 use Rattle.inventory.proofs.Tests.{and-true, eqb-suc, file-range, file-in-range, volume-range, volume-in-range}
 use Rattle.inventory.proofs.Rows as R

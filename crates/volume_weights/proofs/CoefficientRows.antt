@@ -19,7 +19,8 @@ use Rattle.gf256.specs.Field.{product, power}
 use Rattle.gf256.proofs.Products.{product-zero-r}
 use Rattle.parity.specs.Coefficient.{coefficient}
 use Rattle.parity.proofs.Coefficients.{coefficient-byte}
-use Rattle.elimination.proofs.ByteField.{toByte, toByte-value, toByte-of-value, byteField}
+use Rattle.elimination.specs.ByteField.{toByte, byteField}
+use Rattle.elimination.proofs.ByteField.{toByte-value, toByte-of-value}
 use Rattle.number_sets.specs.Sets.{member}
 use Rattle.volume_weights.specs.Weights.{columnIn, tableOf, MaskedRow, Advanced}
 

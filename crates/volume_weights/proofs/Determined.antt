@@ -14,7 +14,8 @@ use lib.ListN.{length, getD}
 use lib.Seq.{ext-getD}
 use borrow.Author.Tests.{lt-leb}
 use Rattle.elimination.specs.Matrix.{IsSolution}
-use Rattle.elimination.proofs.ByteField.{Byte, byteField, is-zero}
+use Rattle.elimination.specs.ByteField.{Byte, byteField}
+use Rattle.elimination.proofs.ByteField.{is-zero}
 use Rattle.elimination.proofs.Solutions.{Elimination, eliminate, solution-unique, solution-no-kernel}
 use Rattle.volume_weights.specs.Weights.{tableOf, weightAt, Solved, solved, unsolved, FileWeights}
 

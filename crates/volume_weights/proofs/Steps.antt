@@ -24,7 +24,7 @@ use Rattle.parity.proofs.MulAdds.{mulAdd-at}
 use Rattle.elimination.specs.Reduction.{RowAdded, IsSolvable, weightOf}
 use Rattle.elimination.proofs.Reductions.{entries, ownerOf, ReducedBytes, skip-reduced, add-reduced, weight-value, weight-late, weight-none, solvable-solution, unsolvable-kernel}
 use Rattle.elimination.proofs.Elimination.{rowWeight}
-use Rattle.elimination.proofs.ByteField.{Byte, byteField}
+use Rattle.elimination.specs.ByteField.{Byte, byteField}
 use Rattle.number_sets.specs.Sets.{member}
 use Rattle.number_sets.proofs.Words.{member-none}
 use Rattle.volume_weights.specs.Weights.{tableOf, MaskedRow, VolumeTaken, absent, added, weightAt, Solved, solved, unsolved, fileWeight, FileWeights}

@@ -22,7 +22,7 @@ use Rattle.gf256.specs.Field.{product}
 use Rattle.parity.specs.Coefficient.{coefficient}
 use Rattle.elimination.specs.Matrix.{IsSolution, IsKernelVector}
 use Rattle.elimination.specs.Reduction.{RowAdded}
-use Rattle.elimination.proofs.ByteField.{Byte, byteField, toByte}
+use Rattle.elimination.specs.ByteField.{Byte, byteField, toByte}
 use Rattle.number_sets.specs.Sets.{member}
 
 -- ---- the rows

@@ -16,7 +16,7 @@ use Rattle.gf256.proofs.Polynomials.{sumBelow-same}
 use Rattle.parity.specs.Coefficient.{coefficient}
 use Rattle.parity.proofs.Coefficients.{coefficient-byte}
 use Rattle.elimination.specs.Field.{Field}
-use Rattle.elimination.proofs.ByteField.{Byte}
+use Rattle.elimination.specs.ByteField.{Byte}
 use Rattle.inventory.specs.Recoverable.{State, column, Recoverable, Used}
 use Rattle.inventory.specs.Steps.{allBelow}
 use Rattle.inventory.proofs.Tests.{all-at}

@@ -19,7 +19,7 @@ use Rattle.parity.specs.Coefficient.{coefficient}
 use Rattle.parity.specs.Parity.{isFile}
 use Rattle.parity.proofs.Coefficients.{coefficient-byte}
 use Rattle.elimination.specs.Field.{Field}
-use Rattle.elimination.proofs.ByteField.{Byte, byte-eq}
+use Rattle.elimination.specs.ByteField.{Byte, byte-eq}
 use Rattle.inventory.specs.Recoverable.{State, column, Recoverable}
 use Rattle.inventory.specs.Steps.{allBelow}
 use Rattle.inventory.proofs.Tests.{and-true, all-at, file-in-range}
