@@ -12,7 +12,9 @@
 enum { ROUNDS = 200, KIB = 1024, MIB = 1024 * KIB, FILES = 24, FILE_BYTES = MIB, TILE = 32 * KIB };
 
 static uint8_t table[256];      /* the products of the weight */
+#ifdef HAVE_ISAL
 static uint8_t isal_table[32];  /* the same as ISA-L keeps them */
+#endif
 
 static void set_weight(uint8_t weight) {
     for (int x = 0; x < 256; x++) table[x] = product(weight, (uint8_t)x);
@@ -80,7 +82,7 @@ static int one_size(size_t n, double required) {
 }
 
 /* A set of files into one volume, in parts of this many bytes of the buffer. */
-static void fold(uint8_t *const files[FILES], uint8_t *volume, size_t part) {
+static void add_files(uint8_t *const files[FILES], uint8_t *volume, size_t part) {
     memset(volume, 0, FILE_BYTES);
     for (size_t at = 0; at < FILE_BYTES; at += part)
         for (int f = 0; f < FILES; f++) par1_mul_add((uint8_t)(f + 1), files[f] + at, part, volume + at, part);
@@ -94,7 +96,7 @@ static int whole_set(void) {
     for (int round = 0; round < ROUNDS / 4; round++)
         for (int k = 0; k < 2; k++) {
             double start = seconds();
-            fold(files, volumes[k], part[k]);
+            add_files(files, volumes[k], part[k]);
             double took = seconds() - start;
             if (took < best[k]) best[k] = took;
         }

@@ -48,7 +48,7 @@ static void make_set(void) {
     printf("%d files, an index and %d volumes written\n", FILES, VOLUMES);
 }
 
-static void ask(uint64_t file) {
+static void query(uint64_t file) {
     uint8_t weights[255];
     uint32_t number = par1_query(inventory, 104, file, weights, 255);
     printf("  file %2d: %s\n", (int)file, number == 0 ? "recoverable" : number == 12 ? "undetermined" : number == 13 ? "present" : "refused");
@@ -82,8 +82,8 @@ int main(void) {
     accepted("add_volume", par1_add_volume(inventory, 104, 1));
     accepted("add_volume", par1_add_volume(inventory, 104, 4));
     puts("files 7 and 24 missing, volumes 1 and 4 present:");
-    ask(7);
-    ask(24);
+    query(7);
+    query(24);
     accepted("add_volume", par1_add_volume(inventory, 104, 2));
     puts("volume 2 too:");
     rebuild(7);
