@@ -1,9 +1,9 @@
 -- The rows of a query are those of the state that the inventory stands for.
 --
---   few-files, some-files      an inventory has 1 to 254 files
+--   few-files                  an inventory has at most 254 files
 --   table-matrix               the table of its sets is the matrix of its state
 -- Assumes nothing.
-use mathlib.Core.Path.{_≡_, refl, sym, ap, ap₂, _∙_, subst, fun-ext}
+use mathlib.Core.Path.{_≡_, refl, sym, ap, _∙_, subst, fun-ext}
 use mathlib.Core.Bool.{Bool, true, false, not, cond, _&&_, _||_, and-false}
 use Prim.Native.Nat.{ℕ, suc, _<_, _≤_, _-_}
 use native.Mathlib.Omega.{arith}
@@ -28,10 +28,6 @@ module _ (s : Inventory) (valid : isInventory s ≡ true) where
   pub few-files : s .n ≤ 254
   unfolding isInventory
   few-files = file-in-range 254 (s .n) (and-true (isFile 254 (s .n)) _ valid .0) .1
-
-  pub some-files : 1 ≤ s .n
-  unfolding isInventory
-  some-files = file-in-range 254 (s .n) (and-true (isFile 254 (s .n)) _ valid .0) .0
 
   -- the files of size 1 or more are files
   nonempty-file : (g : ℕ) → g < 256 → member (s .nonempty) g ≡ true → isFile (s .n) g ≡ true

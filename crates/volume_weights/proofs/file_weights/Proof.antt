@@ -1,9 +1,9 @@
 -- `volume_weights::file_weights` meets its contract.
 -- Assumes nothing.
 use mathlib.Core.Path.{_≡_, refl, sym, ap, _∙_, subst}
-use Prim.Native.Nat.{ℕ, _≤_, _<_, _+_, _-_}
+use Prim.Native.Nat.{ℕ, _≤_, _+_, _-_}
 use native.Mathlib.Omega.{arith}
-use lib.ListN.{length, getD, getD-replicate}
+use lib.ListN.{length, getD-replicate}
 use Rattle.volume_weights.proofs.CoefficientRows.{next-row}
 use Rattle.volume_weights.proofs.Steps.{sums-more, all-chosen}
 use Rattle.volume_weights.specs.Weights.{MaskedRow, FileWeights, fileWeight}
