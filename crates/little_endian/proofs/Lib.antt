@@ -1,3 +1,4 @@
+pub mod NumberLists
 pub mod Numbers
 mod Past
 pub mod Reading

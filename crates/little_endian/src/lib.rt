@@ -2,8 +2,9 @@
 // written there are dropped.
 ghost use mathlib.Core.Path.{_≡_};
 ghost use Prim.Native.Nat.{_+_, _-_, _^_, min};
+ghost use lib.ListN.{length};
 ghost use lib.Seq.{sets};
-ghost use Rattle.little_endian.specs.Bytes.{toLe, leAt};
+ghost use Rattle.little_endian.specs.Bytes.{toLe, leAt, numbers as numbersOf, numbersAt};
 
 // The greatest usize: no slice reaches it.
 const LAST: usize = 18446744073709551615;
@@ -79,6 +80,32 @@ pub fn write64(out: &mut [u8], at: usize, x: u64)
     let high = (x / 4294967296) as u32;
     write32(out, at, low);
     write32(out, after(at, 4), high);
+}
+
+// Reads 64-bit numbers, one after another from `at` on, into all of `numbers`.
+pub fn read_numbers<'a, 'b>(s: &'a [u8], at: usize, numbers: &'b mut [u64])
+    ensures { λ _. ⌜ now (numbers .exit) ≡ numbersAt (length (now (numbers .entry))) (now (s .entry)) at ⌝ }
+{
+    let mut place = at;
+    let mut i: usize = 0;
+    while i < numbers.len() {
+        numbers[i] = read64(s, place);
+        place = after(place, 8);
+        i += 1;
+    }
+}
+
+// Writes 64-bit numbers, one after another from `at` on.
+pub fn write_numbers<'a, 'b>(out: &'a mut [u8], at: usize, numbers: &'b [u64])
+    ensures { λ _. ⌜ now (out .exit) ≡ sets (now (out .entry)) at (numbersOf (now (numbers .entry))) ⌝ }
+{
+    let mut place = at;
+    let mut i: usize = 0;
+    while i < numbers.len() {
+        write64(out, place, numbers[i]);
+        place = after(place, 8);
+        i += 1;
+    }
 }
 
 // The place `k` bytes after `at`, or the last one.
