@@ -133,9 +133,9 @@ pub fn fault_number(fault: Fault) -> u32
     ensures { λ r. ⌜ r ≡ faultNumber fault ⌝ }
 {
     match fault {
-        Fault::Size => 6,
-        Fault::FileSize => 6,
-        Fault::Name => 6,
+        Fault::Size => answers::ENTRY,
+        Fault::FileSize => answers::ENTRY,
+        Fault::Name => answers::ENTRY,
     }
 }
 

@@ -5,6 +5,9 @@ ghost use Rattle.inventory.specs.Steps.{openStep, refusedOpening, change
 mod query;
 mod ranges;
 
+use answers::ALREADY;
+use answers::OUT_OF_RANGE;
+use answers::SIZE;
 use number_sets::has;
 use number_sets::insert;
 use number_sets::remove;
@@ -15,13 +18,6 @@ use ranges::is_volume;
 
 // The greatest size of a listed file, in bytes.
 const MAX_FILE_BYTES: u64 = 16777216;
-
-// Refusals: a size above the limit; a number out of range, or no inventory; present already, or not present.
-const SIZE: u32 = 1;
-
-const OUT_OF_RANGE: u32 = 10;
-
-const ALREADY: u32 = 11;
 
 // The number of files, and three sets of numbers, one bit each: the files present, the volumes present, and the files of
 // size 1 or more. Number k is bit k mod 64 of word k div 64.

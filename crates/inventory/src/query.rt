@@ -9,14 +9,11 @@ use crate::Answer;
 use crate::Inventory;
 use crate::ranges::is_file;
 use crate::ranges::is_inventory;
+use answers::NO_ROOM;
+use answers::OUT_OF_RANGE;
 use number_sets::has;
 use volume_weights::Solution;
 use volume_weights::file_weights;
-
-// Refusals: a number out of range, or no inventory; the lent bytes are too few.
-const OUT_OF_RANGE: u32 = 10;
-
-const NO_ROOM: u32 = 14;
 
 // The number of weights: one for each file and each volume.
 const WEIGHTS: usize = 255;

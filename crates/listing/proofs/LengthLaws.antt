@@ -9,13 +9,16 @@
 -- Assumes nothing.
 use mathlib.Core.Path.{_≡_, refl, sym, ap, _∙_, subst}
 use mathlib.Core.Bool.{Bool, true, false, cond, _&&_, _||_}
-use mathlib.Core.List.{List, [], _∷_, flatten}
+use mathlib.Core.List.{List, [], _∷_, _++_, flatten}
 use Prim.Native.Nat.{ℕ, zero, suc, _+_, _≤_, _<_}
 use native.Mathlib.Omega.{arith}
 use lib.Dec.{leb, eqb}
 use lib.ListN.{length, take, drop, length-append, length-take, length-drop, length-map}
 use lib.Seq.{length-take-le}
-use borrow.Author.Tests.{leb-true, eqb-true, le-leb}
+use borrow.Author.Tests.{leb-true, eqb-true}
+use Rattle.answers.specs.Writing.{written}
+use Rattle.answers.specs.declared.Writing.the-variants.{Written}
+use Rattle.answers.proofs.WritingLaws.{written-fits}
 use Rattle.pieces.specs.Pieces.{All, all-none, all-more}
 use Rattle.pieces.proofs.CutLaws.{cut-all, cut-count, cut-length}
 use Rattle.entries.specs.Entry.{entrySize, statusOf, fileSizeOf, nameOf, unitsOf, isSaved, entrySizeAllowed, fileSizeAllowed, bodyAllowed, entryAllowed, lengthOf}
@@ -27,8 +30,6 @@ use Rattle.entries.specs.declared.Walked.the-variants as walked
 use Rattle.entries.proofs.EntryLaws.{and-both, sized}
 use Rattle.entries.proofs.WalkLaws.{walk-count, walk-saved}
 use Rattle.text.specs.Decimal.{decimal}
-use Rattle.text.specs.Fit.{fit}
-use Rattle.text.specs.declared.Reply.the-variants.{Written}
 use Rattle.text.proofs.DecimalLaws.{decimal-length}
 use Rattle.par1_rules.specs.Layout.{signature, signatureOf, versionOf, controlHashOf, setHashOf, numberOf, countOf, listSizeOf, dataSizeOf, listOf}
 use Rattle.par1_rules.specs.Hashes.{equal, setHash, controlHash}
@@ -193,7 +194,5 @@ input-listing-most s = by (leb (length s) 65536) refl
     by true e = by-refusal s (leb-true (length s) 65536 e) (refusalOf s) refl
     by false e = omega (arith, refused-most 1 (omega arith))
 
-pub input-listing-fits : (s out : List ℕ) → 65536 ≤ length out → fit (inputListing s) out .reply ≡ Written (length (inputListing s))
-unfolding fit
-input-listing-fits s out h =
-    simp (le-leb (length (inputListing s)) (length out) (omega (arith, input-listing-most s)))
+pub input-listing-fits : (s out : List ℕ) → 65536 ≤ length out → written (inputListing s) out ≡ (Written (length (inputListing s)), inputListing s ++ drop (length (inputListing s)) out)
+input-listing-fits s out h = sym (written-fits (inputListing s) out (omega (arith, input-listing-most s)) refl refl)

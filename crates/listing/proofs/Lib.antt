@@ -1,3 +1,3 @@
 mod AcceptedLaws
 pub mod LengthLaws
-mod LineLaws
+pub mod LineLaws

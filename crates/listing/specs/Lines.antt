@@ -1,6 +1,7 @@
 -- The lines of a listing (document 01, "What comes back").
 --
 --   shown u             the character that a name unit u is printed as
+--   field s n           the bytes s, then the number n in decimal
 --   refusedLine n       the line of a refused file
 --   headLine v f s      the first line of an accepted file: volume number, entries, saved entries
 --   label st n          the label of an entry with the status st: the file number n, or "-"
@@ -19,20 +20,20 @@ use Rattle.text.specs.Decimal.{decimal}
 unfoldable pub shown : ℕ → ℕ
 shown u = cond (leb 32 u && leb u 126) u 63
 
+abbrev pub field : List ℕ → ℕ → List ℕ
+field s n = s ++ decimal n
+
 -- "the line `refused N`", "ended by byte 10"
 unfoldable pub refusedLine : ℕ → List ℕ
-refusedLine n = flatten ((114 ∷ 101 ∷ 102 ∷ 117 ∷ 115 ∷ 101 ∷ 100 ∷ 32 ∷ []) ∷ decimal n ∷ (10 ∷ []) ∷ [])
+refusedLine n = flatten (field (114 ∷ 101 ∷ 102 ∷ 117 ∷ 115 ∷ 101 ∷ 100 ∷ 32 ∷ []) n ∷ (10 ∷ []) ∷ [])
 
 -- "volume 0 files 2 saved 1"
 unfoldable pub headLine : ℕ → ℕ → ℕ → List ℕ
 headLine volume files saved =
     flatten
-    ((118 ∷ 111 ∷ 108 ∷ 117 ∷ 109 ∷ 101 ∷ 32 ∷ [])
-    ∷ decimal volume
-    ∷ (32 ∷ 102 ∷ 105 ∷ 108 ∷ 101 ∷ 115 ∷ 32 ∷ [])
-    ∷ decimal files
-    ∷ (32 ∷ 115 ∷ 97 ∷ 118 ∷ 101 ∷ 100 ∷ 32 ∷ [])
-    ∷ decimal saved
+    (field (118 ∷ 111 ∷ 108 ∷ 117 ∷ 109 ∷ 101 ∷ 32 ∷ []) volume
+    ∷ field (32 ∷ 102 ∷ 105 ∷ 108 ∷ 101 ∷ 115 ∷ 32 ∷ []) files
+    ∷ field (32 ∷ 115 ∷ 97 ∷ 118 ∷ 101 ∷ 100 ∷ 32 ∷ []) saved
     ∷ (10 ∷ [])
     ∷ [])
 
@@ -43,7 +44,7 @@ label status number = cond (isSaved status) (decimal number) (45 ∷ [])
 -- "1 5 A.LOG" for a saved entry, "- 12 NOTE.TXT" for another
 unfoldable pub lineOf : ℕ → ℕ → ℕ → List ℕ → List ℕ
 lineOf status number size name =
-    flatten (label status number ∷ (32 ∷ []) ∷ decimal size ∷ (32 ∷ []) ∷ map shown (unitsOf name) ∷ (10 ∷ []) ∷ [])
+    flatten (label status number ∷ field (32 ∷ []) size ∷ (32 ∷ []) ∷ map shown (unitsOf name) ∷ (10 ∷ []) ∷ [])
 
 abbrev pub entryLine : ℕ → List ℕ → List ℕ
 entryLine number e = lineOf (statusOf e) number (fileSizeOf e) (nameOf e)

@@ -1,46 +1,46 @@
 // The listing of an index file or volume, as text into a lent buffer (document 01, "What comes back").
 ghost use mathlib.Core.Path.{_≡_};
+ghost use Rattle.answers.specs.Writing.{written};
 ghost use Rattle.text.specs.Buffer.{buffer, put as putOf};
-ghost use Rattle.text.specs.Fit.{outcome, fit};
 ghost use Rattle.listing.specs.Listing.{refusal as refusalOf, listingBy, listingOf, inputListing, ListIn};
 
 mod lines;
 
+use answers::Writing;
 use par1::Reading;
 use par1_rules::layout::HEADER_LENGTH;
-use text::Reply;
 
 // The longest input that the program takes, in bytes.
 const MAX_INPUT: usize = 65536;
 
 // The listing of `file` over the first bytes of `out`, and its length; or 14, and nothing written, where it does not fit.
-pub fn list(file: &[u8], out: &mut [u8]) -> Reply
-    ensures { λ r. ⌜ outcome r (now (out .exit)) ≡ fit (listingOf (now (file .entry))) (now (out .entry)) ⌝ }
+pub fn list(file: &[u8], out: &mut [u8]) -> Writing
+    ensures { λ r. ⌜ (r, now (out .exit)) ≡ written (listingOf (now (file .entry))) (now (out .entry)) ⌝ }
 {
     list_as(file, par1::read(file), out)
 }
 
 // The listing of a program's input: that of the file it is, or a refusal with 1 where it is too long.
-pub fn list_input(input: &[u8], out: &mut [u8]) -> Reply
-    ensures { λ r. ⌜ outcome r (now (out .exit)) ≡ fit (inputListing (now (input .entry))) (now (out .entry)) ⌝ }
+pub fn list_input(input: &[u8], out: &mut [u8]) -> Writing
+    ensures { λ r. ⌜ (r, now (out .exit)) ≡ written (inputListing (now (input .entry))) (now (out .entry)) ⌝ }
 {
     if input.len() <= MAX_INPUT {
         return list(input, out);
     }
-    list_as(input, Reading::Refused(1), out)
+    list_as(input, Reading::Refused(answers::SIZE), out)
 }
 
 // The listing of a file that reads as `reading`: measured, and written where it fits.
-fn list_as<'a, 'b>(file: &'a [u8], reading: Reading, out: &'b mut [u8]) -> Reply
+fn list_as<'a, 'b>(file: &'a [u8], reading: Reading, out: &'b mut [u8]) -> Writing
     requires { ⌜ ListIn reading (now file) ⌝ }
-    ensures { λ r. ⌜ outcome r (now (out .exit)) ≡ fit (listingBy reading (now (file .entry))) (now (out .entry)) ⌝ }
+    ensures { λ r. ⌜ (r, now (out .exit)) ≡ written (listingBy reading (now (file .entry))) (now (out .entry)) ⌝ }
 {
     let length = put_listing(&mut out[..0], file, reading);
     if length <= out.len() {
         put_listing(out, file, reading);
-        return Reply::Written(length);
+        return Writing::Written(length);
     }
-    Reply::Refused(14)
+    Writing::Refused(answers::NO_ROOM)
 }
 
 // The listing of a file that reads as `reading`, from position 0 on.

@@ -5,15 +5,14 @@ ghost use Prim.Native.Nat.{_+_, _<_, _^_};
 ghost use Rattle.entries.specs.Entry.{unitsOf};
 ghost use Rattle.entries.specs.Walk.{entriesOf};
 ghost use Rattle.text.specs.Buffer.{buffer, put as putOf};
-ghost use Rattle.listing.specs.Lines.{shown as shownOf, refusedLine, headLine, label, lineOf, savedAfter, entryLines};
+ghost use Rattle.listing.specs.Lines.{shown as shownOf, field, refusedLine, headLine, label, lineOf, savedAfter, entryLines};
 use entries::Item;
 
 // The line of a refused file.
 pub fn put_refused(out: &mut [u8], at: usize, number: u32) -> usize
     ensures { λ r. ⌜ buffer (now (out .exit)) r ≡ putOf (buffer (now (out .entry)) at) (refusedLine number) ⌝ }
 {
-    let at = text::put_bytes(out, at, b"refused ");
-    let at = text::put_decimal(out, at, number as u64);
+    let at = put_field(out, at, b"refused ", number as u64);
     text::put(out, at, b'\n')
 }
 
@@ -21,12 +20,9 @@ pub fn put_refused(out: &mut [u8], at: usize, number: u32) -> usize
 pub fn put_head(out: &mut [u8], at: usize, volume: u64, files: u64, saved: u64) -> usize
     ensures { λ r. ⌜ buffer (now (out .exit)) r ≡ putOf (buffer (now (out .entry)) at) (headLine volume files saved) ⌝ }
 {
-    let at = text::put_bytes(out, at, b"volume ");
-    let at = text::put_decimal(out, at, volume);
-    let at = text::put_bytes(out, at, b" files ");
-    let at = text::put_decimal(out, at, files);
-    let at = text::put_bytes(out, at, b" saved ");
-    let at = text::put_decimal(out, at, saved);
+    let at = put_field(out, at, b"volume ", volume);
+    let at = put_field(out, at, b" files ", files);
+    let at = put_field(out, at, b" saved ", saved);
     text::put(out, at, b'\n')
 }
 
@@ -67,11 +63,18 @@ fn put_line<'a, 'b>(
     ensures { λ r. ⌜ buffer (now (out .exit)) r ≡ putOf (buffer (now (out .entry)) at) (lineOf status number size (now (name .entry))) ⌝ }
 {
     let at = put_label(out, at, status, number);
-    let at = text::put(out, at, b' ');
-    let at = text::put_decimal(out, at, size);
+    let at = put_field(out, at, b" ", size);
     let at = text::put(out, at, b' ');
     let at = put_name(out, at, name);
     text::put(out, at, b'\n')
+}
+
+// The bytes `before`, then a number.
+fn put_field<'a, 'b>(out: &'a mut [u8], at: usize, before: &'b [u8], number: u64) -> usize
+    ensures { λ r. ⌜ buffer (now (out .exit)) r ≡ putOf (buffer (now (out .entry)) at) (field (now (before .entry)) number) ⌝ }
+{
+    let at = text::put_bytes(out, at, before);
+    text::put_decimal(out, at, number)
 }
 
 // The file number of a saved entry, "-" for another.

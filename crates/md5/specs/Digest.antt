@@ -6,10 +6,8 @@
 --   digestInto m out what the call that writes into lent bytes gives: its number, and the bytes
 -- Assumes nothing.
 use Prim.Native.Nat.{ℕ}
-use mathlib.Core.Bool.{cond}
 use mathlib.Core.List.{List, _++_}
-use lib.Dec.{ltb}
-use lib.ListN.{length, drop}
+use Rattle.answers.specs.Writing.{written, numbered}
 use Rattle.little_endian.specs.Bytes.{toLe}
 use Rattle.md5_blocks.specs.declared.rounds.Words.{Words}
 use Rattle.md5_blocks.specs.Blocks.{allBlocks}
@@ -27,5 +25,5 @@ unfoldable pub md5 : List ℕ → List ℕ
 md5 m = output (allBlocks start (padded m))
 
 -- Document 01, "Hashing, where it writes into lent room, tests 14 (16 bytes)": the number, 0 if accepted, and what the room then holds
-unfoldable pub digestInto : List ℕ → List ℕ → ℕ × List ℕ
-digestInto m out = cond (ltb (length out) 16) (14, out) (0, md5 m ++ drop 16 out)
+abbrev pub digestInto : List ℕ → List ℕ → ℕ × List ℕ
+digestInto m out = numbered (written (md5 m) out)

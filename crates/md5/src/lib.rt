@@ -21,11 +21,8 @@ pub fn digest(bytes: &[u8]) -> [u8; 16]
 pub fn digest_into(bytes: &[u8], out: &mut [u8]) -> u32
     ensures { λ r. ⌜ (r, now (out .exit)) ≡ digestInto (now (bytes .entry)) (now (out .entry)) ⌝ }
 {
-    if out.len() < 16 {
-        return 14;
-    }
-    put_words(out, Md5::new().push(bytes).end());
-    0
+    let found = digest(bytes);
+    answers::number_of(answers::write(out, &found))
 }
 
 // A running hash: the words after the whole blocks so far; the bytes that wait for their block to be full, of which there are

@@ -1,7 +1,7 @@
 // Lists the index file or volume on standard input (document 01, "What comes back"): thin over the crate `listing`.
+use answers::Writing;
 use libc::STDIN_FILENO;
 use libc::STDOUT_FILENO;
-use text::Reply;
 
 fn main() {
     // one byte more than the longest input, so that a longer one is seen
@@ -9,7 +9,7 @@ fn main() {
     let length = io::read_full(STDIN_FILENO, &mut input);
     // a listing is shorter than its file, so this room always holds it (crate listing, proofs/LengthLaws, `input-listing-fits`)
     let mut lines = [0u8; 65536];
-    let Reply::Written(end) = listing::list_input(&input[..length], &mut lines) else {
+    let Writing::Written(end) = listing::list_input(&input[..length], &mut lines) else {
         return;
     };
     if end <= 65536 {

@@ -7,10 +7,8 @@ ghost use Rattle.gf256.specs.Polynomial.{coeff, sumBelow};
 ghost use Rattle.gf256.specs.Field.{product};
 ghost use Rattle.parity.specs.Coefficient.{coefficientAnswer};
 ghost use Rattle.parity.specs.MulAdd.{mulAdd};
+use answers::OUT_OF_RANGE;
 use gf256::Answer;
-
-// Refusal: a file or volume number is outside its range.
-const OUT_OF_RANGE: u32 = 10;
 
 // The coefficient of a file in a volume (document 01: the factor).
 pub fn coefficient(file: u64, volume: u64) -> Answer

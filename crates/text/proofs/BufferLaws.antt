@@ -8,36 +8,14 @@
 --   puts, puts-measure           calls in a row put their texts joined, and end at the same position on every buffer
 -- Assumes nothing.
 use mathlib.Core.Path.{_≡_, refl, sym, ap, ap₂, _∙_}
-use mathlib.Core.Bool.{Bool, true, false}
-use mathlib.Core.List.{List, [], _∷_, _++_, append-nil, flatten}
-use Prim.Native.Nat.{ℕ, suc, _+_, _≤_, min}
+use mathlib.Core.List.{List, [], _++_, append-nil, flatten}
+use Prim.Native.Nat.{ℕ, _+_, _≤_, min}
 use native.Mathlib.Nat.{zero-add}
 use native.Mathlib.Omega.{arith}
-use borrow.Author.Tests.{leb-true, leb-false}
-use lib.Dec.{leb}
-use lib.ListN.{length, take, drop, set, length-append, length-set}
-use lib.Seq.{sets, length-sets, sets-eq, set-out}
+use lib.ListN.{length, take, drop, length-append}
+use lib.Seq.{sets, length-sets, sets-eq}
+use Rattle.little_endian.proofs.Stores.{sets-append, sets-out, sets-past}
 use Rattle.text.specs.Buffer.{Buffer, buffer, usizeMax, put, Puts, last, then}
-
--- ---- stores past the end, and in a row
-
-sets-out : (l : List ℕ) (i : ℕ) (t : List ℕ) → length l ≤ i → sets l i t ≡ l
-sets-out l i [] h = refl
-sets-out l i (a ∷ t) h = sets-out (set l i a) (suc i) t (omega (arith, length-set l i a)) ∙ set-out l i a h
-
-sets-append : (l : List ℕ) (i : ℕ) (s t : List ℕ) → sets (sets l i s) (i + length s) t ≡ sets l i (s ++ t)
-sets-append l i [] t = ap (λ (k : ℕ). sets l k t) (omega arith)
-sets-append l i (a ∷ s) t =
-    ap (λ (k : ℕ). sets (sets (set l i a) (suc i) s) k t) (omega arith) ∙ sets-append (set l i a) (suc i) s t
-
--- the position at which counting stops is past the end of any buffer
-sets-min : (l : List ℕ) (i : ℕ) (t : List ℕ) → length l ≤ usizeMax → sets l (min i usizeMax) t ≡ sets l i t
-sets-min l i t h = by (leb i usizeMax) refl
-  where
-    by : (b : Bool) → leb i usizeMax ≡ b → sets l (min i usizeMax) t ≡ sets l i t
-    by true e = ap (λ (k : ℕ). sets l k t) (omega (arith, leb-true i usizeMax e))
-    by false e =
-        let g = leb-false i usizeMax e in sets-out l (min i usizeMax) t (omega arith) ∙ sym (sets-out l i t (omega arith))
 
 -- ---- one put
 
@@ -75,8 +53,8 @@ pub put-append : (b : Buffer) (s t : List ℕ) → length (b .bytes) ≤ usizeMa
 unfolding put
 put-append b s t h =
     ap₂ buffer
-    (sets-min (sets (b .bytes) (b .at) s) (b .at + length s) t (omega (arith, length-sets (b .bytes) (b .at) s))
-    ∙ sets-append (b .bytes) (b .at) s t)
+    (sets-past (sets (b .bytes) (b .at) s) (b .at + length s) usizeMax t (omega (arith, length-sets (b .bytes) (b .at) s))
+    ∙ sym (sets-append (b .bytes) (b .at) s t))
     (omega (arith, length-append s t))
 
 module _ (a : Buffer) {b : Buffer} (s t : List ℕ) (h : length (a .bytes) ≤ usizeMax) (e : b ≡ put a s) where

@@ -5,15 +5,15 @@
 --   fit-refused    the text is longer than out
 -- Where code measures on `&mut out[..0]`, out is afterwards what measuring left of the empty part, then out: `l ++ out`.
 -- Assumes nothing.
-use mathlib.Core.Path.{_≡_, ap, ap₂, _∙_}
+use mathlib.Core.Path.{_≡_, ap, _∙_}
 use mathlib.Core.List.{List, [], _++_}
 use Prim.Native.Nat.{ℕ, _≤_, _<_, min}
 use native.Mathlib.Omega.{arith}
-use borrow.Author.Tests.{le-leb, lt-leb}
 use lib.ListN.{length}
+use Rattle.answers.specs.Writing.{refused, written}
+use Rattle.answers.specs.declared.Writing.the-variants.{Written}
+use Rattle.answers.proofs.WritingLaws.{written-fits, written-short}
 use Rattle.text.specs.Buffer.{Buffer, buffer, usizeMax, put}
-use Rattle.text.specs.Fit.{outcome, fit}
-use Rattle.text.specs.declared.Reply.the-variants.{Written, Refused}
 use Rattle.text.proofs.BufferLaws.{put-measure, put-whole}
 
 -- l and n: what the text t leaves of an empty buffer
@@ -25,16 +25,12 @@ module _ (t out : List ℕ) {l : List ℕ} {n : ℕ} (e : buffer l n ≡ put (bu
   count = ap (λ (b : Buffer). b .at) (e ∙ put-measure t)
 
   pub fit-written : {o : List ℕ} {r : ℕ} → n ≤ length (l ++ out) → buffer o r ≡ put (buffer (l ++ out) 0) t
-      → outcome (Written n) o ≡ fit t out
-  unfolding fit
+      → (Written n, o) ≡ written t out
   fit-written k f =
       let small : length t ≤ length out = omega (arith, count, ap length unwritten) in
       let whole = f ∙ ap (λ (q : List ℕ). put (buffer q 0) t) unwritten ∙ put-whole out t small (omega arith) in
       let n-is : n ≡ length t = omega (arith, count) in
-      simp (le-leb (length t) (length out) small)
-      (ap₂ (λ (m : ℕ) (q : List ℕ). outcome (Written m) q) n-is (ap (λ (b : Buffer). b .bytes) whole))
+      written-fits t out small n-is (ap (λ (b : Buffer). b .bytes) whole)
 
-  pub fit-refused : length (l ++ out) < n → outcome (Refused 14) (l ++ out) ≡ fit t out
-  unfolding fit
-  fit-refused k =
-      simp (lt-leb (length t) (length out) (omega (arith, count, ap length unwritten))) (ap (outcome (Refused 14)) unwritten)
+  pub fit-refused : length (l ++ out) < n → refused 14 (l ++ out) ≡ written t out
+  fit-refused k = ap (refused 14) unwritten ∙ written-short t out (omega (arith, count, ap length unwritten))

@@ -1,4 +1,3 @@
 pub mod Buffer
 pub mod Decimal
-pub mod Fit
 pub mod Hex

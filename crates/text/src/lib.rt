@@ -10,13 +10,6 @@ ghost use Rattle.text.specs.Hex.{hexDigit, hexByte};
 
 const USIZE_MAX: usize = 18446744073709551615;
 
-// What a call that writes a whole text answers: the length written, or the number of its refusal (document 01, "What comes
-// back").
-pub enum Reply {
-    Written(usize),
-    Refused(u32),
-}
-
 // One byte at position `at`. Like every put, it answers the position after what it put.
 pub fn put(out: &mut [u8], at: usize, byte: u8) -> usize
     ensures { λ r. ⌜ buffer (now (out .exit)) r ≡ putOf (buffer (now (out .entry)) at) (byte ∷ []) ⌝ }

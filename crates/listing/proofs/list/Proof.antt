@@ -3,7 +3,7 @@
 use mathlib.Core.Path.{ap, _∙_}
 use denote.Ref.{now}
 use Rattle.par1_read.specs.declared.reading.Reading.{Reading}
-use Rattle.text.specs.Fit.{fit}
+use Rattle.answers.specs.Writing.{written}
 use Rattle.listing.specs.Listing.{listingBy, listingOf}
 use Rattle.listing.proofs.AcceptedLaws.{list-in}
 use borrow.Author.Needs.{needs}
@@ -23,7 +23,7 @@ returns : tie.Need-returns
 unfolding listingOf
 returns c =
     let a = c .before .before .before .before .before .before .before .args in
-    c .before .before .list-as .ensures ∙ ap (λ (r : Reading). fit (listingBy r (now (a .file))) (now (a .out))) (c .before .before .before .before .read .ensures)
+    c .before .before .list-as .ensures ∙ ap (λ (r : Reading). written (listingBy r (now (a .file))) (now (a .out))) (c .before .before .before .before .read .ensures)
 
 pub list-spec : {M : Type 1} → statement M
 list-spec = tie.close (tie.spec read-requires list-as-requires same-length returns)

@@ -2,55 +2,43 @@
 -- Assumes nothing.
 use mathlib.Core.Path.{ap, _∙_}
 use Prim.Native.Nat.{ℕ}
-use lib.ListN.{drop}
-use mathlib.Core.List.{List, _++_}
+use mathlib.Core.List.{List}
 use denote.Ref.{now}
-use borrow.Author.Tests.{lt-ltb, le-ltb}
-use Rattle.md5.specs.Digest.{output, digestInto}
-use Rattle.md5.specs.Running.{finished}
-use Rattle.md5.proofs.Output.{output-over}
-use Rattle.md5.proofs.Running.{digest-whole}
+use Rattle.answers.specs.Writing.{written}
+use Rattle.answers.proofs.WritingLaws.{numbered-as}
 use borrow.Author.Needs.{needs}
 use Rattle.md5.proofs.digest_into.Statement.{statement}
 use Rattle.md5.proofs.digest_into.Tie as tie
 
-returns : tie.Need-returns
-unfolding digestInto
-returns c = simp (lt-ltb _ _ (c .if1 .taken))
+digest-requires : tie.Need-digest-requires
+digest-requires c κs = search needs
 
-new-requires : tie.Need-new-requires
-new-requires c κs = search needs
+slice-aggregate-write : tie.Need-slice-aggregate-write
+slice-aggregate-write c = search needs
 
-push-requires : tie.Need-push-requires
-push-requires c κs = search needs
+write-requires : tie.Need-write-requires
+write-requires c κs = search needs
 
-end-requires : tie.Need-end-requires
-end-requires c κs = search needs
-
-put-words-requires : tie.Need-put-words-requires
-put-words-requires c κs = search needs
+number-of-requires : tie.Need-number-of-requires
+number-of-requires c κs = search needs
 
 same-length : tie.Need-same-length
 same-length c = search needs
 
-returns-2 : tie.Need-returns-2
-unfolding digestInto finished
-returns-2 c =
-    let a = c .before .before .before .before .before .before .before .before .before .before .args in
-    let e = c .before .before .before .end in
-    let whole = digest-whole (now (a .bytes)) (c .before .before .before .before .before .new .ensures) (c .before .before .before .before .push .ensures) in
-    let stored = c .before .before .put-words .ensures ∙ output-over (e .result) (now (a .out)) (c .before .before .before .before .before .before .before .if1 .left) in
-    simp (le-ltb _ _ (c .before .before .before .before .before .before .before .if1 .left))
-    (ap (λ (l : List ℕ). (0, l)) (stored ∙ ap (λ (d : List ℕ). d ++ drop 16 (now (a .out))) (ap output (e .ensures) ∙ whole)))
+returns : tie.Need-returns
+returns c =
+    let w = c .before .before .before in
+    let a = c .before .before .before .before .before .before .before .before .before .args in
+    let found = c .before .before .before .before .before .before .digest .ensures in
+    numbered-as (c .number-of .ensures) (w .write .ensures ∙ ap (λ (d : List ℕ). written d (now (a .out))) found)
 
 pub digest-into-spec : {M : Type 1} → statement M
 digest-into-spec =
     tie.close
     (tie.spec
-    returns
-    new-requires
-    push-requires
-    end-requires
-    put-words-requires
+    digest-requires
+    slice-aggregate-write
+    write-requires
+    number-of-requires
     same-length
-    returns-2)
+    returns)

@@ -8,32 +8,23 @@ use borrow.Author.Needs.{needs}
 use Rattle.listing.proofs.lines.put_head.Statement.{statement}
 use Rattle.listing.proofs.lines.put_head.Tie as tie
 
-slice-aggregate-put-bytes : tie.Need-slice-aggregate-put-bytes
-slice-aggregate-put-bytes c = search needs
+slice-aggregate-put-field : tie.Need-slice-aggregate-put-field
+slice-aggregate-put-field c = search needs
 
-put-bytes-requires : tie.Need-put-bytes-requires
-put-bytes-requires c κs = search needs
+put-field-requires : tie.Need-put-field-requires
+put-field-requires c κs = search needs
 
-put-decimal-requires : tie.Need-put-decimal-requires
-put-decimal-requires c κs = search needs
+slice-aggregate-put-field-2 : tie.Need-slice-aggregate-put-field-2
+slice-aggregate-put-field-2 c = search needs
 
-slice-aggregate-put-bytes-2 : tie.Need-slice-aggregate-put-bytes-2
-slice-aggregate-put-bytes-2 c = search needs
+put-field-requires-2 : tie.Need-put-field-requires-2
+put-field-requires-2 c κs = search needs
 
-put-bytes-requires-2 : tie.Need-put-bytes-requires-2
-put-bytes-requires-2 c κs = search needs
+slice-aggregate-put-field-3 : tie.Need-slice-aggregate-put-field-3
+slice-aggregate-put-field-3 c = search needs
 
-put-decimal-requires-2 : tie.Need-put-decimal-requires-2
-put-decimal-requires-2 c κs = search needs
-
-slice-aggregate-put-bytes-3 : tie.Need-slice-aggregate-put-bytes-3
-slice-aggregate-put-bytes-3 c = search needs
-
-put-bytes-requires-3 : tie.Need-put-bytes-requires-3
-put-bytes-requires-3 c κs = search needs
-
-put-decimal-requires-3 : tie.Need-put-decimal-requires-3
-put-decimal-requires-3 c κs = search needs
+put-field-requires-3 : tie.Need-put-field-requires-3
+put-field-requires-3 c κs = search needs
 
 put-requires : tie.Need-put-requires
 put-requires c κs = search needs
@@ -46,32 +37,22 @@ unfolding headLine
 returns c =
     let newline = c .before .before in
     let saved = newline .before .before .before .before in
-    let saved-is = saved .before .before .before .before in
-    let files = saved-is .before .before .before .before .before in
-    let files-is = files .before .before .before .before in
-    let volume = files-is .before .before .before .before .before in
-    let volume-is = volume .before .before .before .before in
+    let files = saved .before .before .before .before .before in
+    let volume = files .before .before .before .before .before in
     puts
-    (then (volume-is .put-bytes .ensures)
-    (then (volume .put-decimal .ensures)
-    (then (files-is .put-bytes2 .ensures)
-    (then (files .put-decimal2 .ensures)
-    (then (saved-is .put-bytes3 .ensures) (then (saved .put-decimal3 .ensures) (last (newline .put .ensures))))))))
-    (omega (arith, volume-is .before .before .before .before .good .0 .0))
+    (then (volume .put-field .ensures) (then (files .put-field2 .ensures) (then (saved .put-field3 .ensures) (last (newline .put .ensures)))))
+    (omega (arith, volume .before .before .before .before .good .0 .0))
 
 pub put-head-spec : {M : Type 1} → statement M
 put-head-spec =
     tie.close
     (tie.spec
-    slice-aggregate-put-bytes
-    put-bytes-requires
-    put-decimal-requires
-    slice-aggregate-put-bytes-2
-    put-bytes-requires-2
-    put-decimal-requires-2
-    slice-aggregate-put-bytes-3
-    put-bytes-requires-3
-    put-decimal-requires-3
+    slice-aggregate-put-field
+    put-field-requires
+    slice-aggregate-put-field-2
+    put-field-requires-2
+    slice-aggregate-put-field-3
+    put-field-requires-3
     put-requires
     same-length
     returns)

@@ -11,20 +11,20 @@ use Rattle.listing.proofs.lines.put_line.Tie as tie
 put-label-requires : tie.Need-put-label-requires
 put-label-requires c κs = search needs
 
+slice-aggregate-put-field : tie.Need-slice-aggregate-put-field
+slice-aggregate-put-field c = search needs
+
+put-field-requires : tie.Need-put-field-requires
+put-field-requires c κs = search needs
+
 put-requires : tie.Need-put-requires
 put-requires c κs = search needs
-
-put-decimal-requires : tie.Need-put-decimal-requires
-put-decimal-requires c κs = search needs
-
-put-requires-2 : tie.Need-put-requires-2
-put-requires-2 c κs = search needs
 
 put-name-requires : tie.Need-put-name-requires
 put-name-requires c κs = search needs
 
-put-requires-3 : tie.Need-put-requires-3
-put-requires-3 c κs = search needs
+put-requires-2 : tie.Need-put-requires-2
+put-requires-2 c κs = search needs
 
 same-length : tie.Need-same-length
 same-length c = search needs
@@ -34,14 +34,13 @@ unfolding lineOf
 returns c =
     let newline = c .before .before in
     let name = newline .before .before .before .before in
-    let second = name .before .before .before .before in
-    let size = second .before .before .before .before in
-    let first = size .before .before .before .before in
-    let label = first .before .before .before .before in
+    let space = name .before .before .before .before in
+    let size = space .before .before .before .before in
+    let label = size .before .before .before .before .before in
     puts
     (then (label .put-label .ensures)
-    (then (first .put .ensures)
-    (then (size .put-decimal .ensures) (then (second .put2 .ensures) (then (name .put-name .ensures) (last (newline .put3 .ensures)))))))
+    (then (size .put-field .ensures)
+    (then (space .put .ensures) (then (name .put-name .ensures) (last (newline .put2 .ensures))))))
     (omega (arith, label .before .before .before .before .good .0 .0))
 
 pub put-line-spec : {M : Type 1} → statement M
@@ -49,10 +48,10 @@ put-line-spec =
     tie.close
     (tie.spec
     put-label-requires
+    slice-aggregate-put-field
+    put-field-requires
     put-requires
-    put-decimal-requires
-    put-requires-2
     put-name-requires
-    put-requires-3
+    put-requires-2
     same-length
     returns)
