@@ -2,6 +2,7 @@
 -- column has an owner: 0, or s + 1 for row s, which was found to be no sum of multiples of the rows before it.
 --
 --   Reduced K A n D owner t    D and the owners after the first t rows of A, of n entries each
+--   rowWeight n owner y s      the weight of row s in the row that times D is y: the entries of y in its columns, added
 --   rowTimes-add, rowTimes-sum, rowTimes-cong     a row times D is linear in the row
 --   reduced-start              no row
 --   reduced-dependent          one row more, that times D is 0 in each column with no owner: nothing changes

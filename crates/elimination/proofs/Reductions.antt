@@ -1,12 +1,15 @@
 -- What the calls of this crate come to: after the rows of A that were added, the matrix and the owners are as the
 -- elimination of A has them, and answer for it.
 --
+--   entries m i j, ownerOf owners k     entry (i, j) of the matrix m as a field element, and the owner of column k
+--   zeros-at                      a list of zeros is 0 everywhere
 --   ReducedBytes A m owners t     m and owners after the first t rows of A
 --   start-reduced                 no row
 --   skip-reduced                  a row of zeros may be left out
 --   add-reduced                   a row that was added
 --   solvable-solution             solvable: the weights are the solution
 --   unsolvable-kernel             not solvable: there is a kernel vector
+--   weight-value                  the weight that the code reads off is the solution's
 --   weight-late, weight-none      no weight stands at a row that was not taken, nor, where it is solvable, at 0
 -- Assumes nothing.
 use mathlib.Core.Path.{_≡_, refl, sym, ap, ap₂, _∙_, subst}

@@ -1,10 +1,14 @@
 -- What the elimination decides: whether weights of the rows sum them to 1 in one column and 0 in the others.
 --
+--   search               whether a number below a bound has a decidable property
+--   by-columns           a sum over rows and columns, taken by columns or by rows
 --   solution             where row f of D is 0 in each column with no owner, it gives the weights
 --   weights-unique, solution-unique     there is one choice of weights at most
 --   kernel-vector        where it is not 0 in such a column, that column of D is a kernel vector
 --   solution-zero        with weights, a vector at which each row is 0 is 0 at f
 --   solution-no-kernel   there are never both weights and a kernel vector
+--   pivot                a column with no owner where a row is not 0, or none
+--   Elimination A n t    D and owners for the first t rows of A
 --   eliminate            D and owners exist, for any rows
 --   dependent-dec        whether a row is a sum of multiples of those before it
 --   decide               there are weights, or a kernel vector

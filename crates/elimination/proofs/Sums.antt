@@ -2,6 +2,7 @@
 --
 --   add-zero, mul-zero, zero-mul, mul-one     the neutral elements
 --   add-mul, mul-left-comm, add-swap          grouping
+--   add-twice                                 what is added twice is gone
 --   eq-of-sum, sum-of-eq                      a sum of two is 0 exactly where they are equal
 --   zero-of-mul                               a factor that is not 0 cancels
 --   inv-ne-zero                               an inverse is not 0

@@ -1,6 +1,5 @@
 -- What the first entry of a list is, from the tests in turn, and what the answer tells.
 --
---   and-both           what a conjunction tells
 --   Sized n m, sized   an entry of n bytes may stand at the front of m bytes, in numbers
 --   first-end, first-size, first-file-size, first-name, first-entry     firstOf, by what the tests found
 --   IsEntry, IsFault, is-end, is-entry, is-fault      what each answer of firstOf tells
@@ -15,6 +14,7 @@ use lib.Dec.{leb, eqb}
 use lib.ListN.{length, take, drop, length-drop}
 use lib.Seq.{length-take-le}
 use borrow.Author.Tests.{leb-true, eqb-true}
+use Rattle.finite.proofs.Tests.{and-both}
 use Rattle.pieces.proofs.CutLaws.{part-to-end}
 use Rattle.entries.specs.Entry.{entrySize, statusOf, fileSizeOf, nameOf, unitsOf, nameAllowed, fileSizeAllowed, entrySizeAllowed, bodyAllowed, entryAllowed, lengthOf}
 use Rattle.entries.specs.Walk.{faultOf, itemOf, firstOf}
@@ -24,10 +24,6 @@ use Rattle.entries.specs.declared.Item.{Item}
 use Rattle.entries.specs.declared.Item.the-variants as item
 
 -- ---- the tests, as facts
-
-pub and-both : (a b : Bool) → (a && b) ≡ true → (a ≡ true) × (b ≡ true)
-and-both true b e = (refl, e)
-and-both false b e = absurd (let z : _≡_ {A = ℕ} 0 1 = cc in omega arith)
 
 pub record Sized (n m : ℕ) : Type 0 where
   pub even : n % 2 ≡ 0

@@ -1,9 +1,10 @@
 -- File numbers: the entry with file number f is the f-th saved one, and numbers go up with the places.
 --
+--   KeptAt f es k j  entry k of es is the one at place j among those that f keeps
 --   keep-at         the entry k that is kept, among those kept, stands after those of the entries before it
 --   number-entry    the entry with a file number is the saved entry of that number
 --   number-range    file numbers are 1 to the number of saved entries
---   number-saved    an entry has a file number where it is saved, and only there
+--   number-saved, number-none     an entry has a file number where it is saved, and only there
 -- Assumes nothing.
 use mathlib.Core.Path.{_≡_, ap, _∙_}
 use mathlib.Core.Bool.{Bool, true, false, cond}

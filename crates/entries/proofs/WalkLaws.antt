@@ -4,7 +4,9 @@
 --   walkFrom t c   the totals t and those of the entries c, where nothing is left after them; or the fault there
 --   walk-start     the walk from no entries at all
 --   walk-more, walk-end, walk-fault    a step of the walk, by what is at the front
+--   Filled s t     the entries of s fill it, and t are their totals
 --   is-filled, walk-count, walk-saved    what a walk to the end tells
+--   Added t u      u is t with one entry more, and at most one saved entry more
 --   add-added      an entry more is one entry more, and one saved entry more at most
 -- Assumes nothing.
 use mathlib.Core.Path.{_≡_, refl, sym, ap, ap₂, _∙_}

@@ -8,6 +8,7 @@
 --   unitAllowed u, nameAllowed us     whether a unit may stand in a name, and whether the units us may be one
 --   entrySizeAllowed n m     whether an entry of n bytes may stand at the front of m bytes
 --   fileSizeAllowed n   whether a listed file may have n bytes
+--   bodyAllowed e       whether what the entry e says, but for its size, keeps the rules
 --   entryAllowed s      whether s begins with an entry that keeps every rule
 --   lengthOf s          the length of the entry that s begins with, 0 where there is none that keeps every rule
 -- Assumes nothing.

@@ -1,5 +1,6 @@
 -- Tests that antt computes, and the equations that follow from them.
 --
+--   and-both               two tests that pass together pass each
 --   bit-cases              what holds of 0 and of 1 holds of each bit
 --   all m f                the test f passes at each number below m
 --   all-at                 a test that passes at each number below m passes at any one
@@ -8,12 +9,18 @@
 --   testBelow m n f g      the test of that
 --   equal-below            where the test passes, f and g are equal
 -- Assumes nothing.
-use mathlib.Core.Path.{_≡_, sym, subst}
-use mathlib.Core.Bool.{Bool, true, false, _&&_}
+use mathlib.Core.Path.{_≡_, refl, sym, subst}
+use mathlib.Core.Bool.{Bool, true, false, _&&_, false≢true}
 use mathlib.Core.Logic.{⊎-elim}
 use Prim.Native.Nat.{ℕ, zero, suc, _<_}
 use native.Mathlib.Nat.{le-of-suc-le-suc, not-suc-le-zero, eq-or-lt-of-le}
 use lib.Dec.{T, eqb, eqb→eq}
+
+-- ---- two tests
+
+pub and-both : (a b : Bool) → (a && b) ≡ true → (a ≡ true) × (b ≡ true)
+and-both true b e = (refl, e)
+and-both false b e = absurd (false≢true e)
 
 -- ---- bits
 

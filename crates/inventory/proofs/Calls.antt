@@ -1,6 +1,8 @@
 -- Laws of the model.
 --
---   after-n                   calls keep the number of files
+--   next-n, after-n, after-size     calls keep the number of files and their sizes
+--   holding t fs vs           the state t with the files fs and the volumes vs present
+--   after-adds                calls that only add
 --   after-told                calls that add what is present, and nothing else, lead to the same state
 --   gives-one, givesAll-one   the model gives one reply at most to each call: it determines each reply
 -- Assumes nothing.
@@ -12,11 +14,11 @@ use native.Mathlib.Omega.{arith}
 use lib.Dec.{eqb}
 use lib.ListN.{drop}
 use borrow.Author.Tests.{eq-eqb, eqb-true}
+use Rattle.finite.proofs.Tests.{and-both}
 use Rattle.parity.specs.Parity.{isFile}
 use Rattle.inventory.specs.Recoverable.{State, isVolume}
 use Rattle.inventory.specs.Model.{Call, addFile, removeFile, addVolume, removeVolume, count, query, Reply, queried, opened, withFiles, withVolumes, insert, remove, next, after, Gives, GivesQuery, GivesMissing, undetermined, noRoom, recoverable, GivesAll}
 use Rattle.inventory.specs.Claim.{addsFile, addsVolume, OnlyAdds, Told}
-use Rattle.inventory.proofs.Tests.{and-true}
 use Rattle.inventory.proofs.Weights.{one-weights}
 
 -- ---- what calls keep
@@ -48,7 +50,7 @@ next-kin t u (addFile f) k =
       same-n = k .same-n;
       same-size = k .same-size;
       files-in-range = insert-in-range (isFile (t .n)) (u .files) f
-          (subst (λ (m : ℕ). isFile m f ≡ true) (k .same-n) (and-true (isFile (u .n) f) (not (u .files f)) e .0)) (k .files-in-range);
+          (subst (λ (m : ℕ). isFile m f ≡ true) (k .same-n) (and-both (isFile (u .n) f) (not (u .files f)) e .0)) (k .files-in-range);
       volumes-in-range = k .volumes-in-range;
     })
 next-kin t u (removeFile f) k =
@@ -56,7 +58,7 @@ next-kin t u (removeFile f) k =
     (λ e. record {
       same-n = k .same-n;
       same-size = k .same-size;
-      files-in-range = λ g h. k .files-in-range g (and-true (not (eqb g f)) (u .files g) h .1);
+      files-in-range = λ g h. k .files-in-range g (and-both (not (eqb g f)) (u .files g) h .1);
       volumes-in-range = k .volumes-in-range;
     })
 next-kin t u (addVolume f) k =
@@ -66,7 +68,7 @@ next-kin t u (addVolume f) k =
       same-size = k .same-size;
       files-in-range = k .files-in-range;
       volumes-in-range = insert-in-range (isVolume (t .n)) (u .volumes) f
-          (subst (λ (m : ℕ). isVolume m f ≡ true) (k .same-n) (and-true (isVolume (u .n) f) (not (u .volumes f)) e .0))
+          (subst (λ (m : ℕ). isVolume m f ≡ true) (k .same-n) (and-both (isVolume (u .n) f) (not (u .volumes f)) e .0))
           (k .volumes-in-range);
     })
 next-kin t u (removeVolume f) k =
@@ -75,7 +77,7 @@ next-kin t u (removeVolume f) k =
       same-n = k .same-n;
       same-size = k .same-size;
       files-in-range = k .files-in-range;
-      volumes-in-range = λ g h. k .volumes-in-range g (and-true (not (eqb g f)) (u .volumes g) h .1);
+      volumes-in-range = λ g h. k .volumes-in-range g (and-both (not (eqb g f)) (u .volumes g) h .1);
     })
 next-kin t u count k = k
 next-kin t u (query f room) k = k

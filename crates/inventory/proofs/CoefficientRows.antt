@@ -5,11 +5,12 @@
 -- Assumes nothing.
 use mathlib.Core.Path.{_≡_, refl, sym, ap, _∙_, subst, fun-ext}
 use mathlib.Core.Bool.{Bool, true, false, not, cond, _&&_, _||_, and-false}
-use Prim.Native.Nat.{ℕ, suc, _<_, _≤_, _-_}
+use Prim.Native.Nat.{ℕ, suc, _<_, _≤_}
 use native.Mathlib.Omega.{arith}
 use native.Mathlib.Decide.{decLt}
 use lib.Dec.{leb}
 use borrow.Author.Tests.{le-leb, lt-leb}
+use Rattle.finite.proofs.Tests.{and-both}
 use Rattle.parity.specs.Coefficient.{coefficient}
 use Rattle.parity.specs.Parity.{isFile}
 use Rattle.parity.proofs.Coefficients.{coefficient-byte}
@@ -20,14 +21,14 @@ use Rattle.volume_weights.specs.Weights.{columnIn, tableOf}
 use Rattle.inventory.specs.Steps.{isInventory, within}
 use Rattle.inventory.specs.Query.{stateOf, Matches}
 use Rattle.inventory.specs.declared.Inventory.{Inventory}
-use Rattle.inventory.proofs.Tests.{and-true, all-at, file-in-range}
+use Rattle.inventory.proofs.Tests.{all-at, file-in-range}
 use Rattle.inventory.proofs.Rows as R
 use Rattle.inventory.proofs.Rows.{mask}
 
 module _ (s : Inventory) (valid : isInventory s ≡ true) where
   pub few-files : s .n ≤ 254
   unfolding isInventory
-  few-files = file-in-range 254 (s .n) (and-true (isFile 254 (s .n)) _ valid .0) .1
+  few-files = file-in-range 254 (s .n) (and-both (isFile 254 (s .n)) _ valid .0) .1
 
   -- the files of size 1 or more are files
   nonempty-file : (g : ℕ) → g < 256 → member (s .nonempty) g ≡ true → isFile (s .n) g ≡ true
@@ -36,8 +37,8 @@ module _ (s : Inventory) (valid : isInventory s ≡ true) where
     where
       both : within (s .n) (s .nonempty) ≡ true
       both =
-          and-true (within (s .n) (s .nonempty)) _
-          (and-true (within (s .n) (s .files)) _ (and-true (isFile 254 (s .n)) _ valid .1) .1) .0
+          and-both (within (s .n) (s .nonempty)) _
+          (and-both (within (s .n) (s .files)) _ (and-both (isFile 254 (s .n)) _ valid .1) .1) .0
 
   -- a file that is not empty and not present is a column
   column-bits : (g : ℕ) → g < 256 → (member (s .nonempty) g && not (member (s .files) g)) ≡ (isFile (s .n) g && (not (member (s .files) g) && member (s .nonempty) g))

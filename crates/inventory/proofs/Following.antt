@@ -15,6 +15,7 @@ use lib.Dec.{leb}
 use lib.ListN.{length, getD, replicate, length-replicate, getD-replicate, List·getD-eq-default}
 use lib.Seq.{ext-getD}
 use borrow.Author.Tests.{leb-false, leb-true, le-leb, lt-leb, eq-eqb, ne-eqb}
+use Rattle.finite.proofs.Tests.{and-both}
 use Rattle.gf256.specs.Polynomial.{sumBelow}
 use Rattle.gf256.specs.Field.{product}
 use Rattle.gf256.proofs.Xor.{xor-assoc}
@@ -31,7 +32,7 @@ use Rattle.elimination.proofs.Solutions.{by-columns}
 use Rattle.elimination.specs.ByteField.{Byte, byte-eq}
 use Rattle.elimination.proofs.ByteField.{sum-value}
 use Rattle.inventory.specs.Recoverable.{State, isVolume, IsContents, place, present, weighted, IsWeights, ComeFrom}
-use Rattle.inventory.proofs.Tests.{and-true, file-range, volume-range}
+use Rattle.inventory.proofs.Tests.{file-range, volume-range}
 use Rattle.inventory.proofs.Rows as R
 use Rattle.inventory.proofs.Rows.{K, mask, cell}
 open Field K using (𝟘, 𝟙, add as _⊕_, mul as _⊗_)
@@ -52,8 +53,8 @@ mask-value false x y h = refl
 
 present-in-range : (t : State) (k : ℕ) → present t k ≡ true → (0 < k) × (k ≤ 255)
 present-in-range t k e =
-    let both = and-true (leb 1 k) (leb k 255 && cond (leb k (t .n)) (t .files k) (t .volumes (k - t .n))) e in
-    (leb-true 1 k (both .0), leb-true k 255 (and-true (leb k 255) (cond (leb k (t .n)) (t .files k) (t .volumes (k - t .n))) (both .1) .0))
+    let both = and-both (leb 1 k) (leb k 255 && cond (leb k (t .n)) (t .files k) (t .volumes (k - t .n))) e in
+    (leb-true 1 k (both .0), leb-true k 255 (and-both (leb k 255) (cond (leb k (t .n)) (t .files k) (t .volumes (k - t .n))) (both .1) .0))
 
 module _ (rule : ℕ → ℕ → ℕ) (small : (f v : ℕ) → f < 256 → rule f v < 256) (t : State) (fits : t .n ≤ 254)
     (X : Contents) (hX : IsContents t X) (f : ℕ) (lf : f < t .n) (missing : t .files (suc f) ≡ false)

@@ -15,6 +15,7 @@ use native.Mathlib.Decide.{ℕ-discrete}
 use lib.Dec.{leb, eqb}
 use lib.ListN.{length, getD}
 use borrow.Author.Tests.{eq-eqb, ne-eqb, lt-leb}
+use Rattle.finite.proofs.Tests.{and-both}
 use Rattle.parity.specs.Parity.{isFile}
 use Rattle.number_sets.specs.Sets.{member, inserted}
 use Rattle.inventory.specs.Recoverable.{State, isVolume}
@@ -24,7 +25,7 @@ use Rattle.inventory.specs.Query.{stateOf}
 use Rattle.inventory.specs.Claim.{Did, Ran, addsFile, addsVolume, OnlyAdds, sizeIn}
 use Rattle.inventory.specs.declared.Inventory.{Inventory}
 use Rattle.inventory.specs.declared.Outcome.{Outcome}
-use Rattle.inventory.proofs.Tests.{and-true, file-in-range, file-range, volume-range}
+use Rattle.inventory.proofs.Tests.{file-in-range, file-range, volume-range}
 use Rattle.number_sets.proofs.Words.{Words, words-same, words-none, words-inserted}
 use Rattle.inventory.proofs.Outcomes.{open-accepted}
 use Rattle.inventory.proofs.Representation.{Represents, opened-represents, within-bits, n-valid, files-valid, nonempty-valid, volumes-valid, nonempty-member, file-more, no-file}
@@ -251,14 +252,14 @@ module _ (s : Inventory) (valid : isInventory s ≡ true) (fw : Words (s .files)
   file-ok : (f : ℕ) → addsFile f calls ≡ true → isFile (s .n) f ≡ true
   unfolding calls
   file-ok f e =
-      let both = and-true (isFile 255 f) (member (s .files) f) (sym (adds-files 255 (member (s .files)) (member (s .volumes)) f) ∙ e) in
+      let both = and-both (isFile 255 f) (member (s .files) f) (sym (adds-files 255 (member (s .files)) (member (s .volumes)) f) ∙ e) in
       let b = file-in-range 255 f (both .0) in
       within-bits (s .n) (s .files) (files-valid s valid) f (omega arith) (both .1)
 
   volume-ok : (v : ℕ) → addsVolume v calls ≡ true → isVolume (s .n) v ≡ true
   unfolding calls
   volume-ok v e =
-      let both = and-true (isFile 255 v) (member (s .volumes) v) (sym (adds-volumes 255 (member (s .files)) (member (s .volumes)) v) ∙ e) in
+      let both = and-both (isFile 255 v) (member (s .volumes) v) (sym (adds-volumes 255 (member (s .files)) (member (s .volumes)) v) ∙ e) in
       let b = file-in-range 255 v (both .0) in
       let n = n-range in
       let r = file-in-range (255 - s .n) v (within-bits (255 - s .n) (s .volumes) (volumes-valid s valid) v (omega arith) (both .1)) in

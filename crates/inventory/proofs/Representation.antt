@@ -18,6 +18,7 @@ use native.Mathlib.Decide.{ℕ-discrete, decLe}
 use lib.Dec.{leb, eqb}
 use lib.ListN.{length, getD, replicate, length-replicate}
 use borrow.Author.Tests.{eq-eqb, ne-eqb, eqb-true, le-leb, lt-leb}
+use Rattle.finite.proofs.Tests.{and-both}
 use Rattle.parity.specs.Coefficient.{coefficient}
 use Rattle.parity.specs.Parity.{isFile}
 use Rattle.number_sets.specs.Sets.{member, inserted, removed, sizeBelow}
@@ -31,7 +32,7 @@ use Rattle.inventory.specs.declared.Inventory.{Inventory}
 use Rattle.inventory.specs.declared.Counted.the-variants as counted
 use Rattle.inventory.specs.declared.Answer.{Answer}
 use Rattle.inventory.specs.declared.Answer.the-variants as answer
-use Rattle.inventory.proofs.Tests.{all-true, all-at, and-true, file-in-range, file-range, volume-in-range}
+use Rattle.inventory.proofs.Tests.{all-true, all-at, file-in-range, file-range, volume-in-range}
 use Rattle.number_sets.proofs.Words.{member-inserted, member-removed, member-none, length-inserted, length-removed}
 use Rattle.inventory.proofs.CoefficientRows.{few-files}
 
@@ -68,27 +69,27 @@ within-inserted m f ws w l r h =
 within-removed : (m f : ℕ) (ws : List ℕ) → length ws ≡ 4 → f < 256 → within m ws ≡ true → within m (removed f ws) ≡ true
 within-removed m f ws w l h =
     within-by m (removed f ws)
-    (λ k b e. within-bits m ws h k b (and-true (not (eqb k f)) (member ws k) (sym (member-removed ws f w l k) ∙ e) .1))
+    (λ k b e. within-bits m ws h k b (and-both (not (eqb k f)) (member ws k) (sym (member-removed ws f w l k) ∙ e) .1))
 
 -- the parts of a valid inventory
 module _ (s : Inventory) (valid : isInventory s ≡ true) where
   pub n-valid : isFile 254 (s .n) ≡ true
   unfolding isInventory
-  n-valid = and-true (isFile 254 (s .n)) _ valid .0
+  n-valid = and-both (isFile 254 (s .n)) _ valid .0
 
   pub files-valid : within (s .n) (s .files) ≡ true
   unfolding isInventory
-  files-valid = and-true (within (s .n) (s .files)) _ (and-true (isFile 254 (s .n)) _ valid .1) .0
+  files-valid = and-both (within (s .n) (s .files)) _ (and-both (isFile 254 (s .n)) _ valid .1) .0
 
   pub nonempty-valid : within (s .n) (s .nonempty) ≡ true
   unfolding isInventory
   nonempty-valid =
-      and-true (within (s .n) (s .nonempty)) _ (and-true (within (s .n) (s .files)) _ (and-true (isFile 254 (s .n)) _ valid .1) .1) .0
+      and-both (within (s .n) (s .nonempty)) _ (and-both (within (s .n) (s .files)) _ (and-both (isFile 254 (s .n)) _ valid .1) .1) .0
 
   pub volumes-valid : within (255 - s .n) (s .volumes) ≡ true
   unfolding isInventory
   volumes-valid =
-      and-true (within (s .n) (s .nonempty)) _ (and-true (within (s .n) (s .files)) _ (and-true (isFile 254 (s .n)) _ valid .1) .1) .1
+      and-both (within (s .n) (s .nonempty)) _ (and-both (within (s .n) (s .files)) _ (and-both (isFile 254 (s .n)) _ valid .1) .1) .1
 
 is-inventory : (s : Inventory) → isFile 254 (s .n) ≡ true → within (s .n) (s .files) ≡ true → within (s .n) (s .nonempty) ≡ true
     → within (255 - s .n) (s .volumes) ≡ true → isInventory s ≡ true
@@ -185,7 +186,7 @@ module _ (size : ℕ → ℕ) (s : Inventory) (R : Represents size (stateOf s si
       (ap (λ (k : ℕ). eqb k 0) (valid-number (isFile (s .n) f) (member (s .files) f))
       ∙ add-accepts (isFile (s .n) f) (member (s .files) f))
       (λ e.
-      let r = and-true (isFile (s .n) f) (not (member (s .files) f)) e .0 in
+      let r = and-both (isFile (s .n) f) (not (member (s .files) f)) e .0 in
       let l = file-below f r in
       with-files (inserted f (s .files)) (insert f (member (s .files))) (length-inserted f (s .files) ∙ R .file-words)
       (within-inserted (s .n) f (s .files) (R .file-words) l r (files-valid s (R .valid)))
@@ -201,7 +202,7 @@ module _ (size : ℕ → ℕ) (s : Inventory) (R : Represents size (stateOf s si
       (ap (λ (k : ℕ). eqb k 0) (valid-number (isFile (s .n) f) (not (member (s .files) f)))
       ∙ remove-accepts (isFile (s .n) f) (member (s .files) f))
       (λ e.
-      let l = file-below f (and-true (isFile (s .n) f) (member (s .files) f) e .0) in
+      let l = file-below f (and-both (isFile (s .n) f) (member (s .files) f) e .0) in
       with-files (removed f (s .files)) (remove f (member (s .files))) (length-removed f (s .files) ∙ R .file-words)
       (within-removed (s .n) f (s .files) (R .file-words) l (files-valid s (R .valid)))
       (member-removed (s .files) f (R .file-words) l))
@@ -216,7 +217,7 @@ module _ (size : ℕ → ℕ) (s : Inventory) (R : Represents size (stateOf s si
       (ap (λ (k : ℕ). eqb k 0) (valid-number (isVolume (s .n) v) (member (s .volumes) v))
       ∙ add-accepts (isVolume (s .n) v) (member (s .volumes) v))
       (λ e.
-      let r = and-true (isVolume (s .n) v) (not (member (s .volumes) v)) e .0 in
+      let r = and-both (isVolume (s .n) v) (not (member (s .volumes) v)) e .0 in
       let l = volume-below v r in
       let b = few in
       with-volumes (inserted v (s .volumes)) (insert v (member (s .volumes))) (length-inserted v (s .volumes) ∙ R .volume-words)
@@ -233,7 +234,7 @@ module _ (size : ℕ → ℕ) (s : Inventory) (R : Represents size (stateOf s si
       (ap (λ (k : ℕ). eqb k 0) (valid-number (isVolume (s .n) v) (not (member (s .volumes) v)))
       ∙ remove-accepts (isVolume (s .n) v) (member (s .volumes) v))
       (λ e.
-      let l = volume-below v (and-true (isVolume (s .n) v) (member (s .volumes) v) e .0) in
+      let l = volume-below v (and-both (isVolume (s .n) v) (member (s .volumes) v) e .0) in
       with-volumes (removed v (s .volumes)) (remove v (member (s .volumes))) (length-removed v (s .volumes) ∙ R .volume-words)
       (within-removed (255 - s .n) v (s .volumes) (R .volume-words) l (volumes-valid s (R .valid)))
       (member-removed (s .volumes) v (R .volume-words) l))
@@ -362,13 +363,13 @@ opened-represents n sizes e =
         → (n ≤ 254) × Represents (sizeIn sizes) (opened n (sizeIn sizes))
         (cond a (cond b (outcome (fresh n sizes) 0) (refusedOpening 1)) (refusedOpening 10) .next)
     go true p true z =
-        let r = and-true (isFile 254 n) (eqb (length sizes) n) p .0 in
+        let r = and-both (isFile 254 n) (eqb (length sizes) n) p .0 in
         let l = file-in-range 254 n r .1 in (
           l,
           record {
             valid = is-inventory (fresh n sizes) r (none n)
                 (within-by n (nonemptyOf sizes n)
-                (λ k b h. and-true (isFile n k) (leb 1 (sizeIn sizes k)) (sym (nonempty-member sizes n (omega arith) k) ∙ h) .0))
+                (λ k b h. and-both (isFile n k) (leb 1 (sizeIn sizes k)) (sym (nonempty-member sizes n (omega arith) k) ∙ h) .0))
                 (none (255 - n));
             state = ap₂ (λ (fs vs : ℕ → Bool). record { n = n; size = sizeIn sizes; files = fs; volumes = vs })
                 (fun-ext (λ k. sym (member-none k))) (fun-ext (λ k. sym (member-none k)));

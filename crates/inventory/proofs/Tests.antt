@@ -3,7 +3,6 @@
 --   all-true      a test that passes at each number passes
 --   all-false     one that fails at some number fails
 --   all-at        where it passes, it passes at each number
---   and-true      two tests taken apart
 --   or-left, or-right        an implication, where its premise is false, or its conclusion true
 --   one-more      what holds below k and at k holds below k + 1
 --   file-in-range, file-range, volume-in-range, volume-range   the ranges of numbers
@@ -11,13 +10,14 @@
 --   volume-by-difference     the range of volume numbers, with no sum
 -- Assumes nothing.
 use mathlib.Core.Path.{_≡_, refl, sym, ap, ap₂, _∙_, subst}
-use mathlib.Core.Bool.{Bool, true, false, not, _&&_, _||_, and-false, false≢true}
+use mathlib.Core.Bool.{Bool, true, false, not, _&&_, _||_, and-false}
 use Prim.Native.Nat.{ℕ, zero, suc, _<_, _≤_, _+_, _-_}
 use native.Mathlib.Nat.{not-suc-le-zero, suc-inj}
 use native.Mathlib.Omega.{arith}
 use native.Mathlib.Decide.{ℕ-discrete, decLe}
 use lib.Dec.{leb, eqb}
 use borrow.Author.Tests.{le-leb, lt-leb, leb-true, eq-eqb, ne-eqb}
+use Rattle.finite.proofs.Tests.{and-both}
 use Rattle.parity.specs.Parity.{isFile}
 use Rattle.inventory.specs.Recoverable.{isVolume}
 use Rattle.inventory.specs.Steps.{allBelow}
@@ -37,17 +37,13 @@ all-false (suc m) test k l h =
       | no q ↦ ap (λ (b : Bool). test m && b) (all-false m test k (omega arith) h) ∙ and-false (test m)
     ]
 
-pub and-true : (a b : Bool) → (a && b) ≡ true → (a ≡ true) × (b ≡ true)
-and-true true b e = (refl, e)
-and-true false b e = absurd (false≢true e)
-
 pub all-at : (m : ℕ) (test : ℕ → Bool) → allBelow m test ≡ true → (k : ℕ) → k < m → test k ≡ true
 unfolding allBelow
 all-at zero test h k l = absurd (not-suc-le-zero l)
 all-at (suc m) test h k l =
     elim (ℕ-discrete k m) [
-      | yes e ↦ ap test e ∙ and-true (test m) (allBelow m test) h .0
-      | no q ↦ all-at m test (and-true (test m) (allBelow m test) h .1) k (omega arith)
+      | yes e ↦ ap test e ∙ and-both (test m) (allBelow m test) h .0
+      | no q ↦ all-at m test (and-both (test m) (allBelow m test) h .1) k (omega arith)
     ]
 
 pub volume-by-difference : (n v : ℕ) → 1 ≤ v → n ≤ 255 → leb v (255 - n) ≡ isVolume n v
@@ -75,12 +71,12 @@ or-right false b e = refl
 
 pub file-in-range : (m f : ℕ) → isFile m f ≡ true → (1 ≤ f) × (f ≤ m)
 file-in-range m f e =
-    let both = and-true (leb 1 f) (leb f m) e in
+    let both = and-both (leb 1 f) (leb f m) e in
     (leb-true 1 f (both .0), leb-true f m (both .1))
 
 pub volume-in-range : (n v : ℕ) → isVolume n v ≡ true → (1 ≤ v) × (v + n ≤ 255)
 volume-in-range n v e =
-    let both = and-true (leb 1 v) (leb (v + n) 255) e in
+    let both = and-both (leb 1 v) (leb (v + n) 255) e in
     (leb-true 1 v (both .0), leb-true (v + n) 255 (both .1))
 
 pub file-range : (m f : ℕ) → 1 ≤ f → f ≤ m → isFile m f ≡ true

@@ -17,6 +17,7 @@ use lib.Dec.{eqb}
 use lib.ListN.{length, getD}
 use lib.Seq.{ext-getD}
 use borrow.Author.Tests.{ne-eqb}
+use Rattle.finite.proofs.Tests.{and-both}
 use Rattle.gf256.specs.Polynomial.{sumBelow}
 use Rattle.gf256.specs.Field.{product}
 use Rattle.gf256.proofs.Polynomials.{sumBelow-same}
@@ -29,7 +30,7 @@ use Rattle.elimination.proofs.Solutions as Solutions
 use Rattle.elimination.specs.ByteField.{Byte, byte-eq}
 use Rattle.elimination.proofs.ByteField.{is-zero, sum-value, δ-value}
 use Rattle.inventory.specs.Recoverable.{State, isVolume, column, place, SumOfLower, Used, weighted, IsWeights}
-use Rattle.inventory.proofs.Tests.{and-true, eqb-suc, file-range, file-in-range, volume-range, volume-in-range}
+use Rattle.inventory.proofs.Tests.{eqb-suc, file-range, file-in-range, volume-range, volume-in-range}
 use Rattle.inventory.proofs.Rows as R
 use Rattle.inventory.proofs.Rows.{K}
 open Field K using (𝟘, 𝟙, add as _⊕_, mul as _⊗_)
@@ -48,7 +49,7 @@ module _ (rule : ℕ → ℕ → ℕ) (small : (f v : ℕ) → f < 256 → rule 
 
   column-file : (i : ℕ) → inColumn i ≡ true → (i < t .n) × (column t (suc i) ≡ true)
   column-file i e =
-      let both = and-true (isFile (t .n) (suc i)) (column t (suc i)) e in
+      let both = and-both (isFile (t .n) (suc i)) (column t (suc i)) e in
       (file-in-range (t .n) (suc i) (both .0) .1, both .1)
 
   -- ---- used volumes
@@ -248,7 +249,7 @@ module _ (rule : ℕ → ℕ → ℕ) (small : (f v : ℕ) → f < 256 → rule 
       where
         go : (b : Bool) → inColumn g ≡ b → sum K rows (λ s. weight s ⊗ matrix s g) .0 ≡ cond b (cond (eqb f (suc g)) 1 0) 0
         go true e =
-            let both = and-true (isFile (t .n) (suc g)) (column t (suc g)) e in
+            let both = and-both (isFile (t .n) (suc g)) (column t (suc g)) e in
             sym (weighted-sum r weight (λ s l. refl) (λ s l h. weight-unused s l (absent-dependent s h)) g e)
             ∙ W .columns (suc g) (both .0) (both .1)
         go false e =

@@ -16,6 +16,7 @@ use lib.Dec.{leb, eqb}
 use lib.ListN.{length, take, drop, length-append, length-take, length-drop, length-map}
 use lib.Seq.{length-take-le}
 use borrow.Author.Tests.{leb-true, eqb-true}
+use Rattle.finite.proofs.Tests.{and-both}
 use Rattle.answers.specs.Writing.{written}
 use Rattle.answers.specs.declared.Writing.the-variants.{Written}
 use Rattle.answers.proofs.WritingLaws.{written-fits}
@@ -27,7 +28,7 @@ use Rattle.entries.specs.declared.Fault.{Fault}
 use Rattle.entries.specs.declared.Fault.the-variants.{Size, FileSize, Name}
 use Rattle.entries.specs.declared.Walked.{Walked}
 use Rattle.entries.specs.declared.Walked.the-variants as walked
-use Rattle.entries.proofs.EntryLaws.{and-both, sized}
+use Rattle.entries.proofs.EntryLaws.{sized}
 use Rattle.entries.proofs.WalkLaws.{walk-count, walk-saved}
 use Rattle.text.specs.Decimal.{decimal}
 use Rattle.text.proofs.DecimalLaws.{decimal-length}

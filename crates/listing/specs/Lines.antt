@@ -5,6 +5,7 @@
 --   refusedLine n       the line of a refused file
 --   headLine v f s      the first line of an accepted file: volume number, entries, saved entries
 --   label st n          the label of an entry with the status st: the file number n, or "-"
+--   lineOf st n k name  the line of an entry with this status, file number, file size and name
 --   entryLine n e       the line of the entry e, whose file number is n if it is saved
 --   savedAfter k st     how many saved entries there are with an entry of the status st more, where there were k
 --   entryLines k es     the lines of the entries es, where k saved ones stand before them

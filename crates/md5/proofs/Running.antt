@@ -1,5 +1,6 @@
 -- A running hash gives the digest of the whole message, however it was cut.
 --
+--   part-to-end    the part of a list from a position to its end, as code takes it
 --   push-state     a push after the message m
 --   run-state      any run of pushes
 --   finish-state   the end after the message m

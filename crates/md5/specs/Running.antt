@@ -1,5 +1,7 @@
 -- A running hash: a message may come in parts, cut anyhow.
 --
+--   tailOf s      the bytes s, then zeros to 64
+--   stateAfter w m n   the state after the message m from the words w on, n bytes being counted
 --   waiting h     the bytes that wait for their block to be full
 --   pushed h bs   the state h after the bytes bs
 --   finished h    the digest that the end of h gives

@@ -4,8 +4,10 @@
 --   member-above                      no number above 255 is in a set
 --   inserted-by-mask, removed-by-mask          bits set and cleared by shift and mask
 --   inserted-above, removed-above              nothing changes for a number above 255
+--   length-inserted, length-removed            there are as many words as before
 --   member-inserted, member-removed, member-none   what is in the set then
 --   size-by-ones                      the counts of ones of the words sum to the size of the set
+--   below-four                        what holds at 0 to 3 holds below 4
 --   Words, words-same                 words of 64 bits; two sets with the same members are the same words
 --   words-none, words-inserted        the words that calls give
 -- Assumes nothing.

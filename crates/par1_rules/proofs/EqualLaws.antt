@@ -1,11 +1,11 @@
 -- The test whether two lists are equal.
 --
---   equal-same, equal-true      it passes for equal lists, and only for them
+--   equal-refl, equal-same, equal-true      it passes for equal lists, and only for them
 --   equal-lengths               it fails where the lengths differ
 --   equal-end, equal-more       the test from a position on
 -- Assumes nothing.
 use mathlib.Core.Path.{_≡_, refl, sym, ap, ap₂, _∙_}
-use mathlib.Core.Bool.{Bool, true, false, _&&_}
+use mathlib.Core.Bool.{true, false, _&&_, and-false}
 use mathlib.Core.List.{List, [], _∷_}
 use Prim.Native.Nat.{ℕ, suc, _+_, _≤_, _<_}
 use native.Mathlib.Numerals.{add-one}
@@ -14,7 +14,7 @@ use lib.Dec.{eqb}
 use lib.ListN.{length, drop, getD, drop-of-length-le}
 use lib.Seq.{drop-cons}
 use borrow.Author.Tests.{eqb-true, eq-eqb}
-use Rattle.entries.proofs.EntryLaws.{and-both}
+use Rattle.finite.proofs.Tests.{and-both}
 use Rattle.par1_rules.specs.Hashes.{equal}
 
 pub equal-refl : (s : List ℕ) → equal s s ≡ true
@@ -32,10 +32,6 @@ equal-true [] (b ∷ t) e = absurd (let z : _≡_ {A = ℕ} 0 1 = cc in omega ar
 equal-true (a ∷ s) [] e = absurd (let z : _≡_ {A = ℕ} 0 1 = cc in omega arith)
 equal-true (a ∷ s) (b ∷ t) e =
     let both = and-both (eqb a b) (equal s t) e in ap₂ _∷_ (eqb-true a b (both .0)) (equal-true s t (both .1))
-
-and-false : (a : Bool) → (a && false) ≡ false
-and-false true = refl
-and-false false = refl
 
 pub equal-lengths : (s t : List ℕ) → (length s ≡ length t → ⊥) → equal s t ≡ false
 unfolding equal

@@ -15,11 +15,11 @@ use native.Mathlib.Omega.{arith}
 use lib.Dec.{leb, eqb}
 use lib.ListN.{length}
 use borrow.Author.Tests.{leb-true, eqb-true, eq-eqb, le-leb, lt-leb}
+use Rattle.finite.proofs.Tests.{and-both}
 use Rattle.entries.specs.Walk.{faultNumber}
 use Rattle.entries.specs.declared.Fault.{Fault}
 use Rattle.entries.specs.declared.Fault.the-variants.{Size, FileSize, Name}
 use Rattle.little_endian.specs.Bytes.{fromLe}
-use Rattle.entries.proofs.EntryLaws.{and-both}
 use Rattle.par1_rules.specs.Layout.{signature, listStartOf, listSizeOf, dataStartOf, dataSizeOf}
 use Rattle.par1_rules.specs.Rules.{test, orElse, lengthAllowed, layoutAllowed}
 

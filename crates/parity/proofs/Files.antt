@@ -13,6 +13,7 @@ use native.Mathlib.Nat.{eq-or-lt-of-le}
 use native.Mathlib.Omega.{arith}
 use lib.Dec.{leb}
 use borrow.Author.Tests.{le-leb, leb-true}
+use Rattle.finite.proofs.Tests.{and-both}
 use Rattle.parity.specs.Once.{count, Once}
 use Rattle.parity.specs.Parity.{isFile}
 use Rattle.parity.proofs.Counts.{count-same, count-other}
@@ -22,13 +23,9 @@ use Rattle.parity.proofs.Counts.{count-same, count-other}
 pub isFile-in : (n f : ℕ) → 0 < f → f ≤ n → isFile n f ≡ true
 isFile-in n f pos h = ap₂ (λ (a b : Bool). a && b) (le-leb 1 f pos) (le-leb f n h)
 
-and-true : (a b : Bool) → (a && b) ≡ true → (a ≡ true) × (b ≡ true)
-and-true true b e = (refl, e)
-and-true false b e = absurd (false≢true e)
-
 pub isFile-inside : (n f : ℕ) → isFile n f ≡ true → (0 < f) × (f ≤ n)
 isFile-inside n f e =
-    let both = and-true (leb 1 f) (leb f n) e in
+    let both = and-both (leb 1 f) (leb f n) e in
     (leb-true 1 f (both .0), leb-true f n (both .1))
 
 -- ---- an order in which to take the files

@@ -8,6 +8,7 @@
 --   cut-count      there are no more pieces than elements
 --   cut-all        what holds of the first piece of any list holds of each piece
 --   cut-some       each piece has an element or more
+--   Nth f s c k    piece k of the cut c of s is the first piece of what remains before it
 --   cut-nth        piece k is the first piece of what remains after the pieces before it
 --   nth-length     its length is what it says there
 --   cut-at-end, cut-at-more          the equations at a position, as a loop over the list meets them

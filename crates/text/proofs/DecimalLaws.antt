@@ -17,6 +17,7 @@ use borrow.Author.Tests.{ltb-true, ltb-false, leb-true, eqb-false, lt-ltb, le-lt
 use lib.ListN.{length, length-append}
 use lib.Seq.{append-snoc}
 use lib.Dec.{leb, ltb, eqb}
+use Rattle.finite.proofs.Tests.{and-both}
 use Rattle.text.specs.Decimal.{digit, decimalIn, decimal, isDigit, allDigits, isDecimal, withDigit, valueOf}
 
 -- ---- decimal, as equations
@@ -128,10 +129,6 @@ decimal-shape zero = refl
 decimal-shape (suc n) = let z = spells (suc n) in decimal-led (decimal (suc n)) (z .digits) (z .led (omega arith))
 
 -- ---- from the digits
-
-and-both : (a b : Bool) → (a && b) ≡ true → (a ≡ true) × (b ≡ true)
-and-both true b e = (refl, e)
-and-both false b e = absurd (false≢true e)
 
 module _ (c : ℕ) (e : isDigit c ≡ true) where
   digit-within : (48 ≤ c) × (c ≤ 57)

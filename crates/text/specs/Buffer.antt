@@ -1,6 +1,7 @@
 -- Text put into a buffer at a position that counts on past the buffer's end.
 --
 --   Buffer       the bytes of a buffer, and the position of the next byte
+--   usizeMax     the greatest position
 --   put b t      b after the text t: what lies inside is written, what lies past the end is only counted
 --   Puts a ts c  c is a after the texts ts, each put by a call of its own
 -- Assumes nothing.

@@ -1,7 +1,11 @@
 -- Numbers in decimal.
 --
+--   digit d        the character of the digit d
+--   digitsBy b n front, decimalIn k n     the digits of n, where b says whether it is one digit; at most k of them
 --   decimal n      the digits of n, the greatest place first, with no leading zero; 0 is "0"
+--   isDigit c, allDigits w     whether a character is a decimal digit, whether all of them are
 --   isDecimal w    w is one or more decimal digits, with no leading zero but in "0" itself
+--   withDigit v c  the number v with one digit more
 --   valueOf w      the number that the digits w spell
 -- `decimal-value`, `decimal-shape` and `value-decimal` (proofs/DecimalLaws) show that decimal and valueOf are inverse to each
 -- other on the words that isDecimal accepts.

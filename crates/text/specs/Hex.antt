@@ -1,5 +1,6 @@
 -- Bytes in hexadecimal, in lower case.
 --
+--   hexDigit d, hexDigitValue c     the character of a digit, and the digit of a character
 --   hexByte b      the two digits of the byte b
 --   hexValue w     the number that the digits w spell
 -- `hex-value` (proofs/HexLaws) shows that the digits of a byte spell it.

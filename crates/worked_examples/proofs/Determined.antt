@@ -10,6 +10,7 @@ use mathlib.Core.Bool.{Bool, true, false, cond, true≢false}
 use Prim.Native.Nat.{ℕ, suc, _<_, _≤_, _-_}
 use native.Mathlib.Omega.{arith}
 use lib.Dec.{eqb}
+use Rattle.finite.proofs.Tests.{and-both}
 use Rattle.gf256.specs.Polynomial.{sumBelow}
 use Rattle.gf256.specs.Field.{product}
 use Rattle.gf256.proofs.Polynomials.{sumBelow-same}
@@ -22,7 +23,7 @@ use Rattle.elimination.proofs.Solutions as Solutions
 use Rattle.elimination.specs.ByteField.{Byte, byte-eq}
 use Rattle.elimination.proofs.ByteField.{is-zero, sum-value, δ-value}
 use Rattle.inventory.specs.Recoverable.{State, column, Recoverable, Used}
-use Rattle.inventory.proofs.Tests.{and-true, eqb-suc, file-in-range}
+use Rattle.inventory.proofs.Tests.{eqb-suc, file-in-range}
 use Rattle.inventory.proofs.Rows as R
 use Rattle.inventory.proofs.Rows.{K}
 use Rattle.inventory.proofs.Recovery as Recovery
@@ -38,7 +39,7 @@ module _ (rule : ℕ → ℕ → ℕ) (small : (f v : ℕ) → f < 256 → rule 
   inColumn i = R.inColumn rule small t fits i
 
   in-file : (i : ℕ) → inColumn i ≡ true → i < t .n
-  in-file i e = file-in-range (t .n) (suc i) (and-true (isFile (t .n) (suc i)) (column t (suc i)) e .0) .1
+  in-file i e = file-in-range (t .n) (suc i) (and-both (isFile (t .n) (suc i)) (column t (suc i)) e .0) .1
 
   -- ---- weights
 
@@ -67,7 +68,7 @@ module _ (rule : ℕ → ℕ → ℕ) (small : (f v : ℕ) → f < 256 → rule 
       where
         go : (b : Bool) → inColumn i ≡ b → sum K m (λ s. w s ⊗ matrix s i) ≡ δ K f i
         go true e =
-            let both = and-true (isFile (t .n) (suc i)) (column t (suc i)) e in
+            let both = and-both (isFile (t .n) (suc i)) (column t (suc i)) e in
             byte-eq (sum K m (λ s. w s ⊗ matrix s i)) (δ K f i)
             (sum-value m (λ s. w s ⊗ matrix s i)
             ∙ sumBelow-same m (λ s. (w s ⊗ matrix s i) .0) (λ s. product (w s .0) (rule (suc i) (suc s))) (λ s l. term s i e)

@@ -11,12 +11,12 @@ use Prim.Native.Nat.{ℕ, zero, suc}
 use lib.Dec.{eqb}
 use lib.ListN.{getD}
 use borrow.Author.Tests.{eqb-true}
+use Rattle.finite.proofs.Tests.{and-both}
 use Rattle.gf256.specs.Polynomial.{coeff, sumBelow, polyProduct, remainder}
 use Rattle.gf256.specs.Field.{product, power}
 use Rattle.parity.specs.Coefficient.{coefficient}
 use Rattle.parity.specs.Parity.{greatest, listBelow, parityByte, parity}
 use Rattle.inventory.specs.Steps.{allBelow}
-use Rattle.inventory.proofs.Tests.{and-true}
 use Rattle.worked_examples.specs.Examples.{contentsOf, volumeOf, Example, Holds, examples, ExamplesHold}
 use Rattle.worked_examples.specs.Examples.Example.{numbers, weights, recoverable, undetermined}
 use Rattle.worked_examples.proofs.Tests.{every}
@@ -36,7 +36,7 @@ same-equal [] [] h = refl
 same-equal [] (b ∷ m) h = absurd (false≢true h)
 same-equal (a ∷ l) [] h = absurd (false≢true h)
 same-equal (a ∷ l) (b ∷ m) h =
-    let both = and-true (eqb a b) (same l m) h in
+    let both = and-both (eqb a b) (same l m) h in
     ap₂ (λ (x : ℕ) (k : List ℕ). x ∷ k) (eqb-true a b (both .0)) (same-equal l m (both .1))
 
 -- ---- the test of a row
@@ -69,8 +69,8 @@ row-holds : (l : List Example) (shown : List (List (List ℕ))) → allPass l sh
 unfolding allPass
 row-holds [] shown h k = refl
 row-holds (e ∷ l) [] h k = absurd (false≢true h)
-row-holds (e ∷ l) (ls ∷ shown) h zero = passes-holds e ls (and-true (passes e ls) (allPass l shown) h .0)
-row-holds (e ∷ l) (ls ∷ shown) h (suc k) = row-holds l shown (and-true (passes e ls) (allPass l shown) h .1) k
+row-holds (e ∷ l) (ls ∷ shown) h zero = passes-holds e ls (and-both (passes e ls) (allPass l shown) h .0)
+row-holds (e ∷ l) (ls ∷ shown) h (suc k) = row-holds l shown (and-both (passes e ls) (allPass l shown) h .1) k
 
 -- what shows each row, in the order of the table
 witnesses : List (List (List ℕ))

@@ -1,5 +1,6 @@
 -- States given by lists of the missing files and of the volumes present: what is recoverable, by tests that antt computes.
 --
+--   ofVolume, sumsAt             the tests of one weight, and of one file
 --   solves, recoverable-by       weights of the first volumes that make a file recoverable: the test, and that they do
 --   cancels, undetermined-by     files whose coefficients cancel in each volume present: the test, and that none of them
 --                                is recoverable
@@ -13,6 +14,7 @@ use native.Mathlib.Decide.{decLt}
 use lib.Dec.{eqb, ltb, leb}
 use lib.ListN.{length, getD, List·getD-eq-default}
 use borrow.Author.Tests.{eqb-true, ltb-true, leb-true, not-true, not-false, le-leb}
+use Rattle.finite.proofs.Tests.{and-both}
 use Rattle.gf256.specs.Polynomial.{sumBelow}
 use Rattle.gf256.specs.Field.{product}
 use Rattle.parity.specs.Coefficient.{coefficient}
@@ -22,7 +24,7 @@ use Rattle.elimination.specs.Field.{Field}
 use Rattle.elimination.specs.ByteField.{Byte, byte-eq}
 use Rattle.inventory.specs.Recoverable.{State, column, Recoverable}
 use Rattle.inventory.specs.Steps.{allBelow}
-use Rattle.inventory.proofs.Tests.{and-true, all-at, file-in-range}
+use Rattle.inventory.proofs.Tests.{all-at, file-in-range}
 use Rattle.inventory.proofs.Rows.{K}
 use Rattle.worked_examples.specs.Examples.{listed, stateOf, NoneEmpty}
 use Rattle.worked_examples.proofs.Determined as Determined
@@ -67,7 +69,7 @@ module _ (n : ℕ) (fits : n ≤ 254) (missing volumes : List ℕ) (files : allL
   is-missing : (g : ℕ) → column t g ≡ true → listed g missing ≡ true
   is-missing g e =
       not-false (listed g missing)
-      (not-true (not (listed g missing)) (and-true (not (not (listed g missing))) (leb 1 (size g)) e .0))
+      (not-true (not (listed g missing)) (and-both (not (not (listed g missing))) (leb 1 (size g)) e .0))
 
   inside : (f : ℕ) → listed (suc f) missing ≡ true → f < n
   inside f e = file-in-range n (suc f) (each-listed (isFile n) missing files (suc f) e) .1
@@ -79,7 +81,7 @@ module _ (n : ℕ) (fits : n ≤ 254) (missing volumes : List ℕ) (files : allL
     at-volume : (s : ℕ) → s < length c → (getD c s 0 < 256) × ((listed (suc s) volumes || eqb (getD c s 0) 0) ≡ true)
     unfolding ofVolume
     at-volume s l =
-        let both = and-true (ltb (getD c s 0) 256) (listed (suc s) volumes || eqb (getD c s 0) 0)
+        let both = and-both (ltb (getD c s 0) 256) (listed (suc s) volumes || eqb (getD c s 0) 0)
         (all-at (length c) (ofVolume volumes c) of-volumes s l) in
         (ltb-true (getD c s 0) 256 (both .0), both .1)
 

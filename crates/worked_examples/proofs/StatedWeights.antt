@@ -18,6 +18,7 @@ use lib.Dec.{eqb, ltb, leb}
 use lib.ListN.{length, getD, replicate, length-append, length-replicate, List·getD-append}
 use lib.Seq.{getD-append-add}
 use borrow.Author.Tests.{eqb-true, ltb-true, leb-true}
+use Rattle.finite.proofs.Tests.{and-both}
 use Rattle.gf256.specs.Polynomial.{sumBelow}
 use Rattle.gf256.specs.Field.{product}
 use Rattle.gf256.proofs.Products.{product-zero-l}
@@ -26,7 +27,7 @@ use Rattle.parity.specs.Parity.{isFile}
 use Rattle.elimination.proofs.Reductions.{zeros-at}
 use Rattle.inventory.specs.Recoverable.{State, isVolume, column, place, Used, weighted, IsWeights}
 use Rattle.inventory.specs.Steps.{allBelow}
-use Rattle.inventory.proofs.Tests.{and-true, all-at, file-in-range, volume-in-range}
+use Rattle.inventory.proofs.Tests.{all-at, file-in-range, volume-in-range}
 use Rattle.worked_examples.proofs.Tests.{every, every-at}
 use Rattle.worked_examples.proofs.Chosen.{usedBy, chosen-used}
 
@@ -97,7 +98,7 @@ module _ (t : State) (f : ℕ) (start : List ℕ) where
       unfolding fileHolds
       at-file zero l = let b = file-in-range (t .n) zero l in absurd (omega arith)
       at-file (suc i) l =
-          let both = and-true (eqb (place w (suc i)) (cond (t .files (suc i)) (firstSum (suc i)) 0))
+          let both = and-both (eqb (place w (suc i)) (cond (t .files (suc i)) (firstSum (suc i)) 0))
           (not (column t (suc i)) || eqb (firstSum (suc i)) (cond (eqb f (suc i)) 1 0))
           (all-at (t .n) (λ i. fileHolds (suc i)) files i (file-in-range (t .n) (suc i) l .1)) in
           (eqb-true (place w (suc i)) (cond (t .files (suc i)) (firstSum (suc i)) 0) (both .0), both .1)
