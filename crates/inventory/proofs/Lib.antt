@@ -10,5 +10,6 @@ mod Queries
 mod Representation
 mod Calls
 pub mod Condition
+pub mod Answered
 pub mod Determined
 pub mod Reachable

@@ -123,7 +123,7 @@ module _ (s : Inventory) (valid : isInventory s ≡ true) (f : ℕ) where
     -- ---- the weights in the room
 
     module _ (ws room′ : List ℕ) (long : 255 ≤ length room) (W : Written (s .n) (s .files) ws room room′ 255)
-        (bytes : (p : ℕ) → getD room′ p 0 < 256) where
+        (bytes : (p : ℕ) → p < 255 → getD room′ p 0 < 256) where
       written : List ℕ
       written = take 255 room′
 
@@ -138,7 +138,7 @@ module _ (s : Inventory) (valid : isInventory s ≡ true) (f : ℕ) where
       written-bytes : (p : ℕ) → getD written p 0 < 256
       written-bytes p =
           elim (decLt p 255) [
-            | yes l ↦ subst (λ (x : ℕ). x < 256) (sym (written-at p l)) (bytes p)
+            | yes l ↦ subst (λ (x : ℕ). x < 256) (sym (written-at p l)) (bytes p l)
             | no q ↦
                 subst (λ (x : ℕ). x < 256) (sym (List·getD-eq-default written 0 (omega (arith, written-long)))) (omega arith)
           ]

@@ -11,6 +11,7 @@
 --   sizeIn sizes f            the size of file f in the sizes of an opening
 --   Condition n size o cs rs s     what holds after the calls cs on the inventory o opened for n files of these sizes
 --   Condition3                the whole claim: it holds for every accepted opening and every list of calls
+--   Answered                  every list of calls has its replies, on whatever inventory
 -- Sentences in quotation marks are document 01's, or the tender's condition 3.
 -- Assumes nothing.
 use mathlib.Core.Path.{_≡_}
@@ -127,3 +128,8 @@ Condition3 =
     (n : ℕ) (sizes : List ℕ) → openStep n sizes .number ≡ 0
     → (cs : List Call) (rs : List Reply) (s : Inventory) → Ran (openStep n sizes .next) cs rs s
     → Condition n (sizeIn sizes) (openStep n sizes .next) cs rs s
+
+-- every list of calls is answered, on whatever inventory: what Condition3 speaks of is there;
+-- proved: proofs/Answered.antt, `answered`
+abbrev pub Answered : Type 0
+Answered = (s : Inventory) (cs : List Call) → (rs : List Reply) × (e : Inventory) × Ran s cs rs e

@@ -1,5 +1,6 @@
 -- The laws of the parity of contents, over any rule for the coefficients.
 --
+--   listBelow-at               a list by a rule, entry by entry
 --   length-parity, parity-at   the parity, byte by byte
 --   file-le-greatest           no file is longer than the greatest size
 --   parityByte-end             past the greatest size the parity is 0
@@ -23,7 +24,7 @@ unfolding listBelow
 length-listBelow zero f = refl
 length-listBelow (suc m) f = ap suc (length-listBelow m (λ p. f (suc p)))
 
-listBelow-at : (m : ℕ) (f : ℕ → ℕ) (p : ℕ) → p < m → getD (listBelow m f) p 0 ≡ f p
+pub listBelow-at : (m : ℕ) (f : ℕ → ℕ) (p : ℕ) → p < m → getD (listBelow m f) p 0 ≡ f p
 unfolding listBelow
 listBelow-at zero f p h = absurd (not-suc-le-zero h)
 listBelow-at (suc m) f zero h = refl

@@ -96,7 +96,7 @@ returns-6 c =
     let s = tested .before .solve in
     let w = c .before .before .write in
     query-recoverable (a .self) valid (a .file) ranged missing (a .out .now) (s .result .weights) (w .last .1 .1 .1 .0) (c .before .before .before .before .before .before .if5 .left)
-    (w .ensures) (λ p. omega (arith, c .slice-known2 .given p)) (s .result .found) (s .ensures) (not-false (s .result .found) (tested .if4 .left))
+    (w .ensures) (λ p l. omega (arith, c .slice-known2 .given p)) (s .result .found) (s .ensures) (not-false (s .result .found) (tested .if4 .left))
 
 pub query-spec : {M : Type 1} → statement M
 query-spec =
