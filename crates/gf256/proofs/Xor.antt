@@ -2,7 +2,6 @@
 --
 --   xor-assoc, xor-swap       grouping
 --   xor-twice, xor-equal      a summand taken twice is gone; a sum is 0 only where its terms are equal
---   xor-cancel                a common summand cancels
 --   xor-byte                  the sum of two bytes is a byte
 --   xor-shift                 shifts distribute over sums
 -- Assumes nothing.
@@ -59,9 +58,6 @@ xor-swap a b c d =
 
 pub xor-twice : (a b : ℕ) → bitXor a (bitXor a b) ≡ b
 xor-twice a b = sym (xor-assoc a a b) ∙ ap (λ (x : ℕ). bitXor x b) (xor-self a)
-
-pub xor-cancel : (a b c : ℕ) → bitXor a b ≡ bitXor a c → b ≡ c
-xor-cancel a b c e = sym (xor-twice a b) ∙ ap (bitXor a) e ∙ xor-twice a c
 
 pub xor-equal : (a b : ℕ) → bitXor a b ≡ 0 → a ≡ b
 xor-equal a b e = sym (xor-zero-r a) ∙ ap (bitXor a) (sym e) ∙ xor-twice a b

@@ -5,7 +5,7 @@
 --   leAt-lt        a number of k bytes is below 256 ^ k
 --   leAt-out       past the end it is 0
 --   leAt-same      lists with the same bytes there have the same number there
---   leAt-drop, leAt-take, leAt-append, leAt-append-add   a number of a part, and of two lists in a row
+--   leAt-drop, leAt-append   a number of a part, and of the first of two lists in a row
 --   to-leAt        the bytes of the number there are the bytes there
 --   read-halves    a number of k + k bytes from its halves, where places stop at a last one past the end
 -- Assumes nothing.
@@ -15,7 +15,7 @@ use native.Mathlib.Nat.{pow-zero, pow-suc, pow-succ', zero-add, add-zero, suc-ad
 use native.Mathlib.Omega.{arith}
 use mathlib.Core.List.{List, [], _∷_, _++_}
 use lib.ListN.{length, take, drop, getD, length-drop, drop-of-length-le, List·getD-append}
-use lib.Seq.{take-nil, drop-drop, getD-take, drop-append-add, length-take-le}
+use lib.Seq.{take-nil, drop-drop, length-take-le}
 use Rattle.little_endian.specs.Bytes.{Bytes, fromLe, toLe, leAt}
 use Rattle.little_endian.proofs.Numbers.{bytes-take, bytes-drop, to-from}
 use Rattle.little_endian.proofs.Past.{at-min}
@@ -58,15 +58,8 @@ pub leAt-drop : (k : ℕ) (s : List ℕ) (i j : ℕ) → leAt k (drop i s) j ≡
 unfolding leAt
 leAt-drop k s i j = rw drop-drop
 
-pub leAt-take : (k : ℕ) (s : List ℕ) (i n : ℕ) → i + k ≤ n → leAt k (take n s) i ≡ leAt k s i
-leAt-take k s i n h = leAt-same k (take n s) s i (λ p from to. getD-take n s p 0 (omega arith))
-
 pub leAt-append : (k : ℕ) (s t : List ℕ) (i : ℕ) → i + k ≤ length s → leAt k (s ++ t) i ≡ leAt k s i
 leAt-append k s t i h = leAt-same k (s ++ t) s i (λ p from to. List·getD-append s t 0 p (omega arith))
-
-pub leAt-append-add : (k : ℕ) (s t : List ℕ) (i : ℕ) → leAt k (s ++ t) (length s + i) ≡ leAt k t i
-unfolding leAt
-leAt-append-add k s t i = rw drop-append-add
 
 pub to-leAt : (k : ℕ) (s : List ℕ) (i : ℕ) → Bytes s → i + k ≤ length s → toLe k (leAt k s i) ≡ take k (drop i s)
 unfolding leAt

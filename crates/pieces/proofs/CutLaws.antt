@@ -7,11 +7,8 @@
 --   cut-length     the lengths of the pieces joined and of the rest add up to that of the list
 --   cut-count      there are no more pieces than elements
 --   cut-all        what holds of the first piece of any list holds of each piece
---   cut-some       each piece has an element or more
 --   Nth f s c k    piece k of the cut c of s is the first piece of what remains before it
 --   cut-nth        piece k is the first piece of what remains after the pieces before it
---   nth-length     its length is what it says there
---   cut-at-end, cut-at-more          the equations at a position, as a loop over the list meets them
 --   part-to-end    the part of a list from a position to its end, as code takes it
 -- Assumes nothing.
 use mathlib.Core.Path.{_≡_, refl, sym, ap, _∙_, subst}
@@ -20,8 +17,8 @@ use mathlib.Core.List.{List, [], _∷_, _++_, append-assoc, flatten}
 use Prim.Native.Nat.{ℕ, zero, suc, _+_, _-_, _≤_, _<_}
 use native.Mathlib.Nat.{le-refl}
 use native.Mathlib.Omega.{arith}
-use lib.ListN.{length, take, drop, getD, length-append, length-take, length-drop, take-append-drop, drop-of-length-le}
-use lib.Seq.{take-all, drop-drop, drop-append-add}
+use lib.ListN.{length, take, drop, getD, length-append, length-drop, take-append-drop}
+use lib.Seq.{take-all, drop-append-add}
 use Rattle.pieces.specs.Pieces.{Cut, none, before, ifZero, cutIn, cut, after, All, all-none, all-more}
 
 -- ---- cut, as equations
@@ -120,9 +117,6 @@ pub cut-all : (f : List ℕ → ℕ) (P : List ℕ → Type 0) → ((s : List �
 cut-all f P first =
     cut-induct f (λ s c. All P (c .pieces)) all-none (λ s e. all-none) (λ s h k e. all-more (first s h k) e)
 
-pub cut-some : (f : List ℕ → ℕ) (s : List ℕ) → All (λ p. 0 < length p) (cut f s .pieces)
-cut-some f = cut-all f (λ p. 0 < length p) (λ s h k. omega (arith, length-take (f s) s))
-
 -- what remains after a first piece and the pieces ps
 after-more : (n : ℕ) (ps : List (List ℕ)) (s : List ℕ) → after (take n s ∷ ps) s ≡ after ps (drop n s)
 unfolding flatten
@@ -150,24 +144,9 @@ module _ (f : List ℕ → ℕ) where
       cut-induct f (λ s c. (k : ℕ) → k < length (c .pieces) → Nth f s c k) (λ k h. absurd (omega arith))
       (λ s e k h. absurd (omega arith)) (λ s h g e. nth-more s _ g e)
 
-  pub nth-length : {s : List ℕ} {c : Cut} {k : ℕ} → ((t : List ℕ) → f t ≤ length t) → Nth f s c k
-      → length (getD (c .pieces) k []) ≡ f (after (take k (c .pieces)) s)
-  nth-length {s} {c} {k} within n =
-      let r : List ℕ = after (take k (c .pieces)) s in
-      omega (arith, ap length (n .taken), length-take (f r) r, within r)
-
 -- ---- at a position of a list
 
 pub part-to-end : (s : List ℕ) (at : ℕ) → take (length s - at) (drop at s) ≡ drop at s
 part-to-end s at = take-all (length s - at) (drop at s) (omega (arith, length-drop at s))
 
 module _ (f : List ℕ → ℕ) (s : List ℕ) (at : ℕ) where
-  pub cut-at-end : length s ≤ at → cut f (drop at s) ≡ none []
-  cut-at-end h = ap (cut f) (drop-of-length-le s h) ∙ cut-none f
-
-  pub cut-at-more : {n : ℕ} → at < length s → f (drop at s) ≡ n → 0 < n
-      → cut f (drop at s) ≡ before (take n (drop at s)) (cut f (drop (at + n) s))
-  cut-at-more {n} h e g =
-      cut-more f (drop at s) (omega (arith, length-drop at s)) (omega arith)
-      ∙ ap (λ (k : ℕ). before (take k (drop at s)) (cut f (drop k (drop at s)))) e
-      ∙ ap (λ (t : List ℕ). before (take n (drop at s)) (cut f t)) (drop-drop n at s)

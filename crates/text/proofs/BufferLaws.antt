@@ -1,13 +1,13 @@
 -- What puts leave in a buffer.
 --
 --   put-nil, put-append          no text, and one text after another
---   put-length, put-position     a put keeps the buffer's length, and moves on alike on every buffer
+--   put-length                   a put keeps the buffer's length
 --   put-within, put-beyond       a text that lies inside the buffer, and one that lies past its end
 --   put-measure, put-whole       from the start: on an empty buffer, and on one that the text fits into
 --   put-rest, put-then           what a loop and a pair of calls need of put-append
---   puts, puts-measure           calls in a row put their texts joined, and end at the same position on every buffer
+--   puts                         calls in a row put their texts joined
 -- Assumes nothing.
-use mathlib.Core.Path.{_≡_, refl, sym, ap, ap₂, _∙_}
+use mathlib.Core.Path.{_≡_, sym, ap, ap₂, _∙_}
 use mathlib.Core.List.{List, [], _++_, append-nil, flatten}
 use Prim.Native.Nat.{ℕ, _+_, _≤_, min}
 use native.Mathlib.Nat.{zero-add}
@@ -26,10 +26,6 @@ put-nil l at h = ap (buffer l) (omega arith)
 pub put-length : (b : Buffer) (t : List ℕ) → length (put b t .bytes) ≡ length (b .bytes)
 unfolding put
 put-length b t = length-sets (b .bytes) _ t
-
-pub put-position : (l m : List ℕ) (at : ℕ) (t : List ℕ) → put (buffer l at) t .at ≡ put (buffer m at) t .at
-unfolding put
-put-position l m at t = refl
 
 pub put-within : (l : List ℕ) (at : ℕ) (t : List ℕ) → at + length t ≤ length l → length l ≤ usizeMax
     → put (buffer l at) t ≡ buffer (take at l ++ t ++ drop (at + length t) l) (at + length t)
@@ -69,8 +65,3 @@ unfolding flatten
 puts (last {a} {b} {t} e) h = e ∙ ap (put a) (sym (append-nil t))
 puts (then {a} {b} {c} {t} {ts} e p) h =
     puts p (omega (arith, ap (λ (d : Buffer). length (d .bytes)) e, put-length a t)) ∙ put-rest a t (flatten ts) h e
-
-pub puts-measure : {l m : List ℕ} {at : ℕ} {ts : List (List ℕ)} {b c : Buffer} → Puts (buffer l at) ts b → Puts (buffer m at) ts c
-    → length l ≤ usizeMax → length m ≤ usizeMax → b .at ≡ c .at
-puts-measure {l} {m} {at} {ts} p q h k =
-    ap (λ (d : Buffer). d .at) (puts p h) ∙ put-position l m at (flatten ts) ∙ sym (ap (λ (d : Buffer). d .at) (puts q k))
