@@ -11,6 +11,8 @@ use lib.Dec.{leb, eqb}
 use lib.ListN.{length, take, drop, length-append}
 use lib.Seq.{take-append-seam, drop-append-seam}
 use borrow.Author.Tests.{leb-true, eqb-true, eq-eqb, le-leb}
+use Rattle.answers.proofs.WritingLaws.{unless-tells}
+use Rattle.finite.proofs.Tests.{and-both}
 use Rattle.pieces.specs.Pieces.{before}
 use Rattle.little_endian.specs.Bytes.{toLe}
 use Rattle.little_endian.proofs.Numbers.{length-toLe}
@@ -19,7 +21,7 @@ use Rattle.md5.specs.Digest.{md5}
 use Rattle.entries.specs.Entry.{entrySize, statusOf, fileSizeOf, md5Of, md5Of16k, nameOf, unitsOf, nameAllowed, fileSizeAllowed, entrySizeAllowed}
 use Rattle.entries.specs.Walk.{firstOf, entriesOf}
 use Rattle.entries.specs.declared.Item.the-variants.{Entry}
-use Rattle.entries.proofs.EntryLaws.{and-both, first-entry, is-entry}
+use Rattle.entries.proofs.EntryLaws.{first-entry, is-entry}
 use Rattle.entries.proofs.WalkLaws.{entries-more}
 use Rattle.par1_rules.specs.Hashes.{md5First}
 use Rattle.par1.specs.Claim.{EntryBack, EntryWritten}
@@ -30,7 +32,6 @@ use Rattle.par1_write.proofs.EntryWritingLaws.{length-entry, entry-passed}
 use Rattle.par1_rules.proofs.EqualLaws.{equal-same}
 use Rattle.par1_rules.proofs.HashLaws.{length-md5}
 use Rattle.par1_rules.proofs.PartLaws.{At, at-part, at-next, at-number, at-last}
-use Rattle.par1_write.proofs.WritingLaws.{write-tells}
 
 -- ---- the fields of the bytes of an entry, and of what follows
 
@@ -123,10 +124,11 @@ pub entry-written : EntryWritten
 unfolding writeEntryOf
 entry-written m status name out n room few e =
     let s : List ℕ = entryBytes m status name in
-    let told = write-tells (entryRefusal (length m) status name (length out)) s out e in
-    let passed = entry-passed (length m) status name (length out) (told .none) in
+    let told = unless-tells (entryRefusal (length m) status name) s out e in
+    let passed = entry-passed (length m) status name (told .none) in
     let status-small : status ≤ 3 = leb-true status 3 (passed .status-right) in
     let short : length m ≤ 16777216 = leb-true (length m) 16777216 (passed .size-right) in
-    let d = entry-fields m status name (omega arith) (omega arith) (omega (arith, passed .fits)) in
-    let back = entry-back (length-entry m status name) d (named-right name (passed .name-right)) (passed .size-right) in
+    let size : length s ≡ 56 + length name = length-entry m status name in
+    let d = entry-fields m status name (omega arith) (omega arith) (omega (arith, told .fits)) in
+    let back = entry-back size d (named-right name (passed .name-right)) (passed .size-right) in
     subst (λ (l : List ℕ). EntryBack l m status name) (sym (told .written-is)) back

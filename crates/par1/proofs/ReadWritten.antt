@@ -10,6 +10,7 @@ use mathlib.Core.List.{List}
 use Prim.Native.Nat.{ℕ, _+_, _^_, _<_}
 use native.Mathlib.Omega.{arith}
 use lib.ListN.{length, take}
+use Rattle.answers.proofs.WritingLaws.{unless-tells}
 use Rattle.pieces.proofs.CutLaws.{cut-count}
 use Rattle.entries.specs.Entry.{lengthOf}
 use Rattle.entries.specs.Walk.{entriesOf, walkOf}
@@ -28,29 +29,28 @@ use Rattle.par1_rules.proofs.RuleLaws.{Between, fault-some}
 use Rattle.par1.specs.Claim.{VolumeWritten, partsFor, ReadWritten}
 use Rattle.par1.proofs.VolumeFields.{Fields, volume-fields}
 use Rattle.par1_write.proofs.VolumeWritingLaws.{VolumePassed, volume-passed, length-volume}
-use Rattle.par1_write.proofs.WritingLaws.{write-tells}
 
 pub volume-written : VolumeWritten
 unfolding writeVolumeOf
 volume-written program number list area out n room e =
-    write-tells (walkRefusal number (walkOf list) (length list) (length area) (length out)) (volumeBytes program number list area) out e .written-is
+    unless-tells (walkRefusal number (walkOf list) (length list) (length area)) (volumeBytes program number list area) out e .written-is
 
 -- the list of a written volume was walked to its end
-pub record ListPassed (number : ℕ) (list : List ℕ) (area room : ℕ) : Type 0 where
+pub record ListPassed (number : ℕ) (list : List ℕ) (area : ℕ) : Type 0 where
   pub totals-of : Totals
   pub walk-is : walkOf list ≡ walked.Entries totals-of
-  pub tests : VolumePassed number totals-of (length list) area room
+  pub tests : VolumePassed number totals-of (length list) area
 
-pub list-passed : (number : ℕ) (list : List ℕ) (area room : ℕ) → walkRefusal number (walkOf list) (length list) area room ≡ 0
-    → ListPassed number list area room
-list-passed number list area room e = by (walkOf list) refl e
+pub list-passed : (number : ℕ) (list : List ℕ) (area : ℕ) → walkRefusal number (walkOf list) (length list) area ≡ 0
+    → ListPassed number list area
+list-passed number list area e = by (walkOf list) refl e
   where
-    by : (w : Walked) → w ≡ walkOf list → walkRefusal number w (length list) area room ≡ 0 → ListPassed number list area room
-    by (walked.Entries t) w e = record { totals-of = t; walk-is = sym w; tests = volume-passed number t (length list) area room e }
+    by : (w : Walked) → w ≡ walkOf list → walkRefusal number w (length list) area ≡ 0 → ListPassed number list area
+    by (walked.Entries t) w e = record { totals-of = t; walk-is = sym w; tests = volume-passed number t (length list) area e }
     by (walked.Fault k) w e = absurd (omega (arith, fault-some k))
 
 -- a file with the fields of a written volume passes the tests of reading
-module _ {number : ℕ} {list : List ℕ} (area : List ℕ) {room : ℕ} (accepted : ListPassed number list (length area) room)
+module _ {number : ℕ} {list : List ℕ} (area : List ℕ) (accepted : ListPassed number list (length area))
     (f : List ℕ) (program : ℕ) {body : List ℕ} (d : Fields f program body (length (entriesOf list .pieces)) number list area)
     (size : length f ≡ 96 + length list + length area) where
   written-header : HeaderPassed f
@@ -92,8 +92,8 @@ module _ {number : ℕ} {list : List ℕ} (area : List ℕ) {room : ℕ} (accept
 pub read-written : ReadWritten
 unfolding writeVolumeOf volumeBytes
 read-written program number p v list area out n room e =
-    let told = write-tells (walkRefusal number (walkOf list) (length list) (length area) (length out)) (volumeBytes program number list area) out e in
-    let accepted = list-passed number list (length area) (length out) (told .none) in
+    let told = unless-tells (walkRefusal number (walkOf list) (length list) (length area)) (volumeBytes program number list area) out e in
+    let accepted = list-passed number list (length area) (told .none) in
     let f : List ℕ = take n room in
     let size : length f ≡ 96 + length list + length area = ap length (told .written-is) ∙ length-volume program number list area in
     let few : length (entriesOf list .pieces) < 2 ^ 64 = omega (arith, cut-count lengthOf list, accepted .tests .size .high) in

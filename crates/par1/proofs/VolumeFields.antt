@@ -4,11 +4,11 @@
 --   volume-fields    the header of a written volume
 -- Assumes nothing.
 use mathlib.Core.Path.{_≡_, refl, ap, _∙_}
-use mathlib.Core.List.{List, [], _∷_, _++_}
+use mathlib.Core.List.{List, [], _∷_, _++_, flatten}
 use Prim.Native.Nat.{ℕ, _+_, _^_, _<_}
 use native.Mathlib.Omega.{arith}
 use lib.ListN.{length, take, drop}
-use Rattle.little_endian.specs.Bytes.{toLe}
+use Rattle.little_endian.specs.Bytes.{toLe, numbers}
 use Rattle.little_endian.proofs.Numbers.{length-toLe}
 use Rattle.md5.specs.Digest.{md5}
 use Rattle.entries.specs.Walk.{entriesOf}
@@ -41,7 +41,7 @@ pub volume-fields : (f : List ℕ) (program n number : ℕ) (list area : List �
     → f ≡ headBytes program (bodyBytes n number list area) ++ bodyBytes n number list area
     → program < 2 ^ 32 → number < 2 ^ 64 → n < 2 ^ 64 → 96 + length list + length area < 2 ^ 64
     → Fields f program (bodyBytes n number list area) n number list area
-unfolding headBytes bodyBytes numberBytes
+unfolding headBytes bodyBytes numbers flatten
 volume-fields f program n number list area e p v k size =
     let body : List ℕ = bodyBytes n number list area in
     let at0 : At f 0 (toLe 8 signature ∷ toLe 4 version ∷ toLe 4 program ∷ md5 body ∷ body ∷ []) =

@@ -3,13 +3,15 @@
 --   volume-again     the bytes of the volume that is made of the parts of an accepted file
 --   written-read     writing it
 -- Assumes nothing.
-use mathlib.Core.Path.{_≡_, sym, ap, _∙_, subst}
+use mathlib.Core.Path.{_≡_, refl, sym, ap, _∙_, subst}
 use mathlib.Core.List.{List, [], _∷_, _++_, append-assoc, append-nil, flatten}
 use Prim.Native.Nat.{ℕ, _+_, _≤_}
 use native.Mathlib.Omega.{arith}
 use lib.ListN.{length, take, drop, length-drop}
 use lib.Seq.{length-take-le, take-all}
-use Rattle.little_endian.specs.Bytes.{Bytes, toLe}
+use Rattle.answers.specs.declared.Writing.the-variants.{Written}
+use Rattle.answers.proofs.WritingLaws.{written-fits, unless-none}
+use Rattle.little_endian.specs.Bytes.{Bytes, toLe, numbers}
 use Rattle.entries.specs.declared.Totals.{Totals}
 use Rattle.entries.specs.declared.Walked.{Walked}
 use Rattle.entries.proofs.WalkLaws.{walk-count}
@@ -18,15 +20,13 @@ use Rattle.par1_rules.specs.Layout.{signature, version, programOf, hashedOf, nu
 use Rattle.par1_rules.specs.Hashes.{setHash}
 use Rattle.par1_rules.specs.Rules.{dataAllowed}
 use Rattle.par1_read.specs.Reading.{entriesIn}
-use Rattle.par1_write.specs.VolumeWriting.{numberBytes, bodyBytes, headBytes, volumeBytes, walkRefusal, writeVolumeOf}
+use Rattle.par1_write.specs.VolumeWriting.{bodyBytes, headBytes, volumeBytes, walkRefusal, writeVolumeOf}
 use Rattle.par1_read.specs.declared.reading.Parts.{Parts}
-use Rattle.par1_write.specs.declared.writing.Writing.the-variants.{Written}
 use Rattle.par1.specs.Claim.{WrittenRead}
 use Rattle.par1_rules.proofs.PartLaws.{split, split-number}
 use Rattle.par1_read.proofs.ReadingLaws.{Passed, read-tells}
 use Rattle.par1_rules.proofs.RuleLaws.{Between}
 use Rattle.par1_write.proofs.VolumeWritingLaws.{volume-none}
-use Rattle.par1_write.proofs.WritingLaws.{outcome-written}
 
 nested-head : (a b c d e : List ℕ) → flatten (a ∷ b ∷ c ∷ d ∷ []) ++ e ≡ a ++ (b ++ (c ++ (d ++ e)))
 unfolding flatten
@@ -53,7 +53,7 @@ module _ (f : List ℕ) (bytes : Bytes f) (tests : Passed f) where
   count = sym (walk-count (listOf f) (tests .walk-is)) ∙ tests .totals .count-is
 
   body-again : bodyBytes (length (entriesIn f)) (numberOf f) (listOf f) (dataOf f) ≡ hashedOf f
-  unfolding bodyBytes numberBytes
+  unfolding bodyBytes numbers flatten
   body-again =
       let l : List ℕ = listOf f in
       let area : List ℕ = dataOf f in
@@ -89,15 +89,17 @@ module _ (f : List ℕ) (bytes : Bytes f) (tests : Passed f) where
       let s : List ℕ = volumeBytes (programOf f) (numberOf f) (listOf f) (dataOf f) in
       let size : 96 + l + d ≡ length f = omega (arith, list-length, data-length, tests .header .layout .data-start, tests .header .layout .data-end) in
       let right =
-      volume-none (numberOf f) t l d (length out)
+      volume-none (numberOf f) t l d
       (record {
         number-right = tests .totals .number-right;
         data-right = ap (dataAllowed (numberOf f) (t .greatest)) data-length ∙ tests .totals .data-right;
         size = subst Between (sym size) (tests .header .size);
-        fits = omega arith;
       }) in
-      let none = ap (λ (w : Walked). walkRefusal (numberOf f) w l d (length out)) (tests .walk-is) ∙ right in
-      sym (outcome-written s out none (ap length (sym volume-again)) (ap (λ (u : List ℕ). u ++ drop (length u) out) (sym volume-again)))
+      let none = ap (λ (w : Walked). walkRefusal (numberOf f) w l d) (tests .walk-is) ∙ right in
+      let again : f ≡ s = sym volume-again in
+      let fits : length s ≤ length out = omega (arith, ap length again) in
+      sym
+      (unless-none s out (sym none) refl (written-fits s out fits (ap length again) (ap (λ (u : List ℕ). u ++ drop (length u) out) again)))
 
 -- an accepted file, written from what reading gave, into room that holds it
 pub written-read : WrittenRead

@@ -13,6 +13,7 @@ use mathlib.Core.Path.{_≡_}
 use mathlib.Core.List.{List, _++_}
 use Prim.Native.Nat.{ℕ, _+_, _^_, _<_, _≤_}
 use lib.ListN.{length, take, drop}
+use Rattle.answers.specs.declared.Writing.the-variants.{Written}
 use Rattle.pieces.specs.Pieces.{before}
 use Rattle.little_endian.specs.Bytes.{Bytes}
 use Rattle.entries.specs.Entry.{md5Of, md5Of16k, nameOf}
@@ -27,7 +28,6 @@ use Rattle.par1_read.specs.declared.reading.Parts.{Parts}
 use Rattle.par1_read.specs.declared.reading.Reading.the-variants.{Accepted}
 use Rattle.par1_write.specs.VolumeWriting.{volumeBytes, writeVolumeOf}
 use Rattle.par1_write.specs.EntryWriting.{writeEntryOf}
-use Rattle.par1_write.specs.declared.writing.Writing.the-variants.{Written}
 use Rattle.par1.specs.Checking.{checkOf}
 
 -- ---- "A volume written is, byte by byte, the one that Par 1.0, RFC 1321 and document 01 define."

@@ -2,10 +2,10 @@
 // (document 01, "What comes back").
 mod checking;
 
+pub use answers::Writing;
 pub use checking::check;
 pub use par1_read::Parts;
 pub use par1_read::Reading;
 pub use par1_read::read;
-pub use par1_write::Writing;
 pub use par1_write::write_entry;
 pub use par1_write::write_volume;

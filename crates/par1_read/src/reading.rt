@@ -63,16 +63,16 @@ fn header_refusal(file: &[u8]) -> u32
     ensures { λ r. ⌜ r ≡ headerRefusal (now (file .entry)) ⌝ }
 {
     if !rules::length_allowed(file.len()) {
-        return 1;
+        return answers::SIZE;
     }
     if little_endian::read64(file, 0) != layout::SIGNATURE {
-        return 2;
+        return answers::SIGNATURE;
     }
     if !rules::version_allowed(little_endian::read32(file, layout::VERSION_AT)) {
-        return 3;
+        return answers::VERSION;
     }
     if !rules::layout_allowed(file) {
-        return 4;
+        return answers::LAYOUT;
     }
     0
 }
@@ -86,7 +86,7 @@ fn control_refusal(file: &[u8]) -> u32
         &file[layout::CONTROL_HASH_AT..layout::SET_HASH_AT],
         &file[layout::SET_HASH_AT..],
     ) {
-        return 5;
+        return answers::CONTROL_HASH;
     }
     0
 }
@@ -108,21 +108,21 @@ fn totals_refusal(file: &[u8], list: &[u8], totals: Totals) -> u32
     ensures { λ r. ⌜ r ≡ totalsRefusal (now (file .entry)) totals ⌝ }
 {
     if totals.entries != little_endian::read64(file, layout::COUNT_AT) {
-        return 6;
+        return answers::ENTRY;
     }
     let number = little_endian::read64(file, layout::NUMBER_AT);
     if !rules::number_allowed(number, totals.saved) {
-        return 7;
+        return answers::VOLUME_NUMBER;
     }
     if !hashes::matches_set(&file[layout::SET_HASH_AT..layout::NUMBER_AT], list) {
-        return 8;
+        return answers::SET_HASH;
     }
     if !rules::data_allowed(
         number,
         totals.greatest,
         little_endian::read64(file, layout::DATA_SIZE_AT),
     ) {
-        return 9;
+        return answers::DATA_SIZE;
     }
     0
 }

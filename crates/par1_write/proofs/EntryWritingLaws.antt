@@ -1,20 +1,23 @@
 -- Written entries.
 --
 --   length-entry     the length of an entry's bytes
---   EntryPassed, entry-passed     what the tests of writing an entry, passed, tell
+--   EntryPassed, entry-passed     what the tests of writing an entry before 14, passed, tell
+--   entry-refused, entry-short, entry-over     what writing gives: refused by them, refused with 14, and the entry stored at the front
 -- A test of document 01 is passed where it does not hold.
 -- Assumes nothing.
-use mathlib.Core.Path.{_≡_}
+use mathlib.Core.Path.{_≡_, sym, _∙_}
 use mathlib.Core.Bool.{true}
 use mathlib.Core.List.{List, flatten}
-use Prim.Native.Nat.{ℕ, _+_, _≤_}
+use Prim.Native.Nat.{ℕ, _+_, _≤_, _<_}
 use native.Mathlib.Omega.{arith}
-use lib.Dec.{leb}
 use lib.ListN.{length, length-append}
-use borrow.Author.Tests.{leb-true}
+use lib.Seq.{sets}
+use Rattle.answers.specs.Writing.{refused}
+use Rattle.answers.specs.declared.Writing.the-variants.{Written, Refused}
+use Rattle.answers.proofs.WritingLaws.{sets-over, written-fits, written-short, unless-none, unless-refused}
 use Rattle.little_endian.proofs.Numbers.{length-toLe}
 use Rattle.entries.specs.Entry.{fileSizeAllowed}
-use Rattle.par1_write.specs.EntryWriting.{entryBytes, statusAllowed, nameBytesAllowed, entryRefusal}
+use Rattle.par1_write.specs.EntryWriting.{entryBytes, statusAllowed, nameBytesAllowed, entryRefusal, writeEntryOf}
 use Rattle.par1_rules.proofs.HashLaws.{length-md5}
 use Rattle.par1_rules.proofs.RuleLaws.{test-passed}
 
@@ -22,17 +25,39 @@ pub length-entry : (m : List ℕ) (status : ℕ) (name : List ℕ) → length (e
 unfolding entryBytes flatten
 length-entry m status name = simp (length-append, length-toLe, length-md5) (omega arith)
 
-pub record EntryPassed (size status : ℕ) (name : List ℕ) (room : ℕ) : Type 0 where
+-- ---- the tests
+
+pub record EntryPassed (size status : ℕ) (name : List ℕ) : Type 0 where
   pub size-right : fileSizeAllowed size ≡ true
   pub status-right : statusAllowed status ≡ true
   pub name-right : nameBytesAllowed name ≡ true
-  pub fits : 56 + length name ≤ room
 
-pub entry-passed : (size status : ℕ) (name : List ℕ) (room : ℕ) → entryRefusal size status name room ≡ 0 → EntryPassed size status name room
+pub entry-passed : (size status : ℕ) (name : List ℕ) → entryRefusal size status name ≡ 0 → EntryPassed size status name
 unfolding entryRefusal
-entry-passed size status name room e =
+entry-passed size status name e =
     let one = test-passed _ (fileSizeAllowed size) _ (omega arith) e in
     let two = test-passed _ (statusAllowed status) _ (omega arith) (one .1) in
     let three = test-passed _ (nameBytesAllowed name) _ (omega arith) (two .1) in
-    let four = test-passed 14 (leb (56 + length name) room) _ (omega arith) (three .1) in
-    record { size-right = one .0; status-right = two .0; name-right = three .0; fits = leb-true _ _ (four .0) }
+    record { size-right = one .0; status-right = two .0; name-right = three .0 }
+
+-- ---- what writing gives, from the number n that the tests gave
+
+module _ (m : List ℕ) (status : ℕ) (name out : List ℕ) {n : ℕ} (e : n ≡ entryRefusal (length m) status name) where
+  pub entry-refused : {t : List ℕ} → (n ≡ 0 → ⊥) → t ≡ out → (Refused n, t) ≡ writeEntryOf m status name out
+  unfolding writeEntryOf
+  entry-refused h same = unless-refused (entryBytes m status name) out e h same
+
+  pub entry-short : n ≡ 0 → length out < 56 + length name → refused 14 out ≡ writeEntryOf m status name out
+  unfolding writeEntryOf
+  entry-short z h =
+      let s : List ℕ = entryBytes m status name in
+      unless-none s out e z (written-short s out (omega (arith, length-entry m status name)))
+
+  pub entry-over : {t : List ℕ} → n ≡ 0 → 56 + length name ≤ length out → t ≡ sets out 0 (entryBytes m status name)
+      → (Written (56 + length name), t) ≡ writeEntryOf m status name out
+  unfolding writeEntryOf
+  entry-over z h wrote =
+      let s : List ℕ = entryBytes m status name in
+      let size : 56 + length name ≡ length s = sym (length-entry m status name) in
+      let fits : length s ≤ length out = omega arith in
+      unless-none s out e z (written-fits s out fits size (wrote ∙ sets-over out s fits))

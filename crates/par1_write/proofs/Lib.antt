@@ -1,3 +1,2 @@
 pub mod EntryWritingLaws
 pub mod VolumeWritingLaws
-pub mod WritingLaws

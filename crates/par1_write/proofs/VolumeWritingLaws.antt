@@ -1,34 +1,33 @@
 -- Written volumes.
 --
---   length-numbers, length-body, length-head, length-volume     the lengths of the parts of a volume
---   VolumePassed, volume-passed     what the tests of writing a volume, passed, tell
+--   length-body, length-head, length-volume     the lengths of the parts of a volume
+--   VolumePassed, volume-passed     what the tests of writing a volume before 14, passed, tell
 --   volume-none     and the tests pass where that holds
---   volume-over     the body stored from byte 32 on, then the head with its hash, are the volume
+--   volume-refused, volume-short, volume-over     what writing gives: refused by them, refused with 14, and body and head stored
 -- A test of document 01 is passed where it does not hold.
 -- Assumes nothing.
 use mathlib.Core.Path.{_≡_, sym, ap, ap₂, _∙_}
 use mathlib.Core.Bool.{true}
 use mathlib.Core.List.{List, _++_, append-assoc, flatten}
-use Prim.Native.Nat.{ℕ, _+_, _-_, _≤_}
+use Prim.Native.Nat.{ℕ, _+_, _-_, _≤_, _<_}
 use native.Mathlib.Omega.{arith}
-use lib.Dec.{leb}
 use lib.ListN.{length, take, drop, length-append}
 use lib.Seq.{sets, sets-eq, length-sets, drop-at, length-take-le}
-use borrow.Author.Tests.{leb-true, le-leb}
+use Rattle.answers.specs.Writing.{refused}
+use Rattle.answers.specs.declared.Writing.the-variants.{Written, Refused}
+use Rattle.answers.proofs.WritingLaws.{sets-over, written-fits, written-short, unless-none, unless-refused}
 use Rattle.little_endian.proofs.Numbers.{length-toLe}
+use Rattle.little_endian.proofs.NumberLists.{length-numbers}
 use Rattle.little_endian.proofs.Stores.{part-sets}
+use Rattle.entries.specs.Walk.{entriesOf, walkOf}
 use Rattle.entries.specs.declared.Totals.{Totals}
+use Rattle.entries.specs.declared.Walked.{Walked}
 use Rattle.par1_rules.specs.Rules.{lengthAllowed, numberAllowed, dataAllowed}
-use Rattle.par1_write.specs.VolumeWriting.{numberBytes, bodyBytes, headBytes, volumeBytes, volumeRefusal}
+use Rattle.par1_write.specs.VolumeWriting.{bodyBytes, headBytes, volumeBytes, volumeRefusal, walkRefusal, writeVolumeOf}
 use Rattle.par1_rules.proofs.HashLaws.{length-md5, length-set-hash}
 use Rattle.par1_rules.proofs.RuleLaws.{test-passed, Between, between, long-enough}
-use Rattle.par1_write.proofs.WritingLaws.{sets-over}
 
 -- ---- lengths
-
-pub length-numbers : (number n list area : ℕ) → length (numberBytes number n list area) ≡ 48
-unfolding numberBytes flatten
-length-numbers number n list area = simp (length-append, length-toLe)
 
 pub length-body : (n number : ℕ) (list area : List ℕ) → length (bodyBytes n number list area) ≡ 64 + length list + length area
 unfolding bodyBytes flatten
@@ -44,34 +43,31 @@ length-volume program number list area = simp (length-append, length-head, lengt
 
 -- ---- the tests
 
-pub record VolumePassed (number : ℕ) (t : Totals) (list area room : ℕ) : Type 0 where
+pub record VolumePassed (number : ℕ) (t : Totals) (list area : ℕ) : Type 0 where
   pub number-right : numberAllowed number (t .saved) ≡ true
   pub data-right : dataAllowed number (t .greatest) area ≡ true
   pub size : Between (96 + list + area)
-  pub fits : 96 + list + area ≤ room
 
-pub volume-passed : (number : ℕ) (t : Totals) (list area room : ℕ) → volumeRefusal number t list area room ≡ 0
-    → VolumePassed number t list area room
+pub volume-passed : (number : ℕ) (t : Totals) (list area : ℕ) → volumeRefusal number t list area ≡ 0 → VolumePassed number t list area
 unfolding volumeRefusal
-volume-passed number t list area room e =
+volume-passed number t list area e =
     let seven = test-passed 7 (numberAllowed number (t .saved)) _ (omega arith) e in
     let nine = test-passed 9 (dataAllowed number (t .greatest) area) _ (omega arith) (seven .1) in
     let one = test-passed 1 (lengthAllowed (96 + list + area)) _ (omega arith) (nine .1) in
-    let room-left = test-passed 14 (leb (96 + list + area) room) _ (omega arith) (one .1) in
-    record { number-right = seven .0; data-right = nine .0; size = between _ (one .0); fits = leb-true _ _ (room-left .0) }
+    record { number-right = seven .0; data-right = nine .0; size = between _ (one .0) }
 
-pub volume-none : (number : ℕ) (t : Totals) (list area room : ℕ) → VolumePassed number t list area room
-    → volumeRefusal number t list area room ≡ 0
+pub volume-none : (number : ℕ) (t : Totals) (list area : ℕ) → VolumePassed number t list area → volumeRefusal number t list area ≡ 0
 unfolding volumeRefusal
-volume-none number t list area room p =
-    simp (p .number-right, p .data-right, long-enough (96 + list + area) (p .size .low) (p .size .high), le-leb (96 + list + area) room (p .fits))
+volume-none number t list area p =
+    simp (p .number-right, p .data-right, long-enough (96 + list + area) (p .size .low) (p .size .high))
 
--- ---- written in two steps
+-- ---- what writing gives, from the number n that the tests gave
 
-pub volume-over : (program : ℕ) (body out : List ℕ) {total : ℕ} {t u : List ℕ} → total ≡ 32 + length body → total ≤ length out
+-- the body stored from byte 32 on, then the head with the hash of it
+two-steps : (program : ℕ) (body out : List ℕ) {total : ℕ} {t u : List ℕ} → total ≡ 32 + length body → total ≤ length out
     → t ≡ sets out 32 body → u ≡ sets t 0 (headBytes program (take (total - 32) (drop 32 t)))
     → u ≡ headBytes program body ++ body ++ drop total out
-volume-over program body out {total} {t} {u} size fits wrote headed =
+two-steps program body out {total} {t} {u} size fits wrote headed =
     let n : total - 32 ≡ length body = omega arith in
     let rest : List ℕ = drop (32 + length body) out in
     let hashed : take (total - 32) (drop 32 t) ≡ body =
@@ -84,3 +80,32 @@ volume-over program body out {total} {t} {u} size fits wrote headed =
     headed ∙ ap (λ (b : List ℕ). sets t 0 (headBytes program b)) hashed ∙ sets-over t head (omega arith)
     ∙ ap (λ (k : ℕ). head ++ drop k t) h ∙ ap (λ (l : List ℕ). head ++ l) after ∙ sym (append-assoc head body rest)
     ∙ ap (λ (k : ℕ). head ++ body ++ drop k out) (sym size)
+
+module _ (program number : ℕ) (list area out : List ℕ) {n : ℕ} {w : Walked} (walked : w ≡ walkOf list)
+    (e : n ≡ walkRefusal number w (length list) (length area)) where
+  told : n ≡ walkRefusal number (walkOf list) (length list) (length area)
+  told = e ∙ ap (λ (w : Walked). walkRefusal number w (length list) (length area)) walked
+
+  pub volume-refused : {u : List ℕ} → (n ≡ 0 → ⊥) → u ≡ out → (Refused n, u) ≡ writeVolumeOf program number list area out
+  unfolding writeVolumeOf
+  volume-refused h same = unless-refused (volumeBytes program number list area) out told h same
+
+  pub volume-short : n ≡ 0 → length out < 96 + length list + length area → refused 14 out ≡ writeVolumeOf program number list area out
+  unfolding writeVolumeOf
+  volume-short z h =
+      let s : List ℕ = volumeBytes program number list area in
+      unless-none s out told z (written-short s out (omega (arith, length-volume program number list area)))
+
+  pub volume-over : {k : ℕ} {t u : List ℕ} → n ≡ 0 → 96 + length list + length area ≤ length out → k ≡ length (entriesOf list .pieces)
+      → t ≡ sets out 32 (bodyBytes k number list area)
+      → u ≡ sets t 0 (headBytes program (take (96 + length list + length area - 32) (drop 32 t)))
+      → (Written (96 + length list + length area), u) ≡ writeVolumeOf program number list area out
+  unfolding writeVolumeOf volumeBytes
+  volume-over z h count wrote headed =
+      let k : ℕ = length (entriesOf list .pieces) in
+      let body : List ℕ = bodyBytes k number list area in
+      let s : List ℕ = headBytes program body ++ body in
+      let size : 96 + length list + length area ≡ length s = sym (length-volume program number list area) in
+      let total : 96 + length list + length area ≡ 32 + length body = omega (arith, length-body k number list area) in
+      let over = two-steps program body out total h (wrote ∙ ap (λ (j : ℕ). sets out 32 (bodyBytes j number list area)) count) headed in
+      unless-none s out told z (written-fits s out (omega arith) size (over ∙ ap (λ (j : ℕ). s ++ drop j out) size))

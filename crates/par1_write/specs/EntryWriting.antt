@@ -4,7 +4,7 @@
 --   entryBytes m st name            the entry of a file with the contents m and the status st
 --   statusAllowed st                whether entries are written with the status st
 --   nameBytesAllowed name           whether the bytes are a name
---   entryRefusal n st name room     the refusal of contents of n bytes, 0 where there is none
+--   entryRefusal n st name          the refusal of contents of n bytes by the tests before 14, 0 where there is none
 --   writeEntryOf m st name out      what writing gives
 -- Assumes nothing.
 use Prim.Native.Nat.{ℕ, _+_, _%_}
@@ -12,6 +12,8 @@ use mathlib.Core.Bool.{Bool, _&&_}
 use mathlib.Core.List.{List, [], _∷_, flatten}
 use lib.Dec.{leb, eqb}
 use lib.ListN.{length}
+use Rattle.answers.specs.Writing.{writtenUnless}
+use Rattle.answers.specs.declared.Writing.{Writing}
 use Rattle.little_endian.specs.Bytes.{toLe}
 use Rattle.md5.specs.Digest.{md5}
 use Rattle.entries.specs.Entry.{unitsOf, nameAllowed, fileSizeAllowed}
@@ -19,8 +21,6 @@ use Rattle.entries.specs.Walk.{faultNumber}
 use Rattle.entries.specs.declared.Fault.the-variants as fault
 use Rattle.par1_rules.specs.Hashes.{md5First}
 use Rattle.par1_rules.specs.Rules.{test}
-use Rattle.par1_write.specs.Writing.{outcome}
-use Rattle.par1_write.specs.declared.writing.Writing.{Writing}
 
 -- "64-bit entry size (itself included), 64-bit status, 64-bit file size, MD5 of the whole file, MD5 of its first 16,384 bytes (of all
 -- of it when shorter), then the name"
@@ -38,13 +38,12 @@ nameBytesAllowed name = leb 2 (length name) && eqb (length name % 2) 0 && nameAl
 
 -- "6 (contents too long, status above 3, bad name)": an entry's faults have none for the status,
 -- so it takes the number of the file size's
-unfoldable pub entryRefusal : ℕ → ℕ → List ℕ → ℕ → ℕ
-entryRefusal size status name room =
+unfoldable pub entryRefusal : ℕ → ℕ → List ℕ → ℕ
+entryRefusal size status name =
     test (faultNumber fault.FileSize) (fileSizeAllowed size)
     (test (faultNumber fault.FileSize) (statusAllowed status)
-    (test (faultNumber fault.Name) (nameBytesAllowed name)
-    (test 14 (leb (56 + length name) room) 0)))
+    (test (faultNumber fault.Name) (nameBytesAllowed name) 0))
 
 unfoldable pub writeEntryOf : List ℕ → ℕ → List ℕ → List ℕ → Writing × List ℕ
 writeEntryOf m status name out =
-    outcome (entryRefusal (length m) status name (length out)) (entryBytes m status name) out
+    writtenUnless (entryRefusal (length m) status name) (entryBytes m status name) out

@@ -5,16 +5,17 @@
 --   bodyBytes n v list area             the bytes of volume v from 32 to the end, with n entries in the list
 --   headBytes p body                    the bytes before body, which the program p writes
 --   volumeBytes p v list area           the bytes of volume v, written by the program p
---   volumeRefusal v t l d room          the refusal after the walk over the list, which gave the totals t: list and data have l and d
---                                       bytes
---   walkRefusal v w l d room            the refusal from the walk w over the list, 0 where there is none
+--   volumeRefusal v t l d               the refusal by the tests 7, 9 and 1, where the walk over the list gave the totals t, and list and
+--                                       data have l and d bytes
+--   walkRefusal v w l d                 the refusal by the tests before 14, from the walk w over the list, 0 where there is none
 --   writeVolumeOf p v list area out     what writing gives
 -- Assumes nothing.
 use Prim.Native.Nat.{ℕ, _+_}
 use mathlib.Core.List.{List, [], _∷_, _++_, flatten}
-use lib.Dec.{leb}
 use lib.ListN.{length}
-use Rattle.little_endian.specs.Bytes.{toLe}
+use Rattle.answers.specs.Writing.{writtenUnless}
+use Rattle.answers.specs.declared.Writing.{Writing}
+use Rattle.little_endian.specs.Bytes.{toLe, numbers}
 use Rattle.md5.specs.Digest.{md5}
 use Rattle.entries.specs.Walk.{faultNumber, entriesOf, walkOf}
 use Rattle.entries.specs.declared.Totals.{Totals}
@@ -23,14 +24,11 @@ use Rattle.entries.specs.declared.Walked.the-variants as walked
 use Rattle.par1_rules.specs.Layout.{signature, version}
 use Rattle.par1_rules.specs.Hashes.{setHash}
 use Rattle.par1_rules.specs.Rules.{test, lengthAllowed, numberAllowed, dataAllowed}
-use Rattle.par1_write.specs.Writing.{outcome}
-use Rattle.par1_write.specs.declared.writing.Writing.{Writing}
 
 -- "Then six 64-bit numbers: at 48 volume number (0 for the index), at 56 number of entries, at 64 list start, at 72 list size, at 80 data
 -- start, at 88 data size"
-unfoldable pub numberBytes : ℕ → ℕ → ℕ → ℕ → List ℕ
-numberBytes number n list area =
-    flatten (toLe 8 number ∷ toLe 8 n ∷ toLe 8 96 ∷ toLe 8 list ∷ toLe 8 (96 + list) ∷ toLe 8 area ∷ [])
+abbrev pub numberBytes : ℕ → ℕ → ℕ → ℕ → List ℕ
+numberBytes number n list area = numbers (number ∷ n ∷ 96 ∷ list ∷ (96 + list) ∷ area ∷ [])
 
 -- "At 32: set hash." Then the numbers, the list and the data
 unfoldable pub bodyBytes : ℕ → ℕ → List ℕ → List ℕ → List ℕ
@@ -46,17 +44,16 @@ unfoldable pub volumeBytes : ℕ → ℕ → List ℕ → List ℕ → List ℕ
 volumeBytes program number list area =
     let body : List ℕ = bodyBytes (length (entriesOf list .pieces)) number list area in headBytes program body ++ body
 
-unfoldable pub volumeRefusal : ℕ → Totals → ℕ → ℕ → ℕ → ℕ
-volumeRefusal number t list area room =
+unfoldable pub volumeRefusal : ℕ → Totals → ℕ → ℕ → ℕ
+volumeRefusal number t list area =
     test 7 (numberAllowed number (t .saved))
     (test 9 (dataAllowed number (t .greatest) area)
-    (test 1 (lengthAllowed (96 + list + area))
-    (test 14 (leb (96 + list + area) room) 0)))
+    (test 1 (lengthAllowed (96 + list + area)) 0))
 
-abbrev pub walkRefusal : ℕ → Walked → ℕ → ℕ → ℕ → ℕ
-walkRefusal number (walked.Entries t) list area room = volumeRefusal number t list area room
-walkRefusal number (walked.Fault fault) list area room = faultNumber fault
+abbrev pub walkRefusal : ℕ → Walked → ℕ → ℕ → ℕ
+walkRefusal number (walked.Entries t) list area = volumeRefusal number t list area
+walkRefusal number (walked.Fault fault) list area = faultNumber fault
 
 unfoldable pub writeVolumeOf : ℕ → ℕ → List ℕ → List ℕ → List ℕ → Writing × List ℕ
 writeVolumeOf program number list area out =
-    outcome (walkRefusal number (walkOf list) (length list) (length area) (length out)) (volumeBytes program number list area) out
+    writtenUnless (walkRefusal number (walkOf list) (length list) (length area)) (volumeBytes program number list area) out

@@ -4,8 +4,7 @@ ghost use Prim.Native.Nat.{_+_, _≤_};
 ghost use lib.ListN.{length};
 ghost use lib.Seq.{sets};
 ghost use Rattle.par1_write.specs.EntryWriting.{entryBytes, nameBytesAllowed, entryRefusal, writeEntryOf};
-use crate::writing;
-use crate::writing::Writing;
+use answers::Writing;
 use entries::Fault;
 use par1_rules::hashes;
 
@@ -16,17 +15,23 @@ const MAX_STATUS: u64 = 3;
 pub fn write_entry(contents: &[u8], status: u64, name: &[u8], out: &mut [u8]) -> Writing
     ensures { λ r. ⌜ (r, now (out .exit)) ≡ writeEntryOf (now (contents .entry)) status (now (name .entry)) (now (out .entry)) ⌝ }
 {
-    let refusal = entry_refusal(contents.len(), status, name, out.len());
+    let refusal = entry_refusal(contents.len(), status, name);
     if refusal != 0 {
         return Writing::Refused(refusal);
+    }
+    if out.len() < entries::NAME_AT {
+        return Writing::Refused(answers::NO_ROOM);
+    }
+    if out.len() - entries::NAME_AT < name.len() {
+        return Writing::Refused(answers::NO_ROOM);
     }
     put_entry(out, contents, status, name);
     Writing::Written(entries::NAME_AT + name.len())
 }
 
-// The number of the first test that holds, 0 where none does.
-fn entry_refusal(size: usize, status: u64, name: &[u8], room: usize) -> u32
-    ensures { λ r. ⌜ r ≡ entryRefusal size status (now (name .entry)) room ⌝ }
+// The number of the first test before 14 that holds, 0 where none does.
+fn entry_refusal(size: usize, status: u64, name: &[u8]) -> u32
+    ensures { λ r. ⌜ r ≡ entryRefusal size status (now (name .entry)) ⌝ }
 {
     if size as u64 > entries::MAX_FILE_SIZE {
         return entries::fault_number(Fault::FileSize);
@@ -36,12 +41,6 @@ fn entry_refusal(size: usize, status: u64, name: &[u8], room: usize) -> u32
     }
     if !name_bytes_allowed(name) {
         return entries::fault_number(Fault::Name);
-    }
-    if room < entries::NAME_AT {
-        return 14;
-    }
-    if room - entries::NAME_AT < name.len() {
-        return 14;
     }
     0
 }
@@ -70,7 +69,7 @@ fn put_entry(out: &mut [u8], contents: &[u8], status: u64, name: &[u8])
     little_endian::write64(out, 0, entry_size as u64);
     little_endian::write64(out, entries::STATUS_AT, status);
     little_endian::write64(out, entries::FILE_SIZE_AT, contents.len() as u64);
-    writing::put(out, entries::MD5_AT, &whole);
-    writing::put(out, entries::MD5_16K_AT, &first);
-    writing::put(out, entries::NAME_AT, name);
+    answers::put(out, entries::MD5_AT, &whole);
+    answers::put(out, entries::MD5_16K_AT, &first);
+    answers::put(out, entries::NAME_AT, name);
 }

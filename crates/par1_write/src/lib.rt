@@ -1,8 +1,7 @@
 // Writing of Par 1.0 files and of their entries (document 01, "What comes back").
 mod entry_writing;
 mod volume_writing;
-mod writing;
 
+pub use answers::Writing;
 pub use entry_writing::write_entry;
 pub use volume_writing::write_volume;
-pub use writing::Writing;

@@ -4,8 +4,7 @@ ghost use Prim.Native.Nat.{_+_, _-_, _^_, _<_, _≤_};
 ghost use lib.ListN.{length, take, drop};
 ghost use lib.Seq.{sets};
 ghost use Rattle.par1_write.specs.VolumeWriting.{numberBytes, bodyBytes, headBytes, volumeRefusal, writeVolumeOf};
-use crate::writing;
-use crate::writing::Writing;
+use answers::Writing;
 use entries::Totals;
 use entries::Walked;
 use par1_rules::hashes;
@@ -18,11 +17,14 @@ pub fn write_volume(program: u32, number: u64, list: &[u8], data: &[u8], out: &m
 {
     match entries::walk(list) {
         Walked::Entries(totals) => {
-            let refusal = volume_refusal(number, totals, list.len(), data.len(), out.len());
+            let refusal = volume_refusal(number, totals, list.len(), data.len());
             if refusal != 0 {
                 return Writing::Refused(refusal);
             }
             let total = layout::HEADER_LENGTH + list.len() + data.len();
+            if out.len() < total {
+                return Writing::Refused(answers::NO_ROOM);
+            }
             put_body(out, number, totals.entries, list, data);
             put_head(out, program, total);
             Writing::Written(total)
@@ -31,25 +33,22 @@ pub fn write_volume(program: u32, number: u64, list: &[u8], data: &[u8], out: &m
     }
 }
 
-// The number of the first test after the walk that holds, 0 where none does; the list has `list` bytes, the data `area`.
-fn volume_refusal(number: u64, totals: Totals, list: usize, area: usize, room: usize) -> u32
-    ensures { λ r. ⌜ r ≡ volumeRefusal number totals list area room ⌝ }
+// The number of the first of tests 7, 9 and 1 that holds, 0 where none does; the list has `list` bytes, the data `area`.
+fn volume_refusal(number: u64, totals: Totals, list: usize, area: usize) -> u32
+    ensures { λ r. ⌜ r ≡ volumeRefusal number totals list area ⌝ }
 {
     if !rules::number_allowed(number, totals.saved) {
-        return 7;
+        return answers::VOLUME_NUMBER;
     }
     if !rules::data_allowed(number, totals.greatest, area as u64) {
-        return 9;
+        return answers::DATA_SIZE;
     }
     let most = rules::MAX_LENGTH - layout::HEADER_LENGTH;
     if list > most {
-        return 1;
+        return answers::SIZE;
     }
     if area > most - list {
-        return 1;
-    }
-    if room < layout::HEADER_LENGTH + list + area {
-        return 14;
+        return answers::SIZE;
     }
     0
 }
@@ -60,10 +59,10 @@ fn put_body(out: &mut [u8], number: u64, entries: u64, list: &[u8], data: &[u8])
     ensures { λ _. ⌜ now (out .exit) ≡ sets (now (out .entry)) 32 (bodyBytes entries number (now (list .entry)) (now («data» .entry))) ⌝ }
 {
     let set_hash = hashes::of_set(list);
-    writing::put(out, layout::SET_HASH_AT, &set_hash);
+    answers::put(out, layout::SET_HASH_AT, &set_hash);
     put_numbers(out, number, entries, list.len(), data.len());
-    writing::put(out, layout::HEADER_LENGTH, list);
-    writing::put(out, layout::HEADER_LENGTH + list.len(), data);
+    answers::put(out, layout::HEADER_LENGTH, list);
+    answers::put(out, layout::HEADER_LENGTH + list.len(), data);
 }
 
 // Writes the six numbers of the header of a file with `list` bytes of list and `area` bytes of data.
@@ -72,12 +71,15 @@ fn put_numbers(out: &mut [u8], number: u64, entries: u64, list: usize, area: usi
     ensures { λ _. ⌜ now (out .exit) ≡ sets (now (out .entry)) 48 (numberBytes number entries list area) ⌝ }
 {
     let data_start = layout::HEADER_LENGTH + list;
-    little_endian::write64(out, layout::NUMBER_AT, number);
-    little_endian::write64(out, layout::COUNT_AT, entries);
-    little_endian::write64(out, layout::LIST_START_AT, layout::LIST_START);
-    little_endian::write64(out, layout::LIST_SIZE_AT, list as u64);
-    little_endian::write64(out, layout::DATA_START_AT, data_start as u64);
-    little_endian::write64(out, layout::DATA_SIZE_AT, area as u64);
+    let numbers = [
+        number,
+        entries,
+        layout::LIST_START,
+        list as u64,
+        data_start as u64,
+        area as u64,
+    ];
+    little_endian::write_numbers(out, layout::NUMBER_AT, &numbers);
 }
 
 // Writes the start of a file of `total` bytes, with the control hash of the others.
@@ -89,5 +91,5 @@ fn put_head(out: &mut [u8], program: u32, total: usize)
     little_endian::write64(out, 0, layout::SIGNATURE);
     little_endian::write32(out, layout::VERSION_AT, layout::VERSION);
     little_endian::write32(out, layout::PROGRAM_AT, program);
-    writing::put(out, layout::CONTROL_HASH_AT, &control_hash);
+    answers::put(out, layout::CONTROL_HASH_AT, &control_hash);
 }

@@ -148,5 +148,3 @@ module _ (f : List ℕ → ℕ) where
 
 pub part-to-end : (s : List ℕ) (at : ℕ) → take (length s - at) (drop at s) ≡ drop at s
 part-to-end s at = take-all (length s - at) (drop at s) (omega (arith, length-drop at s))
-
-module _ (f : List ℕ → ℕ) (s : List ℕ) (at : ℕ) where

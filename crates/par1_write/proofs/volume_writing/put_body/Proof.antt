@@ -1,10 +1,10 @@
 -- `par1_write::volume_writing::put_body` meets its contract: its parts, stored one after another.
 -- Assumes nothing.
 use mathlib.Core.Path.{refl}
-use Rattle.par1_write.proofs.WritingLaws.{stored-all, stored, stored-as, stores-flatten}
+use Rattle.answers.proofs.WritingLaws.{stored-all, stored, stored-as, stores-flatten}
 use Rattle.par1_write.specs.VolumeWriting.{bodyBytes}
 use Rattle.par1_rules.proofs.HashLaws.{length-set-hash}
-use Rattle.par1_write.proofs.VolumeWritingLaws.{length-numbers}
+use Rattle.little_endian.proofs.NumberLists.{length-numbers}
 use borrow.Author.Needs.{needs}
 use Rattle.par1_write.proofs.volume_writing.put_body.Statement.{statement}
 use Rattle.par1_write.proofs.volume_writing.put_body.Tie as tie
@@ -42,7 +42,7 @@ returns c =
     let one = second .before .before .before .before in
     stores-flatten
     (stored-as 16 (length-set-hash _) (one .before .before .before .of-set .ensures) (one .put .ensures)
-    (stored 48 (length-numbers _ _ _ _) (second .put-numbers .ensures)
+    (stored 48 (length-numbers _) (second .put-numbers .ensures)
     (stored _ refl (third .put2 .ensures) (stored _ refl (fourth .put3 .ensures) stored-all))))
 
 pub put-body-spec : {M : Type 1} → statement M

@@ -1,14 +1,24 @@
 -- `par1_write::volume_writing::volume_refusal` meets its contract: each test in its order.
 -- Assumes nothing.
-use mathlib.Core.Path.{sym, _∙_}
-use Prim.Native.Nat.{ℕ, _+_}
+use mathlib.Core.Path.{_≡_, sym, _∙_}
+use Prim.Native.Nat.{_+_}
 use native.Mathlib.Omega.{arith}
-use borrow.Author.Tests.{not-true, not-false, lt-leb, le-leb}
+use borrow.Author.Tests.{not-true, not-false}
+use Rattle.par1_rules.specs.Rules.{numberAllowed, dataAllowed}
+use mathlib.Core.Bool.{true}
 use Rattle.par1_write.specs.VolumeWriting.{volumeRefusal}
 use Rattle.par1_rules.proofs.RuleLaws.{too-long, long-enough}
 use borrow.Author.Needs.{needs}
 use Rattle.par1_write.proofs.volume_writing.volume_refusal.Statement.{statement}
 use Rattle.par1_write.proofs.volume_writing.volume_refusal.Tie as tie
+
+-- ---- what each test tells where it has passed
+
+number-passed : (c : tie.Else1) → let a = c .before .before .args in numberAllowed (a .number) (a .totals .saved) ≡ true
+number-passed c = sym (c .before .number-allowed .ensures) ∙ not-false (c .before .number-allowed .result) (c .if1 .left)
+
+data-passed : (c : tie.Else2) → let a = c .before .before .before .before .args in dataAllowed (a .number) (a .totals .greatest) (a .area) ≡ true
+data-passed c = sym (c .before .data-allowed .ensures) ∙ not-false (c .before .data-allowed .result) (c .if2 .left)
 
 number-allowed-requires : tie.Need-number-allowed-requires
 number-allowed-requires c κs = search needs
@@ -22,7 +32,9 @@ data-allowed-requires c κs = search needs
 
 returns-2 : tie.Need-returns-2
 unfolding volumeRefusal
-returns-2 c = simp (sym (c .before .before .before .number-allowed .ensures) ∙ not-false (c .before .before .before .number-allowed .result) (c .before .before .if1 .left), sym (c .before .data-allowed .ensures) ∙ not-true (c .before .data-allowed .result) (c .if2 .taken))
+returns-2 c =
+    let failed = sym (c .before .data-allowed .ensures) ∙ not-true (c .before .data-allowed .result) (c .if2 .taken) in
+    simp (number-passed (c .before .before), failed)
 
 sub-most : tie.Need-sub-most
 sub-most c = search needs
@@ -31,33 +43,20 @@ returns-3 : tie.Need-returns-3
 unfolding volumeRefusal
 returns-3 c =
     let a = c .before .before .before .before .before .args in
-    simp (sym (c .before .before .before .before .number-allowed .ensures) ∙ not-false (c .before .before .before .before .number-allowed .result) (c .before .before .before .if1 .left), sym (c .before .before .data-allowed .ensures) ∙ not-false (c .before .before .data-allowed .result) (c .before .if2 .left), too-long (96 + a .list + a .area) (omega arith))
+    simp (number-passed (c .before .before .before), data-passed (c .before), too-long (96 + a .list + a .area) (omega arith))
 
 returns-4 : tie.Need-returns-4
 unfolding volumeRefusal
 returns-4 c =
     let a = c .before .before .before .before .before .before .args in
-    simp (sym (c .before .before .before .before .before .number-allowed .ensures) ∙ not-false (c .before .before .before .before .before .number-allowed .result) (c .before .before .before .before .if1 .left), sym (c .before .before .before .data-allowed .ensures) ∙ not-false (c .before .before .before .data-allowed .result) (c .before .before .if2 .left), too-long (96 + a .list + a .area) (omega arith))
-
-add-if5 : tie.Need-add-if5
-add-if5 c = search needs
-
-add-if5-2 : tie.Need-add-if5-2
-add-if5-2 c = search needs
+    simp (number-passed (c .before .before .before .before), data-passed (c .before .before), too-long (96 + a .list + a .area) (omega arith))
 
 returns-5 : tie.Need-returns-5
 unfolding volumeRefusal
 returns-5 c =
-    let a = c .before .before .before .before .before .before .before .args in
-    let n : ℕ = 96 + a .list + a .area in
-    simp (sym (c .before .before .before .before .before .before .number-allowed .ensures) ∙ not-false (c .before .before .before .before .before .before .number-allowed .result) (c .before .before .before .before .before .if1 .left), sym (c .before .before .before .before .data-allowed .ensures) ∙ not-false (c .before .before .before .before .data-allowed .result) (c .before .before .before .if2 .left), long-enough n (omega arith) (omega arith), lt-leb n (a .room) (c .if5 .taken))
-
-returns-6 : tie.Need-returns-6
-unfolding volumeRefusal
-returns-6 c =
-    let a = c .before .before .before .before .before .before .before .args in
-    let n : ℕ = 96 + a .list + a .area in
-    simp (sym (c .before .before .before .before .before .before .number-allowed .ensures) ∙ not-false (c .before .before .before .before .before .before .number-allowed .result) (c .before .before .before .before .before .if1 .left), sym (c .before .before .before .before .data-allowed .ensures) ∙ not-false (c .before .before .before .before .data-allowed .result) (c .before .before .before .if2 .left), long-enough n (omega arith) (omega arith), le-leb n (a .room) (c .if5 .left))
+    let a = c .before .before .before .before .before .before .args in
+    let short = long-enough (96 + a .list + a .area) (omega arith) (omega arith) in
+    simp (number-passed (c .before .before .before .before), data-passed (c .before .before), short)
 
 pub volume-refusal-spec : {M : Type 1} → statement M
 volume-refusal-spec =
@@ -70,7 +69,4 @@ volume-refusal-spec =
     sub-most
     returns-3
     returns-4
-    add-if5
-    add-if5-2
-    returns-5
-    returns-6)
+    returns-5)

@@ -1,48 +1,30 @@
--- `par1_write::write_volume` meets its contract: the outcome of a refusal, and of the body and the head written.
+-- `par1_write::write_volume` meets its contract: refused by the tests, refused for the room, and written.
 -- Assumes nothing.
 use mathlib.Core.Path.{_≡_, refl, sym, ap, _∙_}
-use Prim.Native.Nat.{ℕ, _+_}
+use Prim.Native.Nat.{_+_}
 use native.Mathlib.Omega.{arith}
-use lib.ListN.{length, drop}
-use mathlib.Core.List.{List, _++_}
+use lib.ListN.{length}
 use denote.Ref.{now}
-use lib.Seq.{sets, length-sets}
-use Rattle.entries.specs.Walk.{entriesOf, walkOf}
-use Rattle.entries.specs.declared.Walked.{Walked}
+use lib.Seq.{length-sets}
+use Rattle.entries.specs.Walk.{walkOf}
+use Rattle.entries.specs.declared.Walked.the-variants as walked
 use Rattle.entries.proofs.WalkLaws.{walk-count}
-use Rattle.par1_write.specs.VolumeWriting.{bodyBytes, headBytes, volumeBytes, walkRefusal, writeVolumeOf}
-use Rattle.par1_rules.proofs.RuleLaws.{fault-some}
-use Rattle.par1_write.proofs.VolumeWritingLaws.{length-body, length-volume, VolumePassed, volume-passed, volume-over}
-use Rattle.par1_write.proofs.WritingLaws.{outcome-refused, outcome-written}
+use Rattle.par1_rules.proofs.RuleLaws.{Between, fault-some}
+use Rattle.par1_write.proofs.VolumeWritingLaws.{volume-passed, volume-refused, volume-short, volume-over}
 use borrow.Author.Needs.{needs}
 use Rattle.par1_write.proofs.volume_writing.write_volume.Statement.{statement}
 use Rattle.par1_write.proofs.volume_writing.write_volume.Tie as tie
 
--- ---- what the walk over the list tells
+-- what the walk over the list gave
+walk-is : (c : tie.After-totals)
+    → walked.Entries (c .totals .given .0 .0) ≡ walkOf (now (c .before .before .before .before .before .before .args .list))
+walk-is c = sym (c .totals .given .1) ∙ c .before .before .walk .ensures
 
-abbrev list-of : tie.After-walk → List ℕ
-list-of c = now (c .before .before .before .before .args .list)
-
-abbrev area-of : tie.After-walk → List ℕ
-area-of c = now (c .before .before .before .before .args .«data»)
-
-abbrev out-of : tie.After-walk → List ℕ
-out-of c = now (c .before .before .before .before .args .out)
-
-abbrev number-of : tie.After-walk → ℕ
-number-of c = c .before .before .before .before .args .number
-
-walk-refusal : (c : tie.After-walk) {w : Walked} → c .walk .result ≡ w
-    → walkRefusal (number-of c) (walkOf (list-of c)) (length (list-of c)) (length (area-of c)) (length (out-of c))
-    ≡ walkRefusal (number-of c) w (length (list-of c)) (length (area-of c)) (length (out-of c))
-walk-refusal c e =
-    ap (λ (w : Walked). walkRefusal (number-of c) w (length (list-of c)) (length (area-of c)) (length (out-of c)))
-    (sym (c .walk .ensures) ∙ e)
-
-passed : (c : tie.Else1)
-    → let w = c .before .before .before .before .before in
-    VolumePassed (number-of w) (c .before .before .before .totals .given .0 .0) (length (list-of w)) (length (area-of w)) (length (out-of w))
-passed c = volume-passed _ _ _ _ _ (sym (c .before .volume-refusal .ensures) ∙ c .if1 .left)
+-- the file is not too long
+short : (c : tie.Else1)
+    → let a = c .before .before .before .before .before .before .before .before .before .args in
+    Between (96 + length (now (a .list)) + length (now (a .«data»)))
+short c = volume-passed _ _ _ _ (sym (c .before .volume-refusal .ensures) ∙ c .if1 .left) .size
 
 walk-requires : tie.Need-walk-requires
 walk-requires c κs = search needs
@@ -54,27 +36,25 @@ volume-refusal-requires : tie.Need-volume-refusal-requires
 volume-refusal-requires c κs = search needs
 
 returns : tie.Need-returns
-unfolding writeVolumeOf
-returns c =
-    let k = c .before .before in
-    let w = k .before .before .before in
-    let none = walk-refusal w (k .before .totals .given .1) in
-    outcome-refused _ (volumeBytes (w .before .before .before .before .args .program) (number-of w) (list-of w) (area-of w))
-    (c .before .volume-refusal .ensures ∙ sym none) (c .if1 .taken) refl
+returns c = volume-refused _ _ _ _ _ (walk-is (c .before .before .before)) (c .before .volume-refusal .ensures) (c .if1 .taken) refl
 
 add-total : tie.Need-add-total
 add-total c = search needs
 
 add-total-2 : tie.Need-add-total-2
-add-total-2 c = omega (arith, passed c .size .high)
+add-total-2 c = omega (arith, short c .high)
+
+returns-2 : tie.Need-returns-2
+returns-2 c =
+    let k = c .before in
+    volume-short _ _ _ _ _ (walk-is (k .before .before .before)) (k .before .volume-refusal .ensures) (k .if1 .left) (c .if2 .taken)
 
 put-body-requires : tie.Need-put-body-requires
-put-body-requires c κs = omega (arith, passed (c .before) .fits)
+put-body-requires c κs = search needs
 
 put-head-requires : tie.Need-put-head-requires
 put-head-requires c κs =
-    let b = c .before .before .before in
-    (omega arith, omega (arith, passed (b .before .before) .fits, simp length-sets at (ap length (b .put-body .ensures))))
+    (omega arith, omega (arith, simp length-sets at (ap length (c .before .before .before .put-body .ensures))))
 
 enum-known-fault : tie.Need-enum-known-fault
 enum-known-fault c = search needs
@@ -85,35 +65,19 @@ fault-number-requires c κs = search needs
 same-length : tie.Need-same-length
 same-length c = search needs
 
-returns-2 : tie.Need-returns-2
-unfolding writeVolumeOf volumeBytes
-returns-2 c =
-    let b = c .before .before .before .before .before .before in
-    let k = b .before .before in
-    let w = k .before .before .before .before .before in
-    let walked = k .before .before .before .totals .given .1 in
-    let program : ℕ = w .before .before .before .before .args .program in
-    let list : List ℕ = list-of w in
-    let area : List ℕ = area-of w in
-    let out : List ℕ = out-of w in
-    let n : ℕ = length (entriesOf list .pieces) in
-    let body : List ℕ = bodyBytes n (number-of w) list area in
-    let count = walk-count list (sym (w .walk .ensures) ∙ walked) in
-    let wrote = b .put-body .ensures ∙ ap (λ (k : ℕ). sets out 32 (bodyBytes k (number-of w) list area)) count in
-    let size : 96 + length list + length area ≡ 32 + length body = omega (arith, length-body n (number-of w) list area) in
-    let over = volume-over program body out size (passed k .fits) wrote (c .before .before .put-head .ensures) in
-    let total : 96 + length list + length area ≡ length (headBytes program body ++ body) = sym (length-volume program (number-of w) list area) in
-    let none = walk-refusal w walked ∙ sym (k .before .volume-refusal .ensures) ∙ k .if1 .left in
-    outcome-written (headBytes program body ++ body) out none total (over ∙ ap (λ (j : ℕ). headBytes program body ++ body ++ drop j out) total)
-
 returns-3 : tie.Need-returns-3
-unfolding writeVolumeOf
 returns-3 c =
-    let w = c .before .before .before .before in
-    let number = c .fault-number .ensures in
-    outcome-refused _ (volumeBytes (w .before .before .before .before .args .program) (number-of w) (list-of w) (area-of w))
-    (number ∙ sym (walk-refusal w (c .before .before .fault .given .1)))
-    (λ z. omega (arith, fault-some (c .before .before .fault .given .0 .0), number)) refl
+    let b = c .before .before .before .before .before .before in
+    let k = b .before .before .before in
+    let w = k .before .before .before in
+    volume-over _ _ _ _ _ (walk-is w) (k .before .volume-refusal .ensures) (k .if1 .left) (b .before .before .if2 .left)
+    (walk-count _ (sym (walk-is w))) (b .put-body .ensures) (c .before .before .put-head .ensures)
+
+returns-4 : tie.Need-returns-4
+returns-4 c =
+    let f = c .before .before in
+    volume-refused _ _ _ _ _ (sym (f .fault .given .1) ∙ f .before .before .walk .ensures) (c .fault-number .ensures)
+    (λ z. omega (arith, fault-some (f .fault .given .0 .0), c .fault-number .ensures)) refl
 
 pub write-volume-spec : {M : Type 1} → statement M
 write-volume-spec =
@@ -125,10 +89,11 @@ write-volume-spec =
     returns
     add-total
     add-total-2
+    returns-2
     put-body-requires
     put-head-requires
     enum-known-fault
     fault-number-requires
     same-length
-    returns-2
-    returns-3)
+    returns-3
+    returns-4)
