@@ -86,7 +86,7 @@ uint32_t par1_count(const uint8_t *inventory, size_t inventory_len, uint8_t *out
 
 /* Whether a file comes back from what is present. 0: it does, and its 255 weights are the first 255 bytes of `out`, file f's at f - 1,
  * volume v's at n + v - 1: par1_mul_add of each fragment present with its weight, in any order, into zeros of the file's size gives the
- * file. 13: it is present. 12: it is undetermined, nothing that is present tells it. Refuses with 10 where the file is not 1 to n, and with
+ * file. 13: it is present. 12: it is undetermined, what is present does not determine it. Refuses with 10 where the file is not 1 to n, and with
  * 14, after 13 and 12, where `out` is shorter. Takes some 70 KiB of stack. */
 uint32_t par1_query(const uint8_t *inventory, size_t inventory_len, uint64_t file, uint8_t *out, size_t out_len);
 

@@ -26,8 +26,8 @@ fn every_call(counts: &mut Counts, random: &mut Random, bytes: &[u8]) {
 fn opening(counts: &mut Counts, random: &mut Random) {
     for n in [0, 1, 2, 24, 253, 254, 255, 256, 1 << 32, u64::MAX] {
         for count in [n as usize % 300, 0, 1, 24, 254] {
-            for _ in 0..4 {
-                let size = |r: &mut Random| [0, 1, 16_777_216, 16_777_217, u64::MAX][r.below(if n % 2 == 0 { 5 } else { 3 })];
+            for k in 0..4 {
+                let size = |r: &mut Random| [0, 1, 16_777_216, 16_777_217, u64::MAX][r.below(if k < 2 { 3 } else { 5 })];
                 let mut sizes: Vec<u8> = (0..count).flat_map(|_| size(random).to_le_bytes()).collect();
                 if random.below(8) == 0 {
                     sizes.push(0);
@@ -121,10 +121,10 @@ fn rebuilt(counts: &mut Counts, random: &mut Random) {
     }
 }
 
-/// Every set of contents of two files of one byte, and of a third that is empty: a file is recoverable exactly when no two sets that are
+/// Every set of contents of up to two files of one byte, and of others that are empty: a file is recoverable exactly when no two sets that are
 /// alike in what is present differ in it.
 fn brute_force(counts: &mut Counts) {
-    for sizes in [&[1, 1][..], &[1, 0], &[0, 1], &[1, 1, 0], &[0, 1, 1], &[1, 0, 1]] {
+    for sizes in [&[0][..], &[0, 0], &[1, 1], &[1, 0], &[0, 1], &[1, 1, 0], &[0, 1, 1], &[1, 0, 1]] {
         let n = sizes.len();
         let bytes: Vec<u8> = sizes.iter().flat_map(|&s: &u64| s.to_le_bytes()).collect();
         let (_, opened) = calls::open(n as u64, &bytes, &[0; LENGTH]);
@@ -194,8 +194,31 @@ fn small_stack(counts: &mut Counts) {
     counts.same(|| "a query on a stack of 80 KiB".into(), got, expected);
 }
 
+/// Files and volumes in all four words of a set, up to n = 254: all files present, then three of them removed.
+fn large(counts: &mut Counts) {
+    for n in [63, 64, 65, 127, 128, 129, 191, 192, 193, 253, 254u64] {
+        let sizes: Vec<u8> = (0..n).flat_map(|_| 1u64.to_le_bytes()).collect();
+        let opened = calls::open(n, &sizes, &[7; LENGTH]);
+        counts.same(|| format!("open {n}"), opened.clone(), expected::open(n, &sizes, &[7; LENGTH]));
+        let mut bytes = opened.1;
+        let added = (1..=n).map(|f| (false, true, f)).chain([1, 2, 255 - n].map(|v| (true, true, v)));
+        for (volume, add, number) in added.chain([1, n / 2, n].map(|f| (false, false, f))) {
+            let got = calls::change(&bytes, volume, add, number);
+            counts.same(|| format!("change {volume} {add} {number} of {n}"), got.clone(), expected::change(&bytes, volume, add, number));
+            bytes = got.1;
+            if !add {
+                counts.same(|| format!("count of {n}"), calls::count(&bytes, &[3; 16]), expected::count(&bytes, &[3; 16]));
+                for f in [1, n / 2, n] {
+                    counts.same(|| format!("query {f} of {n}"), calls::query(&bytes, f, &[3; 256]), expected::query(&bytes, f, &[3; 256]));
+                }
+            }
+        }
+    }
+}
+
 pub fn run(counts: &mut Counts, random: &mut Random) {
     opening(counts, random);
+    large(counts);
     lists(counts, random);
     invalid(counts, random);
     rebuilt(counts, random);

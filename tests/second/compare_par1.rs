@@ -80,6 +80,14 @@ fn damaged(counts: &mut Counts, random: &mut Random) {
                 read(counts, "a field changed", &rehashed(one), 60);
             }
         }
+        let length = whole.len() as u64;
+        for numbers in [[u64::MAX - 1, 94, length - 94], [u64::MAX - 96, u64::MAX, length + 1]] {
+            let mut one = whole.clone();
+            for (at, number) in (72..).step_by(8).zip(numbers) {
+                one[at..at + 8].copy_from_slice(&number.to_le_bytes());
+            }
+            read(counts, "sizes whose sums are above 64 bits", &rehashed(one), 60);
+        }
         for n in [0, 1, 95, 96, 97, whole.len() - 1] {
             read(counts, "cut short", &whole[..n.min(whole.len())], 60);
         }
@@ -151,6 +159,20 @@ fn other_client(counts: &mut Counts) {
     }
 }
 
+/// The data of the client's volumes is the parity of its files.
+fn other_parity(counts: &mut Counts) {
+    let saved = ["A.LOG", "B.LOG", "EMPTY.LOG", "TRACK.LOG"].map(|name| std::fs::read(format!("tests/data/trip/{name}")).expect("test data"));
+    for v in 1..=3 {
+        let volume = std::fs::read(format!("tests/data/trip/trip.p0{v}")).expect("test data");
+        let mut data = vec![0; 1492];
+        for (f, file) in (1..).zip(&saved) {
+            let (_, weight) = calls::coefficient(f, v, &[0]);
+            calls::mul_add(weight[0], file, &mut data);
+        }
+        counts.same(|| format!("the data of trip.p0{v}"), &data[..], &volume[376..]);
+    }
+}
+
 /// An accepted file written again from its parts.
 fn again(counts: &mut Counts, file: &[u8]) {
     let Ok([program, number, _, _, list, start, _]) = par1::read(file) else { return };
@@ -192,6 +214,14 @@ fn write(counts: &mut Counts, random: &mut Random) {
         let room = vec![7; 33_554_432];
         counts.same(what, calls::write_volume(0, 0, &[], &limit[..size], &room), expected::write_volume(0, 0, &[], &limit[..size], &room));
     }
+    let mut longest = par1::write_volume(0, 0, &[], &limit[..limit.len() - 2]).unwrap();
+    read(counts, "the longest file", &longest, 56);
+    longest.push(0);
+    read(counts, "a file of a byte more", &longest, 56);
+    let entry = par1::write_entry(b"", 0, b"A\0").unwrap();
+    let list = entry.repeat(33_554_432 / entry.len());
+    let got = calls::write_volume(0, 0, &list, &[], &[7; 96]);
+    counts.same(|| "an index whose list is too long".into(), got, expected::write_volume(0, 0, &list, &[], &[7; 96]));
     let contents = vec![1; 16_777_217];
     for size in [16_777_216, 16_777_217] {
         let what = || format!("entry of {size} bytes");
@@ -228,6 +258,7 @@ pub fn run(counts: &mut Counts, random: &mut Random) {
     many_files(counts);
     small_entries(counts);
     other_client(counts);
+    other_parity(counts);
     check(counts, random);
     write(counts, random);
 }

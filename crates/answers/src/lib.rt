@@ -37,7 +37,7 @@ pub const OUT_OF_RANGE: u32 = 10;
 // What is added is present already, or what is removed is not.
 pub const ALREADY: u32 = 11;
 
-// Nothing that is present tells the file.
+// What is present does not determine the file.
 pub const UNDETERMINED: u32 = 12;
 
 // The file is present.

@@ -47,7 +47,7 @@ pub record Swept (n : ℕ) (y : List ℕ) (k scale : ℕ) (m m′ : List ℕ) : 
 pub data RowAdded (u : List ℕ) (number : ℕ) (m owners m′ owners′ : List ℕ) : Type 0 where
   -- no column is free for it, and nothing changes
   dependent : IsPivot (rowProduct u m) owners 256 → m′ ≡ m → owners′ ≡ owners → RowAdded u number m owners m′ owners′
-  -- it takes column k, in which it becomes 1 and the other columns 0
+  -- it takes column k: its product with the matrix becomes 1 there and 0 in the other columns
   independent : (k : ℕ) → k < 256 → IsPivot (rowProduct u m) owners k
       → ((i j : ℕ) → i < 256 → j < 256
       → entry m′ i j ≡ sweptEntry (λ j. bitXor (rowProduct u m j) (cond (eqb k j) 1 0)) k (inverse (rowProduct u m k)) m i j)

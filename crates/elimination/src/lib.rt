@@ -94,7 +94,7 @@ fn pivot(rows: &[u8], from: usize, owners: &[u8; 256]) -> usize
     k
 }
 
-// Adds to each row of the matrix a multiple of y: as its entry in column k says, scaled.
+// Adds to each row of the matrix y, times `scale`, times the row's entry in column k.
 fn sweep(matrix: &mut [u8], y: &[u8; 256], k: usize, scale: u8)
     requires { ⌜ (length (now matrix) ≡ 65536) × (k < 256) ⌝ }
     ensures { λ _. ⌜ Swept 256 (now (y .entry)) k scale (now (matrix .entry)) (now (matrix .exit)) ⌝ }

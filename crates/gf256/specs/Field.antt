@@ -2,7 +2,7 @@
 --
 --   product a b       the product of two bytes
 --   power a n         a to the power n
---   inverseBelow n a  the same among the bytes below n, or 0
+--   inverseBelow n a  the greatest b below n whose product with a is 1, or 0
 --   inverse a         the byte whose product with a is 1, for a byte a other than 0
 -- The sum of two bytes is `bitXor` of `lib.Bits`.
 -- Assumes nothing.

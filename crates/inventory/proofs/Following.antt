@@ -110,7 +110,7 @@ module _ (rule : ℕ → ℕ → ℕ) (small : (f v : ℕ) → f < 256 → rule 
         ∙ mask-value (t .files (suc i)) (product (place w (suc i)) (getD (fragment (suc i)) p 0)) (total i ⊗ cell X p i)
         (λ e.
         ap₂ product (W .of-files (suc i) (file i l) e ∙ sym (total-weighted i (omega arith)))
-        (ap (λ (l : List ℕ). getD l p 0) (from .of-file (suc i) (file i l) e)
+        (from .of-file (suc i) (file i l) e p
         ∙ sym (R.cell-value rule small t fits X hX p i l)))
 
     volume-part : (s : ℕ) → s < rows → number (t .n + s) ≡ (weight (t .n + s) ⊗ parity s) .0

@@ -2,6 +2,7 @@
 --
 --   given-valid    what an accepted opening and calls give is an inventory
 --   valid-given    each inventory, of words of 64 bits, is given by an accepted opening and calls
+--   exactly-given  so isInventory is exact
 --   zeros-refused  the inventory of zeros is none
 -- Assumes nothing.
 use mathlib.Core.Path.{_≡_, refl, sym, ap, ap₂, _∙_, subst}
@@ -17,16 +18,16 @@ use lib.ListN.{length, getD}
 use borrow.Author.Tests.{eq-eqb, ne-eqb, lt-leb}
 use Rattle.finite.proofs.Tests.{and-both}
 use Rattle.parity.specs.Parity.{isFile}
-use Rattle.number_sets.specs.Sets.{member, inserted}
+use Rattle.number_sets.specs.Sets.{member, inserted, Words}
 use Rattle.inventory.specs.Recoverable.{State, isVolume}
 use Rattle.inventory.specs.Model.{Call, addFile, removeFile, addVolume, removeVolume, count, query, Reply, numbered, opened}
 use Rattle.inventory.specs.Steps.{isInventory, within, zeros, nonemptyOf, fresh, outcome, accepted, changeNumber, openStep, addFileStep, addVolumeStep, withFiles, withVolumes}
 use Rattle.inventory.specs.Query.{stateOf}
-use Rattle.inventory.specs.Claim.{Did, Ran, addsFile, addsVolume, OnlyAdds, sizeIn}
+use Rattle.inventory.specs.Claim.{Did, Ran, ExactlyGiven, addsFile, addsVolume, OnlyAdds, sizeIn}
 use Rattle.inventory.specs.declared.Inventory.{Inventory}
 use Rattle.inventory.specs.declared.Outcome.{Outcome}
 use Rattle.inventory.proofs.Tests.{file-in-range, file-range, volume-range}
-use Rattle.number_sets.proofs.Words.{Words, words-same, words-none, words-inserted}
+use Rattle.number_sets.proofs.Words.{words-same, words-none, words-inserted}
 use Rattle.inventory.proofs.Outcomes.{open-accepted}
 use Rattle.inventory.proofs.Representation.{Represents, opened-represents, within-bits, n-valid, files-valid, nonempty-valid, volumes-valid, nonempty-member, file-more, no-file}
 use Rattle.inventory.proofs.Calls.{after-adds, holding}
@@ -331,3 +332,9 @@ module _ (s : Inventory) (valid : isInventory s ≡ true) (fw : Words (s .files)
             volumes = same-volumes i;
             nonempty = (k .same-nonempty ∙ nonempty-same) i;
           }
+
+pub exactly-given : ExactlyGiven
+exactly-given s fw vw ew = (
+  λ valid. let (sizes, cs, rs, well, run) = valid-given s valid fw vw ew in (s .n, sizes, cs, rs, well, run),
+  λ given. let (n, sizes, cs, rs, well, run) = given in given-valid n sizes well cs rs s run,
+)

@@ -5,6 +5,8 @@
 --   Did s c r s₁              the code's reply to the call c on the inventory s is r, and s₁ is what it hands back: by the very
 --                             definitions that the contracts of the calls cite
 --   Ran s cs rs e             the calls cs, each on the inventory last handed back, give the replies rs and leave e
+--   Given s                   an accepted opening and calls give the inventory s
+--   ExactlyGiven              they give what isInventory says, and nothing else
 --   addsFile f cs, addsVolume v cs     whether the calls cs add file f, volume v
 --   OnlyAdds cs               the calls cs add and do nothing else
 --   Told t cs                 the calls cs add what is present in t and nothing else, in whatever order
@@ -25,9 +27,10 @@ use Rattle.parity.specs.Coefficient.{coefficient}
 use Rattle.parity.specs.MulAdd.{mulAddAll}
 use Rattle.parity.specs.Once.{Once}
 use Rattle.parity.specs.Parity.{Contents, isFile}
+use Rattle.number_sets.specs.Sets.{Words}
 use Rattle.inventory.specs.Recoverable.{State, IsContents, Recoverable, place, present, ComeFrom}
 use Rattle.inventory.specs.Model.{Call, addFile, removeFile, addVolume, removeVolume, count, query, Reply, numbered, counts, queried, opened, after, GivesAll}
-use Rattle.inventory.specs.Steps.{openStep, addFileStep, removeFileStep, addVolumeStep, removeVolumeStep, countStep, answerNumber}
+use Rattle.inventory.specs.Steps.{isInventory, openStep, addFileStep, removeFileStep, addVolumeStep, removeVolumeStep, countStep, answerNumber}
 use Rattle.inventory.specs.Query.{Queried}
 use Rattle.inventory.specs.declared.Inventory.{Inventory}
 use Rattle.inventory.specs.declared.Outcome.{Outcome}
@@ -59,6 +62,15 @@ Ran s [] [] e = s ≡ e
 Ran s [] (r ∷ rs) e = ⊥
 Ran s (c ∷ cs) [] e = ⊥
 Ran s (c ∷ cs) (r ∷ rs) e = (s₁ : Inventory) × Did s c r s₁ × Ran s₁ cs rs e
+
+-- ---- "a sheet that opening and accepted calls could not have given"
+
+abbrev pub Given : Inventory → Type 0
+Given s = (n : ℕ) × (sizes : List ℕ) × (cs : List Call) × (rs : List Reply) × (openStep n sizes .number ≡ 0) × Ran (openStep n sizes .next) cs rs s
+
+-- of an inventory whose sets are words, as those in the code are; proved: proofs/Reachable.antt, `exactly-given`
+abbrev pub ExactlyGiven : Type 0
+ExactlyGiven = (s : Inventory) → Words (s .files) → Words (s .volumes) → Words (s .nonempty) → (isInventory s ≡ true) ↔ Given s
 
 -- ---- "told only what is in hand now, in whatever order"
 

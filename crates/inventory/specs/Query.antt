@@ -1,7 +1,7 @@
 -- What a query does (document 01, "The sheet": ask), and the parts that it is made of.
 --
 --   stateOf s size          the state that an inventory stands for, of files of these sizes
---   Matches s size          the sizes are 0 where the inventory has the files as empty
+--   Matches s size          a size is 0 exactly where the inventory has the file as empty
 --   answerOf k              the answer with the document's number k
 --   Queried s f room r room′    the reply r to a query, and the room after it
 --   Found n files volumes nonempty f found ws     whether weights bring file f back, and these weights by volume number
@@ -38,7 +38,7 @@ answerOf k =
     (cond (eqb k 12) answer.Undetermined (cond (eqb k 13) answer.Present (answer.Refused k)))
 
 -- "Every call refuses with 10, first of all, a sheet that opening and accepted calls could not have given": else as the model
--- gives it, whatever the sizes are
+-- gives it, for all sizes that the inventory can stand for
 pub data Queried (s : Inventory) (f : ℕ) (room : List ℕ) (r : Answer) (room′ : List ℕ) : Type 0 where
   noInventory : isInventory s ≡ false → r ≡ answer.Refused 10 → room′ ≡ room → Queried s f room r room′
   asModel : isInventory s ≡ true → (k : ℕ) → r ≡ answerOf k

@@ -12,7 +12,7 @@
 --   weighted rule t w g         the sum, over the volumes, of weight times the coefficient of file g
 --   IsWeights rule t f w        w is the 255 weights of file f
 --   present t k                 whether the fragment of place k is present
---   ComeFrom rule t X fragment  the fragments present are those of the contents X, a volume's with any number of zeros after
+--   ComeFrom rule t X fragment  the fragments present are those of the contents X, with any number of zeros after
 -- Sentences in quotation marks are document 01's, or the tender's condition 3.
 -- Assumes nothing.
 use mathlib.Core.Path.{_≡_}
@@ -90,8 +90,8 @@ module _ (rule : ℕ → ℕ → ℕ) where
     pub of-missing : (g : ℕ) → isFile (t .n) g ≡ true → t .files g ≡ false → place w g ≡ 0
 
   -- "each file's piece is that file in the set and each volume's piece is the set's parity in it, with any number of zeros after"
+  -- bytes past a fragment's end count as 0, so one whose last bytes are 0 may also end early
   pub record ComeFrom (t : State) (X : Contents) (fragment : ℕ → List ℕ) : Type 0 where
-    pub of-file : (f : ℕ) → isFile (t .n) f ≡ true → t .files f ≡ true → fragment f ≡ X f
-    -- bytes past a fragment's end count as 0, so one whose last bytes are 0 may also end early
+    pub of-file : (f : ℕ) → isFile (t .n) f ≡ true → t .files f ≡ true → (p : ℕ) → getD (fragment f) p 0 ≡ getD (X f) p 0
     pub of-volume : (v : ℕ) → isVolume (t .n) v ≡ true → t .volumes v ≡ true
         → (p : ℕ) → getD (fragment (t .n + v)) p 0 ≡ parityByte rule (t .n) X v p

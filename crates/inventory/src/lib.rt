@@ -48,6 +48,7 @@ pub enum Answer {
     Refused(u32),
 }
 
+// Every call but `open` refuses with 10, first of all, an inventory that no calls give.
 impl Inventory {
     // An inventory of n files of these sizes, nothing present: 10 unless n is 1 to 254 and there are n sizes, then 1 for a
     // size above the limit.
@@ -105,7 +106,7 @@ impl Inventory {
         Outcome { next: self, number }
     }
 
-    // The inventory with a volume present, with the same numbers.
+    // The inventory with a volume present: 10 for a number out of range, 11 for one that is present.
     pub fn add_volume(mut self, volume: u64) -> Outcome
         ensures { λ r. ⌜ r ≡ addVolumeStep self volume ⌝ }
     {
@@ -120,7 +121,7 @@ impl Inventory {
         Outcome { next: self, number }
     }
 
-    // The inventory with a volume missing, with the same numbers.
+    // The inventory with a volume missing: 10 for a number out of range, 11 for one that is missing.
     pub fn remove_volume(mut self, volume: u64) -> Outcome
         ensures { λ r. ⌜ r ≡ removeVolumeStep self volume ⌝ }
     {

@@ -30,6 +30,7 @@ use Rattle.entries.specs.declared.Walked.{Walked}
 use Rattle.entries.specs.declared.Walked.the-variants as walked
 use Rattle.entries.proofs.EntryLaws.{sized}
 use Rattle.entries.proofs.WalkLaws.{walk-count, walk-saved}
+use Rattle.text.specs.Ascii.{ascii}
 use Rattle.text.specs.Decimal.{decimal}
 use Rattle.text.proofs.DecimalLaws.{decimal-length}
 use Rattle.par1_rules.specs.Layout.{signature, signatureOf, versionOf, controlHashOf, setHashOf, numberOf, countOf, listSizeOf, dataSizeOf, listOf}
@@ -59,7 +60,7 @@ label-most : (status n : ℕ) → n < 100000000 → length (label status n) ≤ 
 unfolding label
 label-most status n h = by (isSaved status)
   where
-    by : (b : Bool) → length (cond b (decimal n) (45 ∷ [])) ≤ 8
+    by : (b : Bool) → length (cond b (decimal n) (ascii "-")) ≤ 8
     by true = eight-digits n h
     by false = omega arith
 

@@ -23,6 +23,7 @@ use Rattle.entries.specs.Walk.{entriesOf}
 use Rattle.entries.specs.declared.Fault.{Fault}
 use Rattle.entries.proofs.EntryLaws.{IsEntry, IsFault}
 use Rattle.entries.proofs.WalkLaws.{entries-more}
+use Rattle.text.specs.Ascii.{ascii}
 use Rattle.text.specs.Decimal.{decimal}
 use Rattle.listing.specs.Lines.{shown, field, label, lineOf, entryLine, savedAfter, entryLines}
 
@@ -72,8 +73,8 @@ unfolding lineOf label
 line-number k e = by (isSaved (statusOf e))
   where
     by : (b : Bool)
-        → flatten (cond b (decimal (cond b (k + 1) k)) (45 ∷ []) ∷ field (32 ∷ []) (fileSizeOf e) ∷ (32 ∷ []) ∷ map shown (unitsOf (nameOf e)) ∷ (10 ∷ []) ∷ [])
-        ≡ flatten (cond b (decimal (cond b (k + 1) 0)) (45 ∷ []) ∷ field (32 ∷ []) (fileSizeOf e) ∷ (32 ∷ []) ∷ map shown (unitsOf (nameOf e)) ∷ (10 ∷ []) ∷ [])
+        → flatten (cond b (decimal (cond b (k + 1) k)) (ascii "-") ∷ field (ascii " ") (fileSizeOf e) ∷ ascii " " ∷ map shown (unitsOf (nameOf e)) ∷ (10 ∷ []) ∷ [])
+        ≡ flatten (cond b (decimal (cond b (k + 1) 0)) (ascii "-") ∷ field (ascii " ") (fileSizeOf e) ∷ ascii " " ∷ map shown (unitsOf (nameOf e)) ∷ (10 ∷ []) ∷ [])
     by true = refl
     by false = refl
 

@@ -11,41 +11,43 @@
 --   entryLines k es     the lines of the entries es, where k saved ones stand before them
 -- Assumes nothing.
 use Prim.Native.Nat.{ℕ, _+_}
+use Prim.Native.Char.{code}
 use mathlib.Core.Bool.{cond, _&&_}
 use mathlib.Core.List.{List, [], _∷_, _++_, map, flatten}
 use lib.Dec.{leb}
 use Rattle.entries.specs.Entry.{statusOf, fileSizeOf, nameOf, unitsOf, isSaved}
+use Rattle.text.specs.Ascii.{ascii}
 use Rattle.text.specs.Decimal.{decimal}
 
 -- "Name units 32 to 126 are printed, others as "?""
 unfoldable pub shown : ℕ → ℕ
-shown u = cond (leb 32 u && leb u 126) u 63
+shown u = cond (leb 32 u && leb u 126) u (code "?")
 
 abbrev pub field : List ℕ → ℕ → List ℕ
 field s n = s ++ decimal n
 
 -- "the line `refused N`", "ended by byte 10"
 unfoldable pub refusedLine : ℕ → List ℕ
-refusedLine n = flatten (field (114 ∷ 101 ∷ 102 ∷ 117 ∷ 115 ∷ 101 ∷ 100 ∷ 32 ∷ []) n ∷ (10 ∷ []) ∷ [])
+refusedLine n = flatten (field (ascii "refused ") n ∷ (10 ∷ []) ∷ [])
 
 -- "volume 0 files 2 saved 1"
 unfoldable pub headLine : ℕ → ℕ → ℕ → List ℕ
 headLine volume files saved =
     flatten
-    (field (118 ∷ 111 ∷ 108 ∷ 117 ∷ 109 ∷ 101 ∷ 32 ∷ []) volume
-    ∷ field (32 ∷ 102 ∷ 105 ∷ 108 ∷ 101 ∷ 115 ∷ 32 ∷ []) files
-    ∷ field (32 ∷ 115 ∷ 97 ∷ 118 ∷ 101 ∷ 100 ∷ 32 ∷ []) saved
+    (field (ascii "volume ") volume
+    ∷ field (ascii " files ") files
+    ∷ field (ascii " saved ") saved
     ∷ (10 ∷ [])
     ∷ [])
 
 -- the file's number, or "-" where the entry is not saved: "entries not saved have no number"
 unfoldable pub label : ℕ → ℕ → List ℕ
-label status number = cond (isSaved status) (decimal number) (45 ∷ [])
+label status number = cond (isSaved status) (decimal number) (ascii "-")
 
 -- "1 5 A.LOG" for a saved entry, "- 12 NOTE.TXT" for another
 unfoldable pub lineOf : ℕ → ℕ → ℕ → List ℕ → List ℕ
 lineOf status number size name =
-    flatten (label status number ∷ field (32 ∷ []) size ∷ (32 ∷ []) ∷ map shown (unitsOf name) ∷ (10 ∷ []) ∷ [])
+    flatten (label status number ∷ field (ascii " ") size ∷ ascii " " ∷ map shown (unitsOf name) ∷ (10 ∷ []) ∷ [])
 
 abbrev pub entryLine : ℕ → List ℕ → List ℕ
 entryLine number e = lineOf (statusOf e) number (fileSizeOf e) (nameOf e)

@@ -8,7 +8,7 @@
 --   member-inserted, member-removed, member-none   what is in the set then
 --   size-by-ones                      the counts of ones of the words sum to the size of the set
 --   below-four                        what holds at 0 to 3 holds below 4
---   Words, words-same                 words of 64 bits; two sets with the same members are the same words
+--   words-same                        two sets with the same members are the same words
 --   words-none, words-inserted        the words that calls give
 -- Assumes nothing.
 use mathlib.Core.Path.{_≡_, refl, sym, ap, ap₂, _∙_, subst}
@@ -28,7 +28,7 @@ use lib.Count.{ones, ones-step}
 use lib.Dec.{eqb}
 use borrow.Author.Tests.{eq-eqb, ne-eqb}
 use Rattle.finite.proofs.Tests.{bit-cases}
-use Rattle.number_sets.specs.Sets.{member, inserted, removed, sizeBelow}
+use Rattle.number_sets.specs.Sets.{member, inserted, removed, sizeBelow, Words}
 
 -- ---- one bit of a word
 
@@ -290,11 +290,6 @@ below-four P a b c d (suc (suc (suc zero))) l = d
 below-four P a b c d (suc (suc (suc (suc j)))) l = absurd (omega arith)
 
 -- ---- words of 64 bits
-
--- four words of 64 bits: what an array holds
-pub record Words (ws : List ℕ) : Type 0 where
-  pub four : length ws ≡ 4
-  pub fits : (j : ℕ) → getD ws j 0 < 2 ^ 64
 
 bits-same : (n w w′ : ℕ) → w < 2 ^ n → w′ < 2 ^ n → ((b : ℕ) → b < n → bit w b ≡ bit w′ b) → w ≡ w′
 bits-same zero w w′ h h′ e = omega arith

@@ -4,6 +4,7 @@
 --   inserted k ws     the words with the bit of k set
 --   removed k ws      the words with the bit of k cleared
 --   sizeBelow m set   how many numbers below m are in a set
+--   Words ws          ws are four words of 64 bits
 --   Ones word r       r of the bits of a word are set
 -- Assumes nothing.
 use mathlib.Core.Path.{_≡_}
@@ -13,7 +14,7 @@ use Prim.Native.Nat.{ℕ, zero, suc, _+_, _-_, _/_, _%_, _^_, _<_, _≤_}
 use lib.Bits.{bitAnd, bitOr}
 use lib.Count.{ones}
 use lib.Dec.{eqb}
-use lib.ListN.{getD, set}
+use lib.ListN.{length, getD, set}
 
 unfoldable pub member : List ℕ → ℕ → Bool
 member ws k = eqb (getD ws (k / 64) 0 / 2 ^ (k % 64) % 2) 1
@@ -27,6 +28,11 @@ removed k ws = set ws (k / 64) (bitAnd (getD ws (k / 64) 0) (2 ^ 64 - 1 - 2 ^ (k
 unfoldable pub sizeBelow : ℕ → (ℕ → Bool) → ℕ
 sizeBelow zero set = 0
 sizeBelow (suc m) set = sizeBelow m set + cond (set m) 1 0
+
+-- what an array of type [u64; 4] holds
+pub record Words (ws : List ℕ) : Type 0 where
+  pub four : length ws ≡ 4
+  pub fits : (j : ℕ) → getD ws j 0 < 2 ^ 64
 
 pub record Ones (word r : ℕ) : Type 0 where
   pub is : r ≡ ones word

@@ -1,5 +1,6 @@
 -- Condition 2, for entries: a written entry walks back to its fields, and checking accepts the contents that it was written from.
 --
+--   entry-accepted    the entry of a file that keeps the rules is written
 --   entry-written     every written entry is that of its file
 -- Assumes nothing.
 use mathlib.Core.Path.{_≡_, refl, sym, ap, ap₂, _∙_, subst}
@@ -11,7 +12,7 @@ use lib.Dec.{leb, eqb}
 use lib.ListN.{length, take, drop, length-append}
 use lib.Seq.{take-append-seam, drop-append-seam}
 use borrow.Author.Tests.{leb-true, eqb-true, eq-eqb, le-leb}
-use Rattle.answers.proofs.WritingLaws.{unless-tells}
+use Rattle.answers.proofs.WritingLaws.{unless-tells, unless-none, written-fits}
 use Rattle.finite.proofs.Tests.{and-both}
 use Rattle.pieces.specs.Pieces.{before}
 use Rattle.little_endian.specs.Bytes.{toLe}
@@ -24,7 +25,7 @@ use Rattle.entries.specs.declared.Item.the-variants.{Entry}
 use Rattle.entries.proofs.EntryLaws.{first-entry, is-entry}
 use Rattle.entries.proofs.WalkLaws.{entries-more}
 use Rattle.par1_rules.specs.Hashes.{md5First}
-use Rattle.par1.specs.Claim.{EntryBack, EntryWritten}
+use Rattle.par1.specs.Claim.{EntryAccepted, EntryBack, EntryWritten}
 use Rattle.par1.specs.Checking.{itemRefusal, loneRefusal, checkOf}
 use Rattle.par1_write.specs.EntryWriting.{entryBytes, nameBytesAllowed, entryRefusal, writeEntryOf}
 use Rattle.par1.proofs.CheckingLaws.{check-lone}
@@ -119,6 +120,14 @@ module _ {e m : List ℕ} {status : ℕ} {name : List ℕ} (size : length e ≡ 
         name-is = d .named;
         check-is = checked-back;
       }
+
+pub entry-accepted : EntryAccepted
+unfolding writeEntryOf entryRefusal
+entry-accepted m status name out size-right status-right name-right room =
+    let s : List ℕ = entryBytes m status name in
+    let fits : length s ≤ length out = omega (arith, length-entry m status name) in
+    let none : entryRefusal (length m) status name ≡ 0 = simp (size-right, status-right, name-right) in
+    (length s, s ++ drop (length s) out, sym (unless-none s out refl none (written-fits s out fits refl refl)))
 
 pub entry-written : EntryWritten
 unfolding writeEntryOf

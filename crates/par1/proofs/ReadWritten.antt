@@ -1,16 +1,17 @@
 -- Condition 2, first half: what is written is what the format defines, and reading it returns the parts.
 --
+--   volume-accepted              what keeps the rules is written
 --   volume-written               a written volume has the bytes that the format defines
 --   ListPassed, list-passed      what the tests of writing, passed, tell
 --   read-written                 every written volume is read back
 -- A test of document 01 is passed where it does not hold.
 -- Assumes nothing.
 use mathlib.Core.Path.{_≡_, refl, sym, ap, ap₂, _∙_, subst}
-use mathlib.Core.List.{List}
-use Prim.Native.Nat.{ℕ, _+_, _^_, _<_}
+use mathlib.Core.List.{List, _++_}
+use Prim.Native.Nat.{ℕ, _+_, _^_, _<_, _≤_}
 use native.Mathlib.Omega.{arith}
-use lib.ListN.{length, take}
-use Rattle.answers.proofs.WritingLaws.{unless-tells}
+use lib.ListN.{length, take, drop}
+use Rattle.answers.proofs.WritingLaws.{unless-tells, unless-none, written-fits}
 use Rattle.pieces.proofs.CutLaws.{cut-count}
 use Rattle.entries.specs.Entry.{lengthOf}
 use Rattle.entries.specs.Walk.{entriesOf, walkOf}
@@ -26,9 +27,19 @@ use Rattle.par1_write.specs.VolumeWriting.{volumeBytes, walkRefusal, writeVolum
 use Rattle.par1_read.specs.declared.reading.Reading.the-variants.{Accepted}
 use Rattle.par1_read.proofs.ReadingLaws.{HeaderPassed, TotalsPassed, Passed, passed-none, read-accepted}
 use Rattle.par1_rules.proofs.RuleLaws.{Between, fault-some}
-use Rattle.par1.specs.Claim.{VolumeWritten, partsFor, ReadWritten}
+use Rattle.par1.specs.Claim.{VolumeAccepted, VolumeWritten, partsFor, ReadWritten}
 use Rattle.par1.proofs.VolumeFields.{Fields, volume-fields}
-use Rattle.par1_write.proofs.VolumeWritingLaws.{VolumePassed, volume-passed, length-volume}
+use Rattle.par1_write.proofs.VolumeWritingLaws.{VolumePassed, volume-passed, volume-none, length-volume}
+
+pub volume-accepted : VolumeAccepted
+unfolding writeVolumeOf
+volume-accepted program number list area out t walk number-right data-right high room =
+    let s : List ℕ = volumeBytes program number list area in
+    let fits : length s ≤ length out = omega (arith, length-volume program number list area) in
+    let passed : VolumePassed number t (length list) (length area) =
+    record { number-right = number-right; data-right = data-right; size = record { low = omega arith; high = high } } in
+    let none = ap (λ (w : Walked). walkRefusal number w (length list) (length area)) walk ∙ volume-none number t (length list) (length area) passed in
+    (length s, s ++ drop (length s) out, sym (unless-none s out refl none (written-fits s out fits refl refl)))
 
 pub volume-written : VolumeWritten
 unfolding writeVolumeOf

@@ -1,34 +1,50 @@
 -- Condition 2 of the tender: a volume is written as the format defines, is read back, and is written again with the same bytes.
 --
+--   VolumeAccepted               what keeps the rules is written, where there is room for it
 --   VolumeWritten                a written volume has the bytes that the format defines
 --   partsFor p v list area       what reading returns of volume v of the program p, with this list and this data
 --   ReadBack f p v list area     the file f is read so, and its areas are this list and this data
 --   ReadWritten                  every written volume is read back
 --   WrittenRead                  every accepted file, written from what reading gave, has the same bytes
+--   EntryAccepted                the entry of a file that keeps the rules is written, where there is room for it
 --   EntryBack e m st name        the entry e is that of a file with the contents m, the status st and the name
 --   EntryWritten                 every written entry is that of its file
 -- The contracts of write_volume, read, write_entry and check cite writeVolumeOf, readOf, writeEntryOf and checkOf.
 -- Assumes nothing.
 use mathlib.Core.Path.{_≡_}
+use mathlib.Core.Bool.{true}
 use mathlib.Core.List.{List, _++_}
 use Prim.Native.Nat.{ℕ, _+_, _^_, _<_, _≤_}
 use lib.ListN.{length, take, drop}
 use Rattle.answers.specs.declared.Writing.the-variants.{Written}
 use Rattle.pieces.specs.Pieces.{before}
 use Rattle.little_endian.specs.Bytes.{Bytes}
-use Rattle.entries.specs.Entry.{md5Of, md5Of16k, nameOf}
+use Rattle.entries.specs.Entry.{md5Of, md5Of16k, nameOf, fileSizeAllowed}
 use Rattle.entries.specs.Numbering.{savedOf}
-use Rattle.entries.specs.Walk.{firstOf, entriesOf}
+use Rattle.entries.specs.Walk.{firstOf, entriesOf, walkOf}
+use Rattle.entries.specs.declared.Totals.{Totals}
+use Rattle.entries.specs.declared.Walked.the-variants as walked
 use Rattle.entries.specs.declared.Item.the-variants.{Entry}
 use Rattle.md5.specs.Digest.{md5}
 use Rattle.par1_rules.specs.Layout.{listOf, dataOf}
 use Rattle.par1_rules.specs.Hashes.{md5First}
+use Rattle.par1_rules.specs.Rules.{numberAllowed, dataAllowed}
 use Rattle.par1_read.specs.Reading.{readOf}
 use Rattle.par1_read.specs.declared.reading.Parts.{Parts}
 use Rattle.par1_read.specs.declared.reading.Reading.the-variants.{Accepted}
 use Rattle.par1_write.specs.VolumeWriting.{volumeBytes, writeVolumeOf}
-use Rattle.par1_write.specs.EntryWriting.{writeEntryOf}
+use Rattle.par1_write.specs.EntryWriting.{statusAllowed, nameBytesAllowed, writeEntryOf}
 use Rattle.par1.specs.Checking.{checkOf}
+
+-- ---- nothing else is refused
+
+-- so a writer that refuses all is excluded, and with `ReadWritten` a reader that does; proved: proofs/ReadWritten.antt, `volume-accepted`
+abbrev pub VolumeAccepted : Type 0
+VolumeAccepted =
+    (program number : ℕ) (list area out : List ℕ) (t : Totals) → walkOf list ≡ walked.Entries t
+    → numberAllowed number (t .saved) ≡ true → dataAllowed number (t .greatest) (length area) ≡ true
+    → 96 + length list + length area ≤ 33554432 → 96 + length list + length area ≤ length out
+    → (n : ℕ) × (room : List ℕ) × (writeVolumeOf program number list area out ≡ (Written n, room))
 
 -- ---- "A volume written is, byte by byte, the one that Par 1.0, RFC 1321 and document 01 define."
 
@@ -75,6 +91,13 @@ WrittenRead =
     ≡ (Written (length f), f ++ drop (length f) out)
 
 -- ---- the same for an entry
+
+-- proved: proofs/EntryWritten.antt, `entry-accepted`
+abbrev pub EntryAccepted : Type 0
+EntryAccepted =
+    (m : List ℕ) (status : ℕ) (name out : List ℕ) → fileSizeAllowed (length m) ≡ true → statusAllowed status ≡ true
+    → nameBytesAllowed name ≡ true → 56 + length name ≤ length out
+    → (n : ℕ) × (room : List ℕ) × (writeEntryOf m status name out ≡ (Written n, room))
 
 -- whatever follows the entry; checking accepts the contents
 pub record EntryBack (e m : List ℕ) (status : ℕ) (name : List ℕ) : Type 0 where

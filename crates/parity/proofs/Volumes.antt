@@ -14,6 +14,7 @@ use lib.ListN.{length, getD, replicate, length-replicate, getD-replicate}
 use lib.Seq.{ext-getD}
 use Rattle.gf256.specs.Field.{product}
 use Rattle.gf256.proofs.Polynomials.{sumBelow-same}
+use Rattle.parity.specs.Claim.{VolumeData}
 use Rattle.parity.specs.Coefficient.{coefficient}
 use Rattle.parity.specs.MulAdd.{mulAddAll, sumBytes}
 use Rattle.parity.specs.Once.{Once}
@@ -47,7 +48,5 @@ module _ (rule : ℕ → ℕ → ℕ) (n : ℕ) (X : Contents) (v m : ℕ) where
       ≡ parity rule n X v m
   shares-parity ks ls once = mulAddAll-shares (λ f. rule f v) X ks ls m ∙ files-parity (ks ++ ls) once
 
--- "Every saved file folded with its factor into zeros of the data size gives a volume's data"
-pub volume-data : (n : ℕ) (X : Contents) (v m : ℕ) (ks : List ℕ) → Once (isFile n) ks
-    → mulAddAll (λ f. coefficient f v) X ks (replicate m 0) ≡ parity coefficient n X v m
+pub volume-data : VolumeData
 volume-data = files-parity coefficient

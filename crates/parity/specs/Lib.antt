@@ -1,3 +1,4 @@
+pub mod Claim
 pub mod Coefficient
 pub mod MulAdd
 pub mod Once

@@ -1,3 +1,4 @@
+pub mod Ascii
 pub mod Buffer
 pub mod Decimal
 pub mod Hex

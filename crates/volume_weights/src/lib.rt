@@ -113,7 +113,8 @@ fn advance(mut row: [u8; 256]) -> [u8; 256]
     row
 }
 
-// The weights of the files present, by file number less 1: what their bytes add to the first `rows` volumes, so weighted.
+// The weights of the files present, by file number less 1: the sum, over the first `rows` volumes, of weight times coefficient; 0 for
+// a file that is not present.
 pub fn file_weights(files: [u64; 4], rows: u8, weights: &[u8; 256]) -> [u8; 256]
     ensures { λ r. ⌜ FileWeights files (now (weights .entry)) rows r ⌝ }
 {
