@@ -1,6 +1,7 @@
 -- What each call on an inventory does (document 01, "The sheet", "What comes back"), on its words.
 --
 --   allBelow m test      whether the test holds at each number below m
+--   oneTo m k            whether k is one of 1 to m
 --   within m ws          whether each number of the set ws is one of 1 to m
 --   isInventory s        whether opening and accepted calls could have given s
 --   zeros                the inventory of zeros
@@ -36,14 +37,17 @@ unfoldable pub allBelow : ℕ → (ℕ → Bool) → Bool
 allBelow zero test = true
 allBelow (suc m) test = test m && allBelow m test
 
+abbrev pub oneTo : ℕ → ℕ → Bool
+oneTo m k = leb 1 k && leb k m
+
 unfoldable pub within : ℕ → List ℕ → Bool
-within m ws = allBelow 256 (λ k. not (member ws k) || isFile m k)
+within m ws = allBelow 256 (λ k. not (member ws k) || oneTo m k)
 
 -- "A sheet needs n from 1 to 254"; bits of files, and of files that are not empty, in 1 to n, of volumes in 1 to 255 - n.
 -- proofs/Reachable.antt shows that this is exact: `given-valid`, `valid-given`
 unfoldable pub isInventory : Inventory → Bool
 isInventory s =
-    isFile 254 (s .n) && (within (s .n) (s .files) && (within (s .n) (s .nonempty) && within (255 - s .n) (s .volumes)))
+    oneTo 254 (s .n) && (within (s .n) (s .files) && (within (s .n) (s .nonempty) && within (255 - s .n) (s .volumes)))
 
 -- ---- opening
 
@@ -68,7 +72,7 @@ refusedOpening number = outcome zeros number
 -- "A sheet needs n from 1 to 254 and one size each (10), each at most 16,777,216 (1)."
 unfoldable pub openStep : ℕ → List ℕ → Outcome
 openStep n sizes =
-    cond (isFile 254 n && eqb (length sizes) n)
+    cond (oneTo 254 n && eqb (length sizes) n)
     (cond (allBelow n (λ i. leb (getD sizes i 0) 16777216)) (outcome (fresh n sizes) 0) (refusedOpening 1))
     (refusedOpening 10)
 

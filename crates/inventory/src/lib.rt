@@ -12,9 +12,9 @@ use number_sets::has;
 use number_sets::insert;
 use number_sets::remove;
 use number_sets::size;
-use ranges::is_file;
 use ranges::is_inventory;
 use ranges::is_volume;
+use ranges::one_to;
 
 // The greatest size of a listed file, in bytes.
 const MAX_FILE_BYTES: u64 = 16777216;
@@ -55,7 +55,7 @@ impl Inventory {
     pub fn open(n: u64, sizes: &[u64]) -> Outcome
         ensures { λ r. ⌜ r ≡ openStep n (now (sizes .entry)) ⌝ }
     {
-        if !is_file(254, n) {
+        if !one_to(254, n) {
             return refused_opening(OUT_OF_RANGE);
         }
         if sizes.len() as u64 != n {
@@ -89,7 +89,7 @@ impl Inventory {
         ensures { λ r. ⌜ r ≡ addFileStep self file ⌝ }
     {
         let files = self.files;
-        let number = change_number(is_inventory(self), is_file(self.n, file), has(files, file));
+        let number = change_number(is_inventory(self), one_to(self.n, file), has(files, file));
         let now = unless_refused(number, insert(files, file), files);
         self.files = now;
         Outcome { next: self, number }
@@ -100,7 +100,7 @@ impl Inventory {
         ensures { λ r. ⌜ r ≡ removeFileStep self file ⌝ }
     {
         let files = self.files;
-        let number = change_number(is_inventory(self), is_file(self.n, file), !has(files, file));
+        let number = change_number(is_inventory(self), one_to(self.n, file), !has(files, file));
         let now = unless_refused(number, remove(files, file), files);
         self.files = now;
         Outcome { next: self, number }

@@ -7,8 +7,8 @@ ghost use Rattle.parity.specs.Parity.{isFile};
 ghost use Rattle.inventory.specs.Query.{Queried, Found, Written};
 use crate::Answer;
 use crate::Inventory;
-use crate::ranges::is_file;
 use crate::ranges::is_inventory;
+use crate::ranges::one_to;
 use answers::NO_ROOM;
 use answers::OUT_OF_RANGE;
 use number_sets::has;
@@ -27,7 +27,7 @@ impl Inventory {
         if !is_inventory(self) {
             return Answer::Refused(OUT_OF_RANGE);
         }
-        if !is_file(self.n, file) {
+        if !one_to(self.n, file) {
             return Answer::Refused(OUT_OF_RANGE);
         }
         let files = self.files;

@@ -1,8 +1,7 @@
 // Which numbers are in range, and which inventories calls give (document 01, "What comes back", number 10).
 ghost use mathlib.Core.Path.{_≡_};
-ghost use Rattle.parity.specs.Parity.{isFile};
 ghost use Rattle.inventory.specs.Recoverable.{isVolume};
-ghost use Rattle.inventory.specs.Steps.{within, isInventory};
+ghost use Rattle.inventory.specs.Steps.{oneTo, within, isInventory};
 use crate::Inventory;
 use number_sets::has;
 
@@ -11,7 +10,7 @@ pub fn is_inventory(s: Inventory) -> bool
     ensures { λ r. ⌜ r ≡ isInventory s ⌝ }
 {
     let n = s.n;
-    if !is_file(254, n) {
+    if !one_to(254, n) {
         return false;
     }
     let files = s.files;
@@ -26,14 +25,14 @@ pub fn is_inventory(s: Inventory) -> bool
     within(255 - n, volumes)
 }
 
-// Whether `file` is the number of one of n files: 1 to n.
-pub fn is_file(n: u64, file: u64) -> bool
-    ensures { λ r. ⌜ r ≡ isFile n file ⌝ }
+// Whether k is one of 1 to m.
+pub fn one_to(m: u64, k: u64) -> bool
+    ensures { λ r. ⌜ r ≡ oneTo m k ⌝ }
 {
-    if file < 1 {
+    if k < 1 {
         return false;
     }
-    file <= n
+    k <= m
 }
 
 // Whether `volume` is the number of a volume of n files: 1 to 255 - n.
@@ -56,7 +55,7 @@ fn within(m: u64, set: [u64; 4]) -> bool
     let mut k: u64 = 0;
     while k < 256 {
         if has(set, k) {
-            if !is_file(m, k) {
+            if !one_to(m, k) {
                 return false;
             }
         }

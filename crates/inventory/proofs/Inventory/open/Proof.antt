@@ -22,8 +22,8 @@ Inv-loop n sizes nonempty₀ k₀ nonempty k =
 abbrev μ-loop : tie.MeasureT-loop
 μ-loop n sizes nonempty₀ k₀ nonempty k = length sizes - k
 
-is-file-requires : tie.Need-is-file-requires Inv-loop μ-loop
-is-file-requires c κs = search needs
+one-to-requires : tie.Need-one-to-requires Inv-loop μ-loop
+one-to-requires c κs = search needs
 
 refused-opening-requires : tie.Need-refused-opening-requires Inv-loop μ-loop
 refused-opening-requires c κs = search needs
@@ -32,7 +32,7 @@ returns : tie.Need-returns Inv-loop μ-loop
 returns c =
     let a = c .before .before .before .before .args in
     c .refused-opening .ensures
-    ∙ open-out-of-range (a .n) (a .sizes .now) (sym (c .before .before .is-file .ensures) ∙ not-true (c .before .before .is-file .result) (c .before .if1 .taken))
+    ∙ open-out-of-range (a .n) (a .sizes .now) (sym (c .before .before .one-to .ensures) ∙ not-true (c .before .before .one-to .result) (c .before .if1 .taken))
 
 refused-opening-requires-2 : tie.Need-refused-opening-requires-2 Inv-loop μ-loop
 refused-opening-requires-2 c κs = search needs
@@ -60,7 +60,7 @@ returns-3 c =
     let l = c .before .before .before .before .loop in
     let ranged = c .before .before .before .before .before .before in
     let a = ranged .before .before .before .args in
-    let in-range = sym (ranged .before .is-file .ensures) ∙ not-false (ranged .before .is-file .result) (ranged .if1 .left) in
+    let in-range = sym (ranged .before .one-to .ensures) ∙ not-false (ranged .before .one-to .result) (ranged .if1 .left) in
     c .refused-opening3 .ensures ∙ open-too-large (a .n) (a .sizes .now) in-range (c .before .before .before .before .before .if2 .left) (l .k) (omega arith) (c .before .if3 .taken)
 
 mul-if4 : tie.Need-mul-if4 Inv-loop μ-loop
@@ -97,7 +97,7 @@ returns-4 c =
     let l = c .before .loop in
     let ranged = c .before .before .before in
     let a = ranged .before .before .before .args in
-    let in-range = sym (ranged .before .is-file .ensures) ∙ not-false (ranged .before .is-file .result) (ranged .if1 .left) in
+    let in-range = sym (ranged .before .one-to .ensures) ∙ not-false (ranged .before .one-to .result) (ranged .if1 .left) in
     let counted : length (a .sizes .now) ≡ a .n = c .before .before .if2 .left in
     let e : l .k ≡ a .n = omega arith in
     ap (λ (ws : List ℕ). outcome (record { n = a .n; files = replicate 4 0; volumes = replicate 4 0; nonempty = ws }) 0)
@@ -110,7 +110,7 @@ open-spec =
     (tie.spec
     Inv-loop
     μ-loop
-    is-file-requires
+    one-to-requires
     refused-opening-requires
     returns
     refused-opening-requires-2

@@ -19,7 +19,7 @@ valid : (c : tie.Else1) → isInventory (c .before .before .before .args .self) 
 valid c = sym (c .before .is-inventory .ensures) ∙ not-false (c .before .is-inventory .result) (c .if1 .left)
 
 ranged : (c : tie.Else2) → let a = c .before .before .before .before .before .args in isFile (a .self .n) (a .file) ≡ true
-ranged c = sym (c .before .is-file .ensures) ∙ not-false (c .before .is-file .result) (c .if2 .left)
+ranged c = sym (c .before .one-to .ensures) ∙ not-false (c .before .one-to .result) (c .if2 .left)
 
 missing : (c : tie.Else3)
     → let a = c .before .before .before .before .before .before .before .before .before .before .args in member (a .self .files) (a .file) ≡ false
@@ -31,13 +31,13 @@ is-inventory-requires c κs = search needs
 returns : tie.Need-returns
 returns c = noInventory (sym (c .before .is-inventory .ensures) ∙ not-true (c .before .is-inventory .result) (c .if1 .taken)) refl refl
 
-is-file-requires : tie.Need-is-file-requires
-is-file-requires c κs = search needs
+one-to-requires : tie.Need-one-to-requires
+one-to-requires c κs = search needs
 
 returns-2 : tie.Need-returns-2
 returns-2 c =
     query-out-of-range _ (valid (c .before .before)) _ _
-    (sym (c .before .is-file .ensures) ∙ not-true (c .before .is-file .result) (c .if2 .taken))
+    (sym (c .before .one-to .ensures) ∙ not-true (c .before .one-to .result) (c .if2 .taken))
 
 has-requires : tie.Need-has-requires
 has-requires c κs = search needs
@@ -92,7 +92,7 @@ query-spec =
     (tie.spec
     is-inventory-requires
     returns
-    is-file-requires
+    one-to-requires
     returns-2
     has-requires
     returns-3

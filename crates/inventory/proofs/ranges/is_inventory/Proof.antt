@@ -10,12 +10,12 @@ use borrow.Author.Needs.{needs}
 use Rattle.inventory.proofs.ranges.is_inventory.Statement.{statement}
 use Rattle.inventory.proofs.ranges.is_inventory.Tie as tie
 
-is-file-requires : tie.Need-is-file-requires
-is-file-requires c κs = search needs
+one-to-requires : tie.Need-one-to-requires
+one-to-requires c κs = search needs
 
 returns : tie.Need-returns
 unfolding isInventory
-returns c = first-fails _ _ (sym (c .before .is-file .ensures) ∙ not-true (c .before .is-file .result) (c .if1 .taken))
+returns c = first-fails _ _ (sym (c .before .one-to .ensures) ∙ not-true (c .before .one-to .result) (c .if1 .taken))
 
 within-requires : tie.Need-within-requires
 within-requires c κs = search needs
@@ -24,7 +24,7 @@ returns-2 : tie.Need-returns-2
 unfolding isInventory
 returns-2 c =
     let ranged = c .before .before .before in
-    first-holds _ _ _ (sym (ranged .before .is-file .ensures) ∙ not-false (ranged .before .is-file .result) (ranged .if1 .left))
+    first-holds _ _ _ (sym (ranged .before .one-to .ensures) ∙ not-false (ranged .before .one-to .result) (ranged .if1 .left))
     (first-fails _ _ (sym (c .before .within .ensures) ∙ not-true (c .before .within .result) (c .if2 .taken)))
 
 within-requires-2 : tie.Need-within-requires-2
@@ -35,7 +35,7 @@ unfolding isInventory
 returns-3 c =
     let filed = c .before .before .before in
     let ranged = filed .before .before .before in
-    first-holds _ _ _ (sym (ranged .before .is-file .ensures) ∙ not-false (ranged .before .is-file .result) (ranged .if1 .left))
+    first-holds _ _ _ (sym (ranged .before .one-to .ensures) ∙ not-false (ranged .before .one-to .result) (ranged .if1 .left))
     (first-holds _ _ _ (sym (filed .before .within .ensures) ∙ not-false (filed .before .within .result) (filed .if2 .left))
     (first-fails _ _ (sym (c .before .within2 .ensures) ∙ not-true (c .before .within2 .result) (c .if3 .taken))))
 
@@ -43,7 +43,7 @@ sub-within : tie.Need-sub-within
 sub-within c =
     let ranged = c .before .before .before .before .before .before .before in
     let s = ranged .before .before .args .s in
-    let h = file-in-range 254 (s .n) (sym (ranged .before .is-file .ensures) ∙ not-false (ranged .before .is-file .result) (ranged .if1 .left)) in
+    let h = file-in-range 254 (s .n) (sym (ranged .before .one-to .ensures) ∙ not-false (ranged .before .one-to .result) (ranged .if1 .left)) in
     omega arith
 
 within-requires-3 : tie.Need-within-requires-3
@@ -55,7 +55,7 @@ returns-4 c =
     let sized = c .before .before in
     let filed = sized .before .before .before in
     let ranged = filed .before .before .before in
-    first-holds _ _ _ (sym (ranged .before .is-file .ensures) ∙ not-false (ranged .before .is-file .result) (ranged .if1 .left))
+    first-holds _ _ _ (sym (ranged .before .one-to .ensures) ∙ not-false (ranged .before .one-to .result) (ranged .if1 .left))
     (first-holds _ _ _ (sym (filed .before .within .ensures) ∙ not-false (filed .before .within .result) (filed .if2 .left))
     (first-holds _ _ _ (sym (sized .before .within2 .ensures) ∙ not-false (sized .before .within2 .result) (sized .if3 .left))
     (c .within3 .ensures)))
@@ -64,7 +64,7 @@ pub is-inventory-spec : {M : Type 1} → statement M
 is-inventory-spec =
     tie.close
     (tie.spec
-    is-file-requires
+    one-to-requires
     returns
     within-requires
     returns-2

@@ -28,8 +28,8 @@ loop-holds c = (omega arith, λ j l. absurd (not-suc-le-zero l))
 has-requires : tie.Need-has-requires Inv-loop μ-loop
 has-requires c κs = search needs
 
-is-file-requires : tie.Need-is-file-requires Inv-loop μ-loop
-is-file-requires c κs = search needs
+one-to-requires : tie.Need-one-to-requires Inv-loop μ-loop
+one-to-requires c κs = search needs
 
 returns : tie.Need-returns Inv-loop μ-loop
 unfolding within
@@ -38,7 +38,7 @@ returns c =
     let a = c .before .before .before .before .before .before .args in
     sym (all-false 256 (λ k. not (member (a .set) k) || isFile (a .m) k) (l .k) (omega arith)
     (ap₂ (λ (x y : Bool). not x || y) (sym (c .before .before .before .has .ensures) ∙ c .before .before .if1 .taken)
-    (sym (c .before .is-file .ensures) ∙ not-true (c .before .is-file .result) (c .if2 .taken))))
+    (sym (c .before .one-to .ensures) ∙ not-true (c .before .one-to .result) (c .if2 .taken))))
 
 add-k : tie.Need-add-k Inv-loop μ-loop
 add-k c = omega arith
@@ -73,7 +73,7 @@ within-spec =
     μ-loop
     loop-holds
     has-requires
-    is-file-requires
+    one-to-requires
     returns
     add-k
     loop-less
