@@ -8,7 +8,8 @@ use mathlib.Core.List.{List}
 use Prim.Native.Nat.{ℕ}
 use Rattle.inventory.specs.Steps.{answerNumber}
 use Rattle.inventory.proofs.Determined.{queried-one}
-use Rattle.par1_c.specs.Inventories.{inventoryOf, QueryInto, otherLength, answered}
+use Rattle.inventory_bytes.specs.Inventories.{inventoryOf}
+use Rattle.par1_c.specs.Inventories.{QueryInto, otherLength, answered}
 
 pub query-into-one : (b : List ℕ) (f : ℕ) (out : List ℕ) (r r′ : ℕ) (o o′ : List ℕ)
     → QueryInto b f out r o → QueryInto b f out r′ o′ → (r ≡ r′) × (o ≡ o′)

@@ -1,2 +1,2 @@
+mod CallLaws
 mod Determined
-mod NumberLaws

@@ -9,17 +9,14 @@ ghost use Rattle.par1.specs.Checking.{checkOf};
 ghost use Rattle.par1_write.specs.EntryWriting.{writeEntryOf};
 ghost use Rattle.par1_read.specs.Reading.{readOf};
 ghost use Rattle.par1_write.specs.VolumeWriting.{writeVolumeOf};
-ghost use Rattle.par1_c.specs.Byte.{byteInto};
-ghost use Rattle.par1_c.specs.Parts.{partsBytes, readInto};
+ghost use Rattle.result_bytes.specs.Results.{byteInto, readInto};
 ghost use Rattle.par1_c.specs.Writings.{writingNumber, numbered};
-ghost use lib.Seq.{sets};
 
 mod inventories;
 
-use gf256::Answer;
-use par1::Parts;
-use par1::Reading;
 use par1::Writing;
+use result_bytes::put_answer;
+use result_bytes::put_reading;
 
 // The MD5 of `bytes` over the first 16 bytes of `out`.
 #[no_mangle]
@@ -89,55 +86,6 @@ pub extern "C" fn par1_check(entry: &[u8], contents: &[u8]) -> u32
     ensures { λ r. ⌜ r ≡ checkOf (now (entry .entry)) (now (contents .entry)) ⌝ }
 {
     par1::check(entry, contents)
-}
-
-// The byte that an answer is, over the first byte of `out`.
-fn put_answer(answer: Answer, out: &mut [u8]) -> u32
-    ensures { λ r. ⌜ (r, now (out .exit)) ≡ byteInto answer (now (out .entry)) ⌝ }
-{
-    match answer {
-        Answer::Refused(number) => {
-            return number;
-        }
-        Answer::Byte(byte) => {
-            if out.len() < 1 {
-                return 14;
-            }
-            out[0] = byte;
-            return 0;
-        }
-    }
-}
-
-// The parts that a reading gives, over the first 56 bytes of `out`.
-fn put_reading(reading: Reading, out: &mut [u8]) -> u32
-    ensures { λ r. ⌜ (r, now (out .exit)) ≡ readInto reading (now (out .entry)) ⌝ }
-{
-    match reading {
-        Reading::Refused(number) => {
-            return number;
-        }
-        Reading::Accepted(parts) => {
-            if out.len() < 56 {
-                return 14;
-            }
-            put_parts(parts, out);
-            return 0;
-        }
-    }
-}
-
-// The parts as numbers, one after another.
-fn put_parts(parts: Parts, out: &mut [u8])
-    ensures { λ _. ⌜ now (out .exit) ≡ sets (now (out .entry)) 0 (partsBytes parts) ⌝ }
-{
-    little_endian::write64(out, 0, parts.program as u64);
-    little_endian::write64(out, 8, parts.number);
-    little_endian::write64(out, 16, parts.entries);
-    little_endian::write64(out, 24, parts.saved);
-    little_endian::write64(out, 32, parts.list_size);
-    little_endian::write64(out, 40, parts.data_start);
-    little_endian::write64(out, 48, parts.data_size);
 }
 
 // The number of the answer of a writing call.

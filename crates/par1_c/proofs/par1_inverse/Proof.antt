@@ -3,7 +3,7 @@
 use mathlib.Core.Path.{ap, _∙_}
 use denote.Ref.{now}
 use Rattle.gf256.specs.declared.Answer.{Answer}
-use Rattle.par1_c.specs.Byte.{byteInto}
+use Rattle.result_bytes.specs.Results.{byteInto}
 use borrow.Author.Needs.{needs}
 use Rattle.par1_c.proofs.par1_inverse.Statement.{statement}
 use Rattle.par1_c.proofs.par1_inverse.Tie as tie
@@ -18,7 +18,10 @@ same-length : tie.Need-same-length
 same-length c = search needs
 
 returns : tie.Need-returns
-returns c = c .before .before .put-answer .ensures ∙ ap (λ (r : Answer). byteInto r (now (c .before .before .before .before .before .before .args .out))) (c .before .before .before .before .inverse .ensures)
+returns c =
+    let p = c .before .before in
+    let a = p .before .before .before .before .args in
+    p .put-answer .ensures ∙ ap (λ (r : Answer). byteInto r (now (a .out))) (p .before .before .inverse .ensures)
 
 pub par1-inverse-spec : {M : Type 1} → statement M
 par1-inverse-spec = tie.close (tie.spec inverse-requires put-answer-requires same-length returns)

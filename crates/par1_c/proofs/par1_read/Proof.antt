@@ -3,7 +3,7 @@
 use mathlib.Core.Path.{ap, _∙_}
 use denote.Ref.{now}
 use Rattle.par1_read.specs.declared.reading.Reading.{Reading}
-use Rattle.par1_c.specs.Parts.{readInto}
+use Rattle.result_bytes.specs.Results.{readInto}
 use borrow.Author.Needs.{needs}
 use Rattle.par1_c.proofs.par1_read.Statement.{statement}
 use Rattle.par1_c.proofs.par1_read.Tie as tie
@@ -18,7 +18,10 @@ same-length : tie.Need-same-length
 same-length c = search needs
 
 returns : tie.Need-returns
-returns c = c .before .before .put-reading .ensures ∙ ap (λ (r : Reading). readInto r (now (c .before .before .before .before .before .before .before .args .out))) (c .before .before .before .before .read .ensures)
+returns c =
+    let p = c .before .before in
+    let a = p .before .before .before .before .before .args in
+    p .put-reading .ensures ∙ ap (λ (r : Reading). readInto r (now (a .out))) (p .before .before .read .ensures)
 
 pub par1-read-spec : {M : Type 1} → statement M
 par1-read-spec = tie.close (tie.spec read-requires put-reading-requires same-length returns)

@@ -27,10 +27,12 @@ same-length c = search needs
 
 returns-2 : tie.Need-returns-2
 returns-2 c =
-    let a = c .before .before .before .before .before .before .before .before .before .args in
-    let q = c .before .before .before .query in
-    answered (eq-eqb _ _ (c .before .before .before .before .before .before .if1 .left)) (q .result)
-    (subst (λ (s : Inventory). Queried s (a .file) (now (a .out)) (q .result) (q .last .1 .1 .0)) (c .before .before .before .before .before .loaded .ensures) (q .ensures))
+    let q = c .before .before .before in
+    let l = q .before .before in
+    let a = l .before .before .before .before .args in
+    let r = q .query .result in
+    answered (eq-eqb _ _ (l .before .if1 .left)) r
+    (subst (λ (s : Inventory). Queried s (a .file) (now (a .out)) r (q .query .last .1 .1 .0)) (l .loaded .ensures) (q .query .ensures))
     (c .answer-number .ensures)
 
 pub par1-query-spec : {M : Type 1} → statement M

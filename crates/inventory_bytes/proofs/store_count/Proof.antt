@@ -1,0 +1,57 @@
+-- `inventory_bytes::store_count` meets its contract.
+-- Assumes nothing.
+use mathlib.Core.Path.{ap, _∙_}
+use Prim.Native.Nat.{ℕ}
+use denote.Ref.{now}
+use mathlib.Core.List.{List}
+use Rattle.answers.specs.Writing.{written}
+use Rattle.answers.proofs.WritingLaws.{numbered-as}
+use borrow.Author.Needs.{needs}
+use Rattle.inventory_bytes.proofs.store_count.Statement.{statement}
+use Rattle.inventory_bytes.proofs.store_count.Tie as tie
+
+enum-known-counted : tie.Need-enum-known-counted
+enum-known-counted c = search needs
+
+returns : tie.Need-returns
+returns c = rw (c .before .counted .given .1)
+
+enum-known-counted-2 : tie.Need-enum-known-counted-2
+enum-known-counted-2 c = search needs
+
+bytes-of-count-requires : tie.Need-bytes-of-count-requires
+bytes-of-count-requires c κs = search needs
+
+slice-aggregate-write : tie.Need-slice-aggregate-write
+slice-aggregate-write c = search needs
+
+write-requires : tie.Need-write-requires
+write-requires c κs = search needs
+
+number-of-requires : tie.Need-number-of-requires
+number-of-requires c κs = search needs
+
+same-length : tie.Need-same-length
+same-length c = search needs
+
+returns-2 : tie.Need-returns-2
+returns-2 c =
+    let w = c .before .before .before in
+    let b = w .before .before .before in
+    let out : List ℕ = now (b .before .before .before .before .before .args .out) in
+    rw (b .before .before .counted2 .given .1)
+    (numbered-as (c .number-of .ensures) (w .write .ensures ∙ ap (λ (l : List ℕ). written l out) (b .bytes-of-count .ensures)))
+
+pub store-count-spec : {M : Type 1} → statement M
+store-count-spec =
+    tie.close
+    (tie.spec
+    enum-known-counted
+    returns
+    enum-known-counted-2
+    bytes-of-count-requires
+    slice-aggregate-write
+    write-requires
+    number-of-requires
+    same-length
+    returns-2)

@@ -1,0 +1,37 @@
+-- Inventories in lent bytes: 13 numbers of 64 bits (n; files present, volumes present, files of size 1 or more, four words each).
+--
+--   inventoryOf b       the inventory that the bytes b are
+--   inventoryBytes s    the bytes of the inventory s
+--   openedBy n s        what opening with the sizes in the bytes s gives
+--   storedBy o out      the number of the outcome o, or 14, and what `out` then holds
+--   countedInto c out   the number of the count c, or 14, and what `out` then holds
+-- Assumes nothing.
+use mathlib.Core.Bool.{cond, _&&_}
+use mathlib.Core.List.{List, [], _∷_, _++_}
+use Prim.Native.Nat.{ℕ, _*_}
+use lib.Dec.{leb, eqb}
+use lib.ListN.{length}
+use Rattle.answers.specs.Writing.{refused, written, writtenUnless, numbered}
+use Rattle.inventory.specs.Steps.{openStep, refusedOpening}
+use Rattle.inventory.specs.declared.Counted.{Counted}
+use Rattle.inventory.specs.declared.Counted.the-variants as counted
+use Rattle.inventory.specs.declared.Inventory.{Inventory}
+use Rattle.inventory.specs.declared.Outcome.{Outcome}
+use Rattle.little_endian.specs.Bytes.{leAt, numbers, numbersAt}
+
+unfoldable pub inventoryOf : List ℕ → Inventory
+inventoryOf b = record { n = leAt 8 b 0; files = numbersAt 4 b 8; volumes = numbersAt 4 b 40; nonempty = numbersAt 4 b 72 }
+
+unfoldable pub inventoryBytes : Inventory → List ℕ
+inventoryBytes s = numbers (s .n ∷ s .files ++ s .volumes ++ s .nonempty)
+
+-- the sizes are n numbers; else 10
+unfoldable pub openedBy : ℕ → List ℕ → Outcome
+openedBy n s = cond (leb n 254 && eqb (length s) (8 * n)) (openStep n (numbersAt n s 0)) (refusedOpening 10)
+
+unfoldable pub storedBy : Outcome → List ℕ → ℕ × List ℕ
+storedBy o out = numbered (writtenUnless (o .number) (inventoryBytes (o .next)) out)
+
+abbrev pub countedInto : Counted → List ℕ → ℕ × List ℕ
+countedInto (counted.Counts files volumes) out = numbered (written (numbers (files ∷ volumes ∷ [])) out)
+countedInto (counted.Refused number) out = numbered (refused number out)

@@ -1,0 +1,147 @@
+// Inventories in lent bytes: 13 numbers of 64 bits.
+ghost use mathlib.Core.Path.{_≡_};
+ghost use mathlib.Core.List.{[], _∷_};
+ghost use lib.ListN.{length};
+ghost use Rattle.inventory.specs.Steps.{openStep, refusedOpening, answerNumber};
+ghost use Rattle.little_endian.specs.Bytes.{numbers as numbersOf, numbersAt};
+ghost use Rattle.inventory_bytes.specs.Inventories.{inventoryOf, inventoryBytes, openedBy, storedBy, countedInto};
+use answers::PRESENT;
+use answers::UNDETERMINED;
+use answers::number_of;
+use answers::write;
+use inventory::Answer;
+use inventory::Counted;
+use inventory::Inventory;
+use inventory::Outcome;
+use little_endian::read_numbers;
+use little_endian::read64;
+use little_endian::write_numbers;
+
+// The length of an inventory, in bytes.
+pub const LENGTH: usize = 104;
+
+// The length of a count, in bytes.
+const COUNT_LENGTH: usize = 16;
+
+// The greatest number of files.
+const MAX_FILES: usize = 254;
+
+// Opens an inventory of n files with the sizes in these bytes.
+pub fn opened(n: u64, sizes: &[u8]) -> Outcome
+    ensures { λ r. ⌜ r ≡ openedBy n (now (sizes .entry)) ⌝ }
+{
+    let count = n as usize;
+    if MAX_FILES < count {
+        return no_opening();
+    }
+    if sizes.len() != 8 * count {
+        return no_opening();
+    }
+    let mut numbers = [0u64; MAX_FILES];
+    opened_by(n, sizes, &mut numbers[..count])
+}
+
+// Opens an inventory of n files with as many sizes as are to be read into `numbers`.
+fn opened_by<'a, 'b>(n: u64, sizes: &'a [u8], numbers: &'b mut [u64]) -> Outcome
+    ensures { λ r. ⌜ r ≡ openStep n (numbersAt (length (now (numbers .entry))) (now (sizes .entry)) 0) ⌝ }
+{
+    read_numbers(sizes, 0, numbers);
+    Inventory::open(n, numbers)
+}
+
+// The refusal with 10, made by an opening with n = 0.
+fn no_opening() -> Outcome
+    ensures { λ r. ⌜ r ≡ refusedOpening 10 ⌝ }
+{
+    let sizes = [0u64; 1];
+    Inventory::open(0, &sizes)
+}
+
+// The inventory that the bytes are.
+pub fn loaded(bytes: &[u8]) -> Inventory
+    ensures { λ r. ⌜ r ≡ inventoryOf (now (bytes .entry)) ⌝ }
+{
+    let files = four_at(bytes, 8);
+    let volumes = four_at(bytes, 40);
+    let nonempty = four_at(bytes, 72);
+    Inventory {
+        n: read64(bytes, 0),
+        files,
+        volumes,
+        nonempty,
+    }
+}
+
+// Four numbers of the bytes, from `at` on.
+fn four_at(bytes: &[u8], at: usize) -> [u64; 4]
+    ensures { λ r. ⌜ r ≡ numbersAt 4 (now (bytes .entry)) at ⌝ }
+{
+    let mut numbers = [0u64; 4];
+    read_numbers(bytes, at, &mut numbers);
+    numbers
+}
+
+// An accepted outcome's inventory over the first bytes of `out`, and 0; or the number of the refusal.
+pub fn store(outcome: Outcome, out: &mut [u8]) -> u32
+    ensures { λ r. ⌜ (r, now (out .exit)) ≡ storedBy outcome (now (out .entry)) ⌝ }
+{
+    if outcome.number != 0 {
+        return outcome.number;
+    }
+    let next = outcome.next;
+    let bytes = bytes_of(next);
+    number_of(write(out, &bytes))
+}
+
+// The inventory's 13 numbers.
+fn bytes_of(inventory: Inventory) -> [u8; LENGTH]
+    ensures { λ r. ⌜ r ≡ inventoryBytes inventory ⌝ }
+{
+    let n = [inventory.n];
+    let files = inventory.files;
+    let volumes = inventory.volumes;
+    let nonempty = inventory.nonempty;
+    let mut bytes = [0u8; LENGTH];
+    write_numbers(&mut bytes, 0, &n);
+    write_numbers(&mut bytes, 8, &files);
+    write_numbers(&mut bytes, 40, &volumes);
+    write_numbers(&mut bytes, 72, &nonempty);
+    bytes
+}
+
+// The two numbers of a count over the first bytes of `out`, and 0; or the number of the refusal.
+pub fn store_count(counted: Counted, out: &mut [u8]) -> u32
+    ensures { λ r. ⌜ (r, now (out .exit)) ≡ countedInto counted (now (out .entry)) ⌝ }
+{
+    match counted {
+        Counted::Refused(number) => {
+            return number;
+        }
+        Counted::Counts(files, volumes) => {
+            let bytes = bytes_of_count(files, volumes);
+            return number_of(write(out, &bytes));
+        }
+    }
+}
+
+// The two numbers of a count.
+fn bytes_of_count(files: u32, volumes: u32) -> [u8; COUNT_LENGTH]
+    ensures { λ r. ⌜ r ≡ numbersOf (files ∷ volumes ∷ []) ⌝ }
+{
+    let counts = [files as u64, volumes as u64];
+    let mut bytes = [0u8; COUNT_LENGTH];
+    write_numbers(&mut bytes, 0, &counts);
+    bytes
+}
+
+// The document's number of an answer.
+pub fn answer_number(answer: Answer) -> u32
+    ensures { λ r. ⌜ r ≡ answerNumber answer ⌝ }
+{
+    match answer {
+        Answer::Present => PRESENT,
+        Answer::Recoverable => 0,
+        Answer::Undetermined => UNDETERMINED,
+        Answer::Refused(number) => number,
+    }
+}

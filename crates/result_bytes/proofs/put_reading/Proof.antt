@@ -1,0 +1,60 @@
+-- `result_bytes::put_reading` meets its contract.
+-- Assumes nothing.
+use mathlib.Core.Path.{ap, _∙_}
+use Prim.Native.Nat.{ℕ}
+use mathlib.Core.List.{List}
+use denote.Ref.{now}
+use Rattle.answers.specs.Writing.{written}
+use Rattle.answers.proofs.WritingLaws.{numbered-as}
+use Rattle.result_bytes.specs.Results.{readInto}
+use borrow.Author.Needs.{needs}
+use Rattle.result_bytes.proofs.put_reading.Statement.{statement}
+use Rattle.result_bytes.proofs.put_reading.Tie as tie
+
+enum-known-reading : tie.Need-enum-known-reading
+enum-known-reading c = search needs
+
+returns : tie.Need-returns
+unfolding readInto
+returns c = rw (c .before .reading .given .1)
+
+enum-known-reading-2 : tie.Need-enum-known-reading-2
+enum-known-reading-2 c = search needs
+
+bytes-of-parts-requires : tie.Need-bytes-of-parts-requires
+bytes-of-parts-requires c κs = search needs
+
+slice-aggregate-write : tie.Need-slice-aggregate-write
+slice-aggregate-write c = search needs
+
+write-requires : tie.Need-write-requires
+write-requires c κs = search needs
+
+number-of-requires : tie.Need-number-of-requires
+number-of-requires c κs = search needs
+
+same-length : tie.Need-same-length
+same-length c = search needs
+
+returns-2 : tie.Need-returns-2
+unfolding readInto
+returns-2 c =
+    let w = c .before .before .before in
+    let b = w .before .before .before in
+    let out : List ℕ = now (b .before .before .before .before .before .args .out) in
+    rw (b .before .before .reading2 .given .1)
+    (numbered-as (c .number-of .ensures) (w .write .ensures ∙ ap (λ (l : List ℕ). written l out) (b .bytes-of-parts .ensures)))
+
+pub put-reading-spec : {M : Type 1} → statement M
+put-reading-spec =
+    tie.close
+    (tie.spec
+    enum-known-reading
+    returns
+    enum-known-reading-2
+    bytes-of-parts-requires
+    slice-aggregate-write
+    write-requires
+    number-of-requires
+    same-length
+    returns-2)
