@@ -1,6 +1,5 @@
 -- What a call answers that gives a byte or refuses (document 01, "What comes back").
 --
---   answerNumber r    the document's number of an answer, 0 where it is accepted
 --   inverseAnswer a   the answer to a call for the inverse of a
 -- Assumes nothing.
 use Prim.Native.Nat.{ℕ}
@@ -9,11 +8,6 @@ use lib.Dec.{eqb}
 use Rattle.gf256.specs.Field.{inverse}
 use Rattle.gf256.specs.declared.Answer.{Answer}
 use Rattle.gf256.specs.declared.Answer.the-variants.{Byte, Refused}
-
--- "A refusal returns its number only"
-unfoldable pub answerNumber : Answer → ℕ
-answerNumber (Byte b) = 0
-answerNumber (Refused number) = number
 
 -- "10 .. inverse of 0"
 unfoldable pub inverseAnswer : ℕ → Answer

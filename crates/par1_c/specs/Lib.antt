@@ -1,2 +1,1 @@
 pub mod Inventories
-pub mod Writings

@@ -10,11 +10,11 @@ ghost use Rattle.par1_write.specs.EntryWriting.{writeEntryOf};
 ghost use Rattle.par1_read.specs.Reading.{readOf};
 ghost use Rattle.par1_write.specs.VolumeWriting.{writeVolumeOf};
 ghost use Rattle.result_bytes.specs.Results.{byteInto, readInto};
-ghost use Rattle.par1_c.specs.Writings.{writingNumber, numbered};
+ghost use Rattle.answers.specs.Writing.{numbered};
 
 mod inventories;
 
-use par1::Writing;
+use answers::number_of;
 use result_bytes::put_answer;
 use result_bytes::put_reading;
 
@@ -63,7 +63,7 @@ pub extern "C" fn par1_read(file: &[u8], out: &mut [u8]) -> u32
 pub extern "C" fn par1_write_entry(contents: &[u8], status: u64, name: &[u8], out: &mut [u8]) -> u32
     ensures { λ r. ⌜ (r, now (out .exit)) ≡ numbered (writeEntryOf (now (contents .entry)) status (now (name .entry)) (now (out .entry))) ⌝ }
 {
-    writing_number(par1::write_entry(contents, status, name, out))
+    number_of(par1::write_entry(contents, status, name, out))
 }
 
 // Writes a volume, or an index where the number is 0, over the first bytes of `out`.
@@ -77,7 +77,7 @@ pub extern "C" fn par1_write_volume(
 ) -> u32
     ensures { λ r. ⌜ (r, now (out .exit)) ≡ numbered (writeVolumeOf program number (now (list .entry)) (now («data» .entry)) (now (out .entry))) ⌝ }
 {
-    writing_number(par1::write_volume(program, number, list, data, out))
+    number_of(par1::write_volume(program, number, list, data, out))
 }
 
 // Whether the contents are those of the entry's file.
@@ -86,14 +86,4 @@ pub extern "C" fn par1_check(entry: &[u8], contents: &[u8]) -> u32
     ensures { λ r. ⌜ r ≡ checkOf (now (entry .entry)) (now (contents .entry)) ⌝ }
 {
     par1::check(entry, contents)
-}
-
-// The number of the answer of a writing call.
-fn writing_number(writing: Writing) -> u32
-    ensures { λ r. ⌜ r ≡ writingNumber writing ⌝ }
-{
-    match writing {
-        Writing::Written(_) => 0,
-        Writing::Refused(number) => number,
-    }
 }

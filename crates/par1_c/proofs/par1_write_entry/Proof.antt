@@ -2,7 +2,7 @@
 -- Assumes nothing.
 use mathlib.Core.Path.{ap, _∙_}
 use Prim.Native.Nat.{ℕ}
-use Rattle.par1_c.specs.Writings.{numbered}
+use Rattle.answers.proofs.WritingLaws.{numbered-as}
 use borrow.Author.Needs.{needs}
 use Rattle.par1_c.proofs.par1_write_entry.Statement.{statement}
 use Rattle.par1_c.proofs.par1_write_entry.Tie as tie
@@ -10,15 +10,15 @@ use Rattle.par1_c.proofs.par1_write_entry.Tie as tie
 write-entry-requires : tie.Need-write-entry-requires
 write-entry-requires c κs = search needs
 
-writing-number-requires : tie.Need-writing-number-requires
-writing-number-requires c κs = search needs
+number-of-requires : tie.Need-number-of-requires
+number-of-requires c κs = search needs
 
 same-length : tie.Need-same-length
 same-length c = search needs
 
 returns : tie.Need-returns
-returns c = ap (λ (k : ℕ). (k, c .before .before .before .write-entry .last .1 .1 .1 .0)) (c .writing-number .ensures) ∙ ap numbered (c .before .before .before .write-entry .ensures)
+returns c = numbered-as (c .number-of .ensures) (c .before .before .before .write-entry .ensures)
 
 pub par1-write-entry-spec : {M : Type 1} → statement M
 par1-write-entry-spec =
-    tie.close (tie.spec write-entry-requires writing-number-requires same-length returns)
+    tie.close (tie.spec write-entry-requires number-of-requires same-length returns)
