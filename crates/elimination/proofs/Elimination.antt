@@ -1,6 +1,7 @@
 -- Elimination by columns. The rows of A are taken one by one. A square matrix D is kept, the identity at first, and each
 -- column has an owner: 0, or s + 1 for row s, which was found to be no sum of multiples of the rows before it.
 --
+--   rowTimes K n u D j         entry j of the row u, of n entries, times the matrix D
 --   Reduced K A n D owner t    D and the owners after the first t rows of A, of n entries each
 --   rowWeight n owner y s      the weight of row s in the row that times D is y: the entries of y in its columns, added
 --   rowTimes-add, rowTimes-sum, rowTimes-cong     a row times D is linear in the row
@@ -16,8 +17,12 @@ use native.Mathlib.Nat.{not-suc-le-zero, suc-ne-zero, suc-inj}
 use native.Mathlib.Omega.{arith}
 use native.Mathlib.Decide.{ℕ-discrete}
 use Rattle.elimination.specs.Field.{Field, sum, δ}
-use Rattle.elimination.specs.Matrix.{rowTimes, Dependent}
+use Rattle.elimination.specs.Matrix.{Dependent}
 use Rattle.elimination.proofs.Sums as S
+
+module _ {F : Type 0} (K : Field F) where
+  unfoldable pub rowTimes : ℕ → (ℕ → F) → (ℕ → ℕ → F) → ℕ → F
+  rowTimes n u D j = sum K n (λ i. K .mul (u i) (D i j))
 
 module _ {F : Type 0} (K : Field F) where
   open Field K using (𝟘, 𝟙, add as _⊕_, mul as _⊗_, inv, add-self, zero-add, mul-assoc, mul-add, inv-mul, one-mul)

@@ -28,10 +28,10 @@ use borrow.Author.Tests.{eq-eqb, ne-eqb}
 use Rattle.gf256.specs.Field.{product, inverse}
 use Rattle.gf256.proofs.Polynomials.{sumBelow-same, sumBelow-none}
 use Rattle.elimination.specs.Field.{δ}
-use Rattle.elimination.specs.Matrix.{rowTimes, IsSolution, IsKernelVector}
+use Rattle.elimination.specs.Matrix.{IsSolution, IsKernelVector}
 use Rattle.elimination.specs.Reduction.{entry, withDiagonal, rowProduct, IsPivot, sweptEntry, RowAdded, dependent, independent, IsSolvable, solvable, unsolvable, weightOf}
 use Rattle.elimination.proofs.Sums as S
-use Rattle.elimination.proofs.Elimination.{Reduced, rowWeight, reduced-start, reduced-dependent, reduced-independent}
+use Rattle.elimination.proofs.Elimination.{rowTimes, Reduced, rowWeight, reduced-start, reduced-dependent, reduced-independent}
 use Rattle.elimination.proofs.Solutions.{solution, kernel-vector}
 use Rattle.elimination.specs.ByteField.{Byte, byte-eq, toByte, byteField}
 use Rattle.elimination.proofs.ByteField.{toByte-value, toByte-of-value, sum-value, δ-value}

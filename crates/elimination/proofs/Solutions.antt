@@ -23,10 +23,10 @@ use native.Mathlib.Decide.{ℕ-discrete}
 use lib.Dec.{eqb}
 use borrow.Author.Tests.{eq-eqb, ne-eqb}
 use Rattle.elimination.specs.Field.{Field, sum, δ}
-use Rattle.elimination.specs.Matrix.{rowTimes, Dependent, IsSolution, IsKernelVector}
+use Rattle.elimination.specs.Matrix.{Dependent, IsSolution, IsKernelVector}
 use Rattle.elimination.proofs.Sums as S
 use Rattle.elimination.proofs.Elimination as E
-use Rattle.elimination.proofs.Elimination.{Reduced, rowWeight}
+use Rattle.elimination.proofs.Elimination.{rowTimes, Reduced, rowWeight}
 
 -- a number below n with a decided property, or none
 pub search : (P : ℕ → Type 0) → ((k : ℕ) → Dec (P k)) → (n : ℕ)

@@ -20,8 +20,7 @@ use Rattle.finite.proofs.Tests.{and-both}
 use Rattle.answers.specs.Writing.{written}
 use Rattle.answers.specs.declared.Writing.the-variants.{Written}
 use Rattle.answers.proofs.WritingLaws.{written-fits}
-use Rattle.pieces.specs.Pieces.{All, all-none, all-more}
-use Rattle.pieces.proofs.CutLaws.{cut-all, cut-count, cut-length}
+use Rattle.pieces.proofs.CutLaws.{All, all-none, all-more, cut-all, cut-count, cut-length}
 use Rattle.entries.specs.Entry.{entrySize, statusOf, fileSizeOf, nameOf, unitsOf, isSaved, entrySizeAllowed, fileSizeAllowed, bodyAllowed, entryAllowed, lengthOf}
 use Rattle.entries.specs.Walk.{faultNumber, walkOf}
 use Rattle.entries.specs.declared.Fault.{Fault}

@@ -1,3 +1,4 @@
+mod Examples
 pub mod NumberLists
 pub mod Numbers
 mod Past

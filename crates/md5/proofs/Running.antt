@@ -12,7 +12,7 @@ use mathlib.Core.Path.{_≡_, sym, ap, ap₂, _∙_}
 use Prim.Native.Nat.{ℕ, _+_, _-_, _*_, _/_, _%_, _^_, _≤_, _<_}
 use native.Mathlib.Nat.{le-of-eq}
 use native.Mathlib.Omega.{arith}
-use mathlib.Core.List.{List, [], _∷_, _++_, append-assoc, append-nil}
+use mathlib.Core.List.{List, [], _∷_, _++_, append-assoc, append-nil, flatten}
 use lib.ListN.{length, take, drop, replicate, length-append, length-drop, take-append-drop}
 use lib.Seq.{paste, take-all, length-take-le}
 use Rattle.md5_blocks.specs.declared.rounds.Words.{Words}
@@ -21,7 +21,7 @@ use Rattle.md5_blocks.proofs.BlockLaws.{all-short, all-one, all-cons, all-join,
 use Rattle.md5.specs.declared.Md5.{Md5}
 use Rattle.md5.specs.Padding.{padding, padded}
 use Rattle.md5.specs.Digest.{start, output, md5}
-use Rattle.md5.specs.Running.{tailOf, stateOf, waiting, pushed, finished, pushedAll, joined}
+use Rattle.md5.specs.Running.{tailOf, stateOf, waiting, pushed, finished, pushedAll}
 use Rattle.md5.proofs.PaddingLaws.{padding-mod}
 use Rattle.md5.proofs.Tail.{tail-fill, tail-first, tail-full, take-tail}
 
@@ -41,10 +41,11 @@ push-state m bs =
     let total : (length m % 2 ^ 64 + length bs) % 2 ^ 64 ≡ length (m ++ bs) % 2 ^ 64 = omega (arith, length-append m bs) in
     cc (words, left, total)
 
-pub run-state : (m : List ℕ) (ps : List (List ℕ)) → pushedAll (stateOf m) ps ≡ stateOf (m ++ joined ps)
+pub run-state : (m : List ℕ) (ps : List (List ℕ)) → pushedAll (stateOf m) ps ≡ stateOf (m ++ flatten ps)
+unfolding flatten
 run-state m [] = ap stateOf (sym (append-nil m))
 run-state m (p ∷ ps) =
-    ap (λ (h : Md5). pushedAll h ps) (push-state m p) ∙ run-state (m ++ p) ps ∙ ap stateOf (append-assoc m p (joined ps))
+    ap (λ (h : Md5). pushedAll h ps) (push-state m p) ∙ run-state (m ++ p) ps ∙ ap stateOf (append-assoc m p (flatten ps))
 
 pub finish-state : (m : List ℕ) → finished (stateOf m) ≡ md5 m
 unfolding finished md5 padded stateOf
@@ -53,8 +54,8 @@ finish-state m =
     (ap₂ (λ (l p : List ℕ). allBlocks (allBlocks start m) (l ++ p)) (waiting-state m) (padding-mod (length m))
     ∙ sym (all-join (padding (length m)) start m))
 
-pub run-digest : (ps : List (List ℕ)) → finished (pushedAll (stateOf []) ps) ≡ md5 (joined ps)
-run-digest ps = ap finished (run-state [] ps) ∙ finish-state (joined ps)
+pub run-digest : (ps : List (List ℕ)) → finished (pushedAll (stateOf []) ps) ≡ md5 (flatten ps)
+run-digest ps = ap finished (run-state [] ps) ∙ finish-state (flatten ps)
 
 pub digest-whole : (m : List ℕ) {none all : Md5} → none ≡ stateOf [] → all ≡ pushed none m → finished all ≡ md5 m
 digest-whole m e f = ap finished (f ∙ ap (λ (h : Md5). pushed h m) e ∙ push-state [] m) ∙ finish-state m

@@ -6,7 +6,7 @@
 --   pushed h bs   the state h after the bytes bs
 --   finished h    the digest that the end of h gives
 --   stateOf m     the state after the message m: proofs/Running.antt shows that every run of pushes of m gives it
---   pushedAll h ps, joined ps   the state h after each of the parts ps in turn, and the message that they are
+--   pushedAll h ps     the state h after each of the parts ps in turn
 -- Assumes nothing.
 use Prim.Native.Nat.{ℕ, _+_, _-_, _%_, _^_}
 use mathlib.Core.List.{List, [], _∷_, _++_}
@@ -40,7 +40,3 @@ finished h = output (allBlocks (h .words) (waiting h ++ padding (h .total)))
 abbrev pub pushedAll : Md5 → List (List ℕ) → Md5
 pushedAll h [] = h
 pushedAll h (p ∷ ps) = pushedAll (pushed h p) ps
-
-abbrev pub joined : List (List ℕ) → List ℕ
-joined [] = []
-joined (p ∷ ps) = p ++ joined ps

@@ -1,5 +1,6 @@
 -- The laws of `mulAdd`, which is what `mul_add` promises: for all weights, fragments and buffers.
 --
+--   sumBytes xs ys                    the sum of two equally long lists, byte by byte
 --   length-mulAdd, length-mulAddAll   the buffer keeps its length
 --   mulAdd-at                         byte p of the buffer
 --   mulAdd-fragments                  two equally long fragments with one weight: their sum, once
@@ -21,7 +22,13 @@ use lib.ListN.{length, getD, replicate, length-replicate}
 use Rattle.gf256.specs.Field.{product}
 use Rattle.gf256.proofs.Xor.{xor-assoc}
 use Rattle.gf256.proofs.Products.{product-xor-l, product-xor-r, product-zero-l, product-zero-r}
-use Rattle.parity.specs.MulAdd.{mulAdd, mulAddAll, sumBytes}
+use Rattle.parity.specs.MulAdd.{mulAdd, mulAddAll}
+
+-- "Sum is exclusive or"
+unfoldable pub sumBytes : List ℕ → List ℕ → List ℕ
+sumBytes [] ys = []
+sumBytes (x ∷ xs) [] = []
+sumBytes (x ∷ xs) (y ∷ ys) = bitXor x y ∷ sumBytes xs ys
 
 -- two lists with equal first bytes and equal rests
 cons : {x y : ℕ} {xs ys : List ℕ} → x ≡ y → xs ≡ ys → _≡_ {A = List ℕ} (x ∷ xs) (y ∷ ys)

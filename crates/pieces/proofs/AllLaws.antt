@@ -8,7 +8,7 @@ use mathlib.Core.List.{List, [], _++_}
 use Prim.Native.Nat.{ℕ, zero, suc, _<_}
 use native.Mathlib.Omega.{arith}
 use lib.ListN.{length, getD}
-use Rattle.pieces.specs.Pieces.{All, all-none, all-more}
+use Rattle.pieces.proofs.CutLaws.{All, all-none, all-more}
 
 module _ {P : List ℕ → Type 0} where
   pub all-nth : {ps : List (List ℕ)} → All P ps → (k : ℕ) → k < length ps → P (getD ps k [])

@@ -6,7 +6,9 @@
 --   cut-rest       the rest begins with no piece
 --   cut-length     the lengths of the pieces joined and of the rest add up to that of the list
 --   cut-count      there are no more pieces than elements
+--   All P ps       P holds of each of the pieces ps
 --   cut-all        what holds of the first piece of any list holds of each piece
+--   after ps s     what remains of s after the pieces ps at its front
 --   Nth f s c k    piece k of the cut c of s is the first piece of what remains before it
 --   cut-nth        piece k is the first piece of what remains after the pieces before it
 --   part-to-end    the part of a list from a position to its end, as code takes it
@@ -19,7 +21,7 @@ use native.Mathlib.Nat.{le-refl}
 use native.Mathlib.Omega.{arith}
 use lib.ListN.{length, take, drop, getD, length-append, length-drop, take-append-drop}
 use lib.Seq.{take-all, drop-append-add}
-use Rattle.pieces.specs.Pieces.{Cut, none, before, ifZero, cutIn, cut, after, All, all-none, all-more}
+use Rattle.pieces.specs.Pieces.{Cut, none, before, ifZero, cutIn, cut}
 
 -- ---- cut, as equations
 
@@ -112,10 +114,18 @@ cut-count f =
 
 -- ---- each piece
 
+pub data All (P : List ℕ → Type 0) : List (List ℕ) → Type 0 where
+  all-none : All P []
+  all-more : {p : List ℕ} {ps : List (List ℕ)} → P p → All P ps → All P (p ∷ ps)
+
 pub cut-all : (f : List ℕ → ℕ) (P : List ℕ → Type 0) → ((s : List ℕ) → 0 < length s → 0 < f s → P (take (f s) s))
     → (s : List ℕ) → All P (cut f s .pieces)
 cut-all f P first =
     cut-induct f (λ s c. All P (c .pieces)) all-none (λ s e. all-none) (λ s h k e. all-more (first s h k) e)
+
+-- the pieces ps stand at the front of s, one after another
+abbrev pub after : List (List ℕ) → List ℕ → List ℕ
+after ps s = drop (length (flatten ps)) s
 
 -- what remains after a first piece and the pieces ps
 after-more : (n : ℕ) (ps : List (List ℕ)) (s : List ℕ) → after (take n s ∷ ps) s ≡ after ps (drop n s)

@@ -1,5 +1,8 @@
 -- Lists made of whole pieces are cut into them again.
 --
+--   Whole f p      p is a piece by f whatever follows it
+--   Local f        f sees no further than the first piece
+--   prepend ps c   the pieces ps, then those of c
 --   cut-whole      a whole piece at the front is the first piece
 --   cut-wholes     whole pieces at the front are the first pieces
 --   cut-flatten    whole pieces, joined, are cut into themselves, with no rest
@@ -8,12 +11,26 @@
 -- Assumes nothing.
 use mathlib.Core.Path.{_≡_, refl, sym, ap, ap₂, _∙_}
 use mathlib.Core.List.{List, [], _++_, append-assoc, append-nil, flatten}
-use Prim.Native.Nat.{ℕ, _<_}
+use Prim.Native.Nat.{ℕ, _≤_, _<_}
 use native.Mathlib.Omega.{arith}
 use lib.ListN.{length, take, length-append, length-take}
 use lib.Seq.{take-at, drop-at}
-use Rattle.pieces.specs.Pieces.{before, prepend, cut, All, all-none, all-more, Whole, Local}
-use Rattle.pieces.proofs.CutLaws.{cut-none, cut-more, cut-joins, cut-all}
+use Rattle.pieces.specs.Pieces.{Cut, before, cut}
+use Rattle.pieces.proofs.CutLaws.{cut-none, cut-more, cut-joins, All, all-none, all-more, cut-all}
+
+-- it has an element or more, and f tells its length whatever follows
+pub record Whole (f : List ℕ → ℕ) (p : List ℕ) : Type 0 where
+  pub some : 0 < length p
+  pub told : (t : List ℕ) → f (p ++ t) ≡ length p
+
+-- the first piece lies within the list, and with anything else after it it is the first piece still
+pub record Local (f : List ℕ → ℕ) : Type 0 where
+  pub within : (s : List ℕ) → f s ≤ length s
+  pub alone : (s t : List ℕ) → 0 < f s → f (take (f s) s ++ t) ≡ f s
+
+-- some pieces more, in front
+abbrev pub prepend : List (List ℕ) → Cut → Cut
+prepend ps c = record { pieces = ps ++ c .pieces; rest = c .rest }
 
 module _ {f : List ℕ → ℕ} where
   pub cut-whole : {p : List ℕ} → Whole f p → (t : List ℕ) → cut f (p ++ t) ≡ before p (cut f t)

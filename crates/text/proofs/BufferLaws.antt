@@ -5,17 +5,18 @@
 --   put-within, put-beyond       a text that lies inside the buffer, and one that lies past its end
 --   put-measure, put-whole       from the start: on an empty buffer, and on one that the text fits into
 --   put-rest, put-then           what a loop and a pair of calls need of put-append
+--   Puts a ts c                  c is a after the texts ts, each put by a call of its own
 --   puts                         calls in a row put their texts joined
 -- Assumes nothing.
 use mathlib.Core.Path.{_≡_, sym, ap, ap₂, _∙_}
-use mathlib.Core.List.{List, [], _++_, append-nil, flatten}
+use mathlib.Core.List.{List, [], _∷_, _++_, append-nil, flatten}
 use Prim.Native.Nat.{ℕ, _+_, _≤_, min}
 use native.Mathlib.Nat.{zero-add}
 use native.Mathlib.Omega.{arith}
 use lib.ListN.{length, take, drop, length-append}
 use lib.Seq.{sets, length-sets, sets-eq}
 use Rattle.little_endian.proofs.Stores.{sets-append, sets-out, sets-past}
-use Rattle.text.specs.Buffer.{Buffer, buffer, usizeMax, put, Puts, last, then}
+use Rattle.text.specs.Buffer.{Buffer, buffer, usizeMax, put}
 
 -- ---- one put
 
@@ -59,6 +60,10 @@ module _ (a : Buffer) {b : Buffer} (s t : List ℕ) (h : length (a .bytes) ≤ u
 
   pub put-then : {c : Buffer} → c ≡ put b t → c ≡ put a (s ++ t)
   put-then f = f ∙ put-rest
+
+pub data Puts : Buffer → List (List ℕ) → Buffer → Type 0 where
+  last : {a b : Buffer} {t : List ℕ} → b ≡ put a t → Puts a (t ∷ []) b
+  then : {a b c : Buffer} {t : List ℕ} {ts : List (List ℕ)} → b ≡ put a t → Puts b ts c → Puts a (t ∷ ts) c
 
 pub puts : {a c : Buffer} {ts : List (List ℕ)} → Puts a ts c → length (a .bytes) ≤ usizeMax → c ≡ put a (flatten ts)
 unfolding flatten

@@ -3,10 +3,8 @@
 --   Buffer       the bytes of a buffer, and the position of the next byte
 --   usizeMax     the greatest position
 --   put b t      b after the text t: what lies inside is written, what lies past the end is only counted
---   Puts a ts c  c is a after the texts ts, each put by a call of its own
 -- Assumes nothing.
-use mathlib.Core.Path.{_≡_}
-use mathlib.Core.List.{List, [], _∷_}
+use mathlib.Core.List.{List}
 use Prim.Native.Nat.{ℕ, _+_, min}
 use lib.ListN.{length}
 use lib.Seq.{sets}
@@ -25,7 +23,3 @@ usizeMax = 18446744073709551615
 -- `sets l i t` stores the elements of t in l from index i on; a store past the end of l changes nothing
 unfoldable pub put : Buffer → List ℕ → Buffer
 put b t = buffer (sets (b .bytes) (b .at) t) (min (b .at + length t) usizeMax)
-
-pub data Puts : Buffer → List (List ℕ) → Buffer → Type 0 where
-  last : {a b : Buffer} {t : List ℕ} → b ≡ put a t → Puts a (t ∷ []) b
-  then : {a b c : Buffer} {t : List ℕ} {ts : List (List ℕ)} → b ≡ put a t → Puts b ts c → Puts a (t ∷ ts) c

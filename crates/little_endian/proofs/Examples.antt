@@ -1,5 +1,7 @@
 -- Worked examples of the definitions, computed: the version number of a Par 1.0 file as its four bytes, a number that runs past
 -- the end, and a write that does.
+--
+--   examples     all of them
 -- Assumes nothing.
 use mathlib.Core.Path.{_≡_, refl}
 use mathlib.Core.List.{[], _∷_}
