@@ -6,7 +6,7 @@
 --   header-none, control-none, totals-none     and the tests pass where that holds
 --   header-refusal, later-refusal    the header decides, or after it the control hash and the list
 --   read-refused, read-accepted      what reading gives, from the refusal
---   Passed, passed-none, read-tells  the tests that an accepted file passed
+--   Passed, passed-none, ReadAccepted, read-tells  the tests that an accepted file passed
 --   saved-passed                     its number of saved entries
 -- A test of document 01 is passed where it does not hold.
 -- Assumes nothing.
