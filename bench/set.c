@@ -1,5 +1,5 @@
-/* A whole set in memory: 24 files of 1 MiB, an index and 8 volumes created, 8 files lost, rebuilt and checked. Where a directory is given,
-   the same by the program `parchive` on files there, which should be in memory too. Every file that comes back must be the one lost. */
+/* A whole set in memory: 24 files of 1 MiB, an index and 8 volumes created, 8 files missing, rebuilt and checked. Where a directory is given,
+   the same by the program `parchive` on files there, which should be in memory too. Every file that comes back must be the one removed. */
 #include "clock.h"
 #include "../include/par1.h"
 #include <string.h>
@@ -52,12 +52,12 @@ static void take_inventory(uint8_t *inventory) {
 static void rebuild(void) {
     uint8_t inventory[104], weights[255];
     take_inventory(inventory);
-    for (int lost = 1; lost <= VOLUMES; lost++) {
-        accepted("query", par1_query(inventory, 104, (uint64_t)lost, weights, 255));
-        memset(rebuilt[lost], 0, SIZE);
-        for (int f = VOLUMES + 1; f <= FILES; f++) par1_mul_add(weights[f - 1], files[f], SIZE, rebuilt[lost], SIZE);
-        for (int v = 1; v <= VOLUMES; v++) par1_mul_add(weights[FILES + v - 1], volumes[v] + 96 + LIST, SIZE, rebuilt[lost], SIZE);
-        accepted("check", par1_check(list + (lost - 1) * ENTRY, ENTRY, rebuilt[lost], SIZE));
+    for (int missing = 1; missing <= VOLUMES; missing++) {
+        accepted("query", par1_query(inventory, 104, (uint64_t)missing, weights, 255));
+        memset(rebuilt[missing], 0, SIZE);
+        for (int f = VOLUMES + 1; f <= FILES; f++) par1_mul_add(weights[f - 1], files[f], SIZE, rebuilt[missing], SIZE);
+        for (int v = 1; v <= VOLUMES; v++) par1_mul_add(weights[FILES + v - 1], volumes[v] + 96 + LIST, SIZE, rebuilt[missing], SIZE);
+        accepted("check", par1_check(list + (missing - 1) * ENTRY, ENTRY, rebuilt[missing], SIZE));
     }
 }
 
@@ -80,7 +80,7 @@ static void put_files(const char *directory) {
     }
 }
 
-/* The lost files that are in the directory with their contents. */
+/* The removed files that are in the directory with their contents. */
 static int files_back(const char *directory) {
     static uint8_t found[SIZE];
     int back = 0;
@@ -95,7 +95,7 @@ static int files_back(const char *directory) {
     return back;
 }
 
-static void lose(const char *directory) { command(directory, "rm -f FIL01 FIL02 FIL03 FIL04 FIL05 FIL06 FIL07 FIL08"); }
+static void remove_files(const char *directory) { command(directory, "rm -f FIL01 FIL02 FIL03 FIL04 FIL05 FIL06 FIL07 FIL08"); }
 
 static void line(const char *what, double ours, double other) {
     printf("%-52s ours %7.1f ms", what, 1e3 * ours);
@@ -114,7 +114,7 @@ int main(int argc, char **argv) {
     COMPARE(5, 1, create(), if (directory != NULL) command(directory, "rm -f set.*; parchive a -n 8 set.par FIL*"), create_ours, create_other)
     for (int turn = 0; turn < 5; turn++) {
         double a = 0, b = 0;
-        if (directory != NULL) lose(directory);
+        if (directory != NULL) remove_files(directory);
         COMPARE(1, 1, rebuild(), if (directory != NULL) command(directory, "parchive r set.par"), a, b)
         if (turn == 0 || a < rebuild_ours) rebuild_ours = a;
         if (turn == 0 || b < rebuild_other) rebuild_other = b;
@@ -123,7 +123,7 @@ int main(int argc, char **argv) {
     for (int f = 1; f <= VOLUMES; f++) right &= memcmp(rebuilt[f], files[f], SIZE) == 0;
     if (directory == NULL) create_other = rebuild_other = 0;
     line("24 files of 1 MiB, index and 8 volumes created", create_ours, create_other);
-    line("24 files of 1 MiB, 8 lost, rebuilt from 8 volumes", rebuild_ours, rebuild_other);
+    line("24 files of 1 MiB, 8 missing, rebuilt from 8 volumes", rebuild_ours, rebuild_other);
     if (!right) printf("A FILE THAT CAME BACK DIFFERS\n");
     return !right || (directory != NULL && (create_ours > create_other || rebuild_ours > rebuild_other));
 }

@@ -1,4 +1,4 @@
-/* A set of 24 files in memory: writes its index and four volumes, loses files 7 and 24, asks which come back, rebuilds and checks them. */
+/* A set of 24 files in memory: writes its index and four volumes, removes files 7 and 24, asks which come back, rebuilds and checks them. */
 #include "../include/par1.h"
 #include <stdio.h>
 #include <stdlib.h>
@@ -10,7 +10,7 @@ static uint8_t files[FILES + 1][SIZE];
 static size_t sizes[FILES + 1];
 static uint8_t list[LIST];
 static uint8_t volumes[VOLUMES + 1][FILE_MAX];
-static uint8_t inventory[104];
+static uint8_t inventory[PAR1_INVENTORY_BYTES];
 
 /* Every call below must be accepted. */
 static void accepted(const char *call, uint32_t number) {
@@ -49,20 +49,20 @@ static void make_set(void) {
 }
 
 static void query(uint64_t file) {
-    uint8_t weights[255];
-    uint32_t number = par1_query(inventory, 104, file, weights, 255);
+    uint8_t weights[PAR1_WEIGHTS];
+    uint32_t number = par1_query(inventory, sizeof inventory, file, weights, sizeof weights);
     printf("  file %2d: %s\n", (int)file, number == 0 ? "recoverable" : number == 12 ? "undetermined" : number == 13 ? "present" : "refused");
 }
 
 /* Follows the weights over what is present, and holds the result against the file's entry. */
 static void rebuild(uint64_t file) {
-    uint8_t weights[255], buffer[SIZE] = {0}, parts[56];
-    accepted("query", par1_query(inventory, 104, file, weights, 255));
+    uint8_t weights[PAR1_WEIGHTS], buffer[SIZE] = {0}, parts[PAR1_PARTS_BYTES];
+    accepted("query", par1_query(inventory, sizeof inventory, file, weights, sizeof weights));
     for (int f = 1; f <= FILES; f++)
         if (f != 7 && f != 24) par1_mul_add(weights[f - 1], files[f], sizes[f], buffer, sizes[file]);
     for (int v = 1; v <= VOLUMES; v++) {
         if (v == 3) continue;
-        accepted("read", par1_read(volumes[v], 96 + LIST + sizes[1], parts, 56));
+        accepted("read", par1_read(volumes[v], 96 + LIST + sizes[1], parts, sizeof parts));
         par1_mul_add(weights[FILES + v - 1], volumes[v] + number_at(parts + 40), number_at(parts + 48), buffer, sizes[file]);
     }
     accepted("check", par1_check(list + (file - 1) * ENTRY, ENTRY, buffer, sizes[file]));
@@ -76,15 +76,15 @@ int main(void) {
         size_bytes[8 * f - 8] = (uint8_t)sizes[f];
         size_bytes[8 * f - 7] = (uint8_t)(sizes[f] >> 8);
     }
-    accepted("open", par1_open(FILES, size_bytes, sizeof size_bytes, inventory, 104));
+    accepted("open", par1_open(FILES, size_bytes, sizeof size_bytes, inventory, sizeof inventory));
     for (uint64_t f = 1; f <= FILES; f++)
-        if (f != 7 && f != 24) accepted("add_file", par1_add_file(inventory, 104, f));
-    accepted("add_volume", par1_add_volume(inventory, 104, 1));
-    accepted("add_volume", par1_add_volume(inventory, 104, 4));
+        if (f != 7 && f != 24) accepted("add_file", par1_add_file(inventory, sizeof inventory, f));
+    accepted("add_volume", par1_add_volume(inventory, sizeof inventory, 1));
+    accepted("add_volume", par1_add_volume(inventory, sizeof inventory, 4));
     puts("files 7 and 24 missing, volumes 1 and 4 present:");
     query(7);
     query(24);
-    accepted("add_volume", par1_add_volume(inventory, 104, 2));
+    accepted("add_volume", par1_add_volume(inventory, sizeof inventory, 2));
     puts("volume 2 too:");
     rebuild(7);
     rebuild(24);
