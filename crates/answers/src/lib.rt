@@ -2,7 +2,7 @@
 ghost use mathlib.Core.Path.{_≡_};
 ghost use Prim.Native.Nat.{_-_, min};
 ghost use lib.Seq.{sets};
-ghost use Rattle.answers.specs.Writing.{written, numberOf};
+ghost use Rattle.answers.specs.Writing.{written, numberOf, numbered};
 
 // The length of a volume or index file, or the size of a listed file, is outside its limits.
 pub const SIZE: u32 = 1;
@@ -65,15 +65,15 @@ pub fn number_of(writing: Writing) -> u32
     }
 }
 
-// Writes `bytes` over the first bytes of `out`; or refuses with 14, and writes nothing, where it is shorter.
-pub fn write<'a, 'b>(out: &'a mut [u8], bytes: &'b [u8]) -> Writing
-    ensures { λ r. ⌜ (r, now (out .exit)) ≡ written (now (bytes .entry)) (now (out .entry)) ⌝ }
+// Writes `bytes` over the first bytes of `out`, and answers 0; or answers 14, and writes nothing, where it is shorter.
+pub fn write<'a, 'b>(out: &'a mut [u8], bytes: &'b [u8]) -> u32
+    ensures { λ r. ⌜ (r, now (out .exit)) ≡ numbered (written (now (bytes .entry)) (now (out .entry))) ⌝ }
 {
     if out.len() < bytes.len() {
-        return Writing::Refused(NO_ROOM);
+        return NO_ROOM;
     }
     put(out, 0, bytes);
-    Writing::Written(bytes.len())
+    0
 }
 
 // Writes `bytes` from `at` on; what lies past the end of `out` is dropped.

@@ -7,7 +7,6 @@ ghost use Rattle.little_endian.specs.Bytes.{numbers as numbersOf, numbersAt};
 ghost use Rattle.inventory_bytes.specs.Inventories.{inventoryOf, inventoryBytes, openedBy, storedBy, countedInto};
 use answers::PRESENT;
 use answers::UNDETERMINED;
-use answers::number_of;
 use answers::write;
 use inventory::Answer;
 use inventory::Counted;
@@ -90,7 +89,7 @@ pub fn store(outcome: Outcome, out: &mut [u8]) -> u32
     }
     let next = outcome.next;
     let bytes = bytes_of(next);
-    number_of(write(out, &bytes))
+    write(out, &bytes)
 }
 
 // The inventory's 13 numbers.
@@ -119,7 +118,7 @@ pub fn store_count(counted: Counted, out: &mut [u8]) -> u32
         }
         Counted::Counts(files, volumes) => {
             let bytes = bytes_of_count(files, volumes);
-            return number_of(write(out, &bytes));
+            return write(out, &bytes);
         }
     }
 }

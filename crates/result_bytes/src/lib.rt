@@ -1,7 +1,6 @@
 // Results in lent bytes: the byte of an answer, and the parts of a file.
 ghost use mathlib.Core.Path.{_≡_};
 ghost use Rattle.result_bytes.specs.Results.{byteInto, partsBytes, readInto};
-use answers::number_of;
 use answers::write;
 use gf256::Answer;
 use little_endian::write_numbers;
@@ -21,7 +20,7 @@ pub fn put_answer(answer: Answer, out: &mut [u8]) -> u32
         }
         Answer::Byte(byte) => {
             let bytes = [byte];
-            return number_of(write(out, &bytes));
+            return write(out, &bytes);
         }
     }
 }
@@ -36,7 +35,7 @@ pub fn put_reading(reading: Reading, out: &mut [u8]) -> u32
         }
         Reading::Accepted(parts) => {
             let bytes = bytes_of_parts(parts);
-            return number_of(write(out, &bytes));
+            return write(out, &bytes);
         }
     }
 }

@@ -1,14 +1,15 @@
 -- `answers::write` meets its contract.
 -- Assumes nothing.
-use mathlib.Core.Path.{refl, _∙_}
+use mathlib.Core.Path.{refl, ap, _∙_}
 use denote.Ref.{now}
+use Rattle.answers.specs.Writing.{numbered}
 use Rattle.answers.proofs.WritingLaws.{sets-over, written-fits, written-short}
 use borrow.Author.Needs.{needs}
 use Rattle.answers.proofs.write.Statement.{statement}
 use Rattle.answers.proofs.write.Tie as tie
 
 returns : tie.Need-returns
-returns c = written-short _ _ (c .if1 .taken)
+returns c = ap numbered (written-short _ _ (c .if1 .taken))
 
 put-requires : tie.Need-put-requires
 put-requires c κs = search needs
@@ -20,7 +21,8 @@ returns-2 : tie.Need-returns-2
 returns-2 c =
     let a = c .before .before .before .before .before .before .before .args in
     let fits = c .before .before .before .before .if1 .left in
-    written-fits (now (a .bytes)) (now (a .out)) fits refl (c .before .before .put .ensures ∙ sets-over (now (a .out)) (now (a .bytes)) fits)
+    let over = c .before .before .put .ensures ∙ sets-over (now (a .out)) (now (a .bytes)) fits in
+    ap numbered (written-fits (now (a .bytes)) (now (a .out)) fits refl over)
 
 pub write-spec : {M : Type 1} → statement M
 write-spec = tie.close (tie.spec returns put-requires same-length returns-2)

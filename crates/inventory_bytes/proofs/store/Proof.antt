@@ -4,7 +4,7 @@ use mathlib.Core.Path.{refl, ap, _∙_}
 use Prim.Native.Nat.{ℕ}
 use denote.Ref.{now}
 use mathlib.Core.List.{List}
-use Rattle.answers.specs.Writing.{written}
+use Rattle.answers.specs.Writing.{written, numbered}
 use Rattle.answers.proofs.WritingLaws.{unless-none, unless-refused, numbered-as}
 use Rattle.inventory_bytes.specs.Inventories.{inventoryBytes, storedBy}
 use borrow.Author.Needs.{needs}
@@ -24,22 +24,18 @@ slice-aggregate-write c = search needs
 write-requires : tie.Need-write-requires
 write-requires c κs = search needs
 
-number-of-requires : tie.Need-number-of-requires
-number-of-requires c κs = search needs
-
 same-length : tie.Need-same-length
 same-length c = search needs
 
 returns-2 : tie.Need-returns-2
 unfolding storedBy
 returns-2 c =
-    let w = c .before .before .before in
+    let w = c .before .before in
     let b = w .before .before .before in
     let a = b .before .before .before .before .before .args in
     let out : List ℕ = now (a .out) in
-    numbered-as (c .number-of .ensures)
-    (unless-none (inventoryBytes (a .outcome .next)) out refl (b .before .before .if1 .left)
-    (w .write .ensures ∙ ap (λ (l : List ℕ). written l out) (b .bytes-of .ensures)))
+    w .write .ensures ∙ ap (λ (l : List ℕ). numbered (written l out)) (b .bytes-of .ensures)
+    ∙ ap numbered (unless-none (inventoryBytes (a .outcome .next)) out refl (b .before .before .if1 .left) refl)
 
 pub store-spec : {M : Type 1} → statement M
 store-spec =
@@ -49,6 +45,5 @@ store-spec =
     bytes-of-requires
     slice-aggregate-write
     write-requires
-    number-of-requires
     same-length
     returns-2)

@@ -4,8 +4,7 @@ use mathlib.Core.Path.{ap, _∙_}
 use Prim.Native.Nat.{ℕ}
 use denote.Ref.{now}
 use mathlib.Core.List.{List}
-use Rattle.answers.specs.Writing.{written}
-use Rattle.answers.proofs.WritingLaws.{numbered-as}
+use Rattle.answers.specs.Writing.{written, numbered}
 use borrow.Author.Needs.{needs}
 use Rattle.inventory_bytes.proofs.store_count.Statement.{statement}
 use Rattle.inventory_bytes.proofs.store_count.Tie as tie
@@ -28,19 +27,16 @@ slice-aggregate-write c = search needs
 write-requires : tie.Need-write-requires
 write-requires c κs = search needs
 
-number-of-requires : tie.Need-number-of-requires
-number-of-requires c κs = search needs
-
 same-length : tie.Need-same-length
 same-length c = search needs
 
 returns-2 : tie.Need-returns-2
 returns-2 c =
-    let w = c .before .before .before in
+    let w = c .before .before in
     let b = w .before .before .before in
     let out : List ℕ = now (b .before .before .before .before .before .args .out) in
     rw (b .before .before .counted2 .given .1)
-    (numbered-as (c .number-of .ensures) (w .write .ensures ∙ ap (λ (l : List ℕ). written l out) (b .bytes-of-count .ensures)))
+    (w .write .ensures ∙ ap (λ (l : List ℕ). numbered (written l out)) (b .bytes-of-count .ensures))
 
 pub store-count-spec : {M : Type 1} → statement M
 store-count-spec =
@@ -52,6 +48,5 @@ store-count-spec =
     bytes-of-count-requires
     slice-aggregate-write
     write-requires
-    number-of-requires
     same-length
     returns-2)

@@ -4,8 +4,7 @@ use mathlib.Core.Path.{ap, _∙_}
 use Prim.Native.Nat.{ℕ}
 use mathlib.Core.List.{List}
 use denote.Ref.{now}
-use Rattle.answers.specs.Writing.{written}
-use Rattle.answers.proofs.WritingLaws.{numbered-as}
+use Rattle.answers.specs.Writing.{written, numbered}
 use borrow.Author.Needs.{needs}
 use Rattle.md5.proofs.digest_into.Statement.{statement}
 use Rattle.md5.proofs.digest_into.Tie as tie
@@ -19,18 +18,15 @@ slice-aggregate-write c = search needs
 write-requires : tie.Need-write-requires
 write-requires c κs = search needs
 
-number-of-requires : tie.Need-number-of-requires
-number-of-requires c κs = search needs
-
 same-length : tie.Need-same-length
 same-length c = search needs
 
 returns : tie.Need-returns
 returns c =
-    let w = c .before .before .before in
-    let a = c .before .before .before .before .before .before .before .before .before .args in
-    let found = c .before .before .before .before .before .before .digest .ensures in
-    numbered-as (c .number-of .ensures) (w .write .ensures ∙ ap (λ (d : List ℕ). written d (now (a .out))) found)
+    let w = c .before .before in
+    let found = w .before .before .before in
+    let a = found .before .before .before .args in
+    w .write .ensures ∙ ap (λ (d : List ℕ). numbered (written d (now (a .out)))) (found .digest .ensures)
 
 pub digest-into-spec : {M : Type 1} → statement M
 digest-into-spec =
@@ -39,6 +35,5 @@ digest-into-spec =
     digest-requires
     slice-aggregate-write
     write-requires
-    number-of-requires
     same-length
     returns)

@@ -1,6 +1,5 @@
 -- `result_bytes::put_answer` meets its contract.
 -- Assumes nothing.
-use Rattle.answers.proofs.WritingLaws.{numbered-as}
 use Rattle.result_bytes.specs.Results.{byteInto}
 use borrow.Author.Needs.{needs}
 use Rattle.result_bytes.proofs.put_answer.Statement.{statement}
@@ -22,17 +21,14 @@ slice-aggregate-write c = search needs
 write-requires : tie.Need-write-requires
 write-requires c κs = search needs
 
-number-of-requires : tie.Need-number-of-requires
-number-of-requires c κs = search needs
-
 same-length : tie.Need-same-length
 same-length c = search needs
 
 returns-2 : tie.Need-returns-2
 unfolding byteInto
 returns-2 c =
-    let w = c .before .before .before in
-    rw (w .before .before .before .before .answer2 .given .1) (numbered-as (c .number-of .ensures) (w .write .ensures))
+    let w = c .before .before in
+    rw (w .before .before .before .before .answer2 .given .1) (w .write .ensures)
 
 pub put-answer-spec : {M : Type 1} → statement M
 put-answer-spec =
@@ -43,6 +39,5 @@ put-answer-spec =
     enum-known-answer-2
     slice-aggregate-write
     write-requires
-    number-of-requires
     same-length
     returns-2)

@@ -4,8 +4,7 @@ use mathlib.Core.Path.{ap, _∙_}
 use Prim.Native.Nat.{ℕ}
 use mathlib.Core.List.{List}
 use denote.Ref.{now}
-use Rattle.answers.specs.Writing.{written}
-use Rattle.answers.proofs.WritingLaws.{numbered-as}
+use Rattle.answers.specs.Writing.{written, numbered}
 use Rattle.result_bytes.specs.Results.{readInto}
 use borrow.Author.Needs.{needs}
 use Rattle.result_bytes.proofs.put_reading.Statement.{statement}
@@ -30,20 +29,17 @@ slice-aggregate-write c = search needs
 write-requires : tie.Need-write-requires
 write-requires c κs = search needs
 
-number-of-requires : tie.Need-number-of-requires
-number-of-requires c κs = search needs
-
 same-length : tie.Need-same-length
 same-length c = search needs
 
 returns-2 : tie.Need-returns-2
 unfolding readInto
 returns-2 c =
-    let w = c .before .before .before in
+    let w = c .before .before in
     let b = w .before .before .before in
     let out : List ℕ = now (b .before .before .before .before .before .args .out) in
     rw (b .before .before .reading2 .given .1)
-    (numbered-as (c .number-of .ensures) (w .write .ensures ∙ ap (λ (l : List ℕ). written l out) (b .bytes-of-parts .ensures)))
+    (w .write .ensures ∙ ap (λ (l : List ℕ). numbered (written l out)) (b .bytes-of-parts .ensures))
 
 pub put-reading-spec : {M : Type 1} → statement M
 put-reading-spec =
@@ -55,6 +51,5 @@ put-reading-spec =
     bytes-of-parts-requires
     slice-aggregate-write
     write-requires
-    number-of-requires
     same-length
     returns-2)
