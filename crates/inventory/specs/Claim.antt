@@ -68,7 +68,8 @@ Ran s (c ∷ cs) (r ∷ rs) e = (s₁ : Inventory) × Did s c r s₁ × Ran s₁
 abbrev pub Given : Inventory → Type 0
 Given s = (n : ℕ) × (sizes : List ℕ) × (cs : List Call) × (rs : List Reply) × (openStep n sizes .number ≡ 0) × Ran (openStep n sizes .next) cs rs s
 
--- of an inventory whose sets are words, as those in the code are; proved: proofs/Reachable.antt, `exactly-given`
+-- of an inventory whose sets are words, as those in the code are; so an opening that refuses all is excluded;
+-- proved: proofs/Reachable.antt, `exactly-given`
 abbrev pub ExactlyGiven : Type 0
 ExactlyGiven = (s : Inventory) → Words (s .files) → Words (s .volumes) → Words (s .nonempty) → (isInventory s ≡ true) ↔ Given s
 
