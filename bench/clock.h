@@ -32,6 +32,23 @@ static inline uint8_t *random_bytes(size_t n) {
     return p;
 }
 
-static inline void row(const char *what, size_t bytes, double ours, double other) {
-    printf("%-28s %10zu bytes  %9.1f MB/s  %9.1f MB/s  ratio %.2f\n", what, bytes, bytes / ours / 1e6, bytes / other / 1e6, other / ours);
+/* A figure of the table: the speed of a call on `bytes` bytes, or its time where they are 0. */
+static inline void figure(size_t bytes, double time) {
+    if (bytes > 0)
+        printf(" %8.1f MB/s |", (double)bytes / time / 1e6);
+    else
+        printf(" %8.2f ms   |", 1e3 * time);
+}
+
+/* A row of the table: what is measured, against what, the times of a call, and the ratio that is wanted, or 0. Whether that is reached. */
+static inline int row(const char *what, const char *against, size_t bytes, double ours, double other, double wanted) {
+    printf("| %-44s | %-24s |", what, against);
+    figure(bytes, ours);
+    figure(bytes, other);
+    printf(" %5.2f |", other / ours);
+    if (wanted > 0)
+        printf(" %6.2f |\n", wanted);
+    else
+        printf("        |\n");
+    return other / ours >= wanted;
 }

@@ -9,7 +9,10 @@ int main(void) {
     static const size_t sizes[] = {64, 1024, 65536, 16777216};
     static const int calls[] = {4096, 512, 16, 1};
     uint8_t *bytes = random_bytes(sizes[3]);
+    static const char *const what[] = {"MD5 of 64 bytes", "MD5 of 1 KiB", "MD5 of 64 KiB", "MD5 of 16 MiB"};
+    static const double wanted[] = {0, 0.80, 0, 0.90};
     uint8_t ours[16], theirs[16];
+    int right = 1;
     for (int i = 0; i < 4; i++) {
         double a = 0, b = 0;
         COMPARE(i == 3 ? 20 : 200, calls[i], par1_md5(bytes, sizes[i], ours, 16), MD5(bytes, sizes[i], theirs), a, b)
@@ -17,7 +20,7 @@ int main(void) {
             puts("md5: the digests differ");
             return 1;
         }
-        row("md5 (other: OpenSSL)", sizes[i], a, b);
+        right &= row(what[i], "OpenSSL", sizes[i], a, b, wanted[i]);
     }
-    return 0;
+    return !right;
 }

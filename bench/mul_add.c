@@ -44,15 +44,15 @@ static void by_isal(uint8_t weight, const uint8_t *fragment, uint8_t *buffer, si
 
 static const struct { const char *name; mul_add_fn *call; } tested[] = {
     {"mul_add", by_mul_add},
-    {"table", by_table},
+    {"a table of 256 products", by_table},
 #ifdef HAVE_ISAL
-    {"isa-l", by_isal},
+    {"ISA-L (AVX)", by_isal},
 #endif
 };
 enum { TESTED = sizeof tested / sizeof *tested };
 
-/* One size: GB/s of each, and the ratio of the first to the second. 0: a result differs, or the ratio is too small. */
-static int one_size(size_t n, double required) {
+/* One size. 0: a result differs, or the ratio to the table is below what is wanted. */
+static int one_size(size_t n, double wanted) {
     uint8_t *fragment = random_bytes(n), *buffer = random_bytes(n), *results[TESTED];
     double best[TESTED];
     size_t calls = n < 4 * MIB ? 4 * MIB / n : 1;
@@ -71,14 +71,15 @@ static int one_size(size_t n, double required) {
             double took = (seconds() - start) / (double)calls;
             if (took < best[k]) best[k] = took;
         }
-    printf("%6zu KiB", n / KIB);
-    for (int k = 0; k < TESTED; k++) printf("   %s %5.2f GB/s", tested[k].name, (double)n / best[k] / 1e9);
-    double ratio = best[1] / best[0];
-    printf("   mul_add/table %.2f (required %.1f)%s\n", ratio, required, right ? "" : "   RESULTS DIFFER");
+    char what[64];
+    snprintf(what, sizeof what, "mul_add of %zu KiB", n / KIB);
+    int reached = 1;
+    for (int k = 1; k < TESTED; k++) reached &= row(what, tested[k].name, n, best[0], best[k], k == 1 ? wanted : 0);
+    if (!right) puts("mul_add: the results differ");
     for (int k = 0; k < TESTED; k++) free(results[k]);
     free(fragment);
     free(buffer);
-    return right && ratio >= required;
+    return right && reached;
 }
 
 /* A set of files into one volume, in parts of this many bytes of the buffer. */
@@ -100,12 +101,9 @@ static int whole_set(void) {
             double took = seconds() - start;
             if (took < best[k]) best[k] = took;
         }
-    double bytes = (double)FILES * FILE_BYTES;
     int right = !memcmp(volumes[0], volumes[1], FILE_BYTES);
-    printf("%d files of %d KiB into one volume:   tiles of %d KiB %5.2f GB/s", FILES, FILE_BYTES / KIB, TILE / KIB,
-           bytes / best[0] / 1e9);
-    printf("   file by file %5.2f GB/s   tiles/files %.2f%s\n", bytes / best[1] / 1e9, best[1] / best[0],
-           right ? "" : "   RESULTS DIFFER");
+    row("24 files mul_added, 32 KiB at a time", "the same, file by file", (size_t)FILES * FILE_BYTES, best[0], best[1], 0);
+    if (!right) puts("mul_add: the volumes differ");
     return right;
 }
 

@@ -16,10 +16,8 @@ int main(void) {
     memset(other, 0, LENGTH);
     double ours = 0, bare = 0;
     COMPARE(15, 1, par1_read(file, LENGTH, parts, 56), par1_md5(file, LENGTH, digest, 16), ours, bare)
-    row("read (other: bare digest)", LENGTH, ours, bare);
-    int right = bare / ours >= 0.85;
+    int right = row("read a file of 32 MiB", "the bare digest", LENGTH, ours, bare, 0.85);
     COMPARE(15, 1, par1_write_volume(7, 0, entry, ENTRY, data, DATA, other, LENGTH), par1_md5(file, LENGTH, digest, 16), ours, bare)
-    row("write (other: bare digest)", LENGTH, ours, bare);
-    right &= bare / ours >= 0.85 && memcmp(file, other, LENGTH) == 0;
+    right &= row("write a file of 32 MiB", "the bare digest", LENGTH, ours, bare, 0.85) && memcmp(file, other, LENGTH) == 0;
     return !right;
 }
