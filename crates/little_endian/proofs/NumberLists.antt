@@ -2,20 +2,22 @@
 --
 --   length-numbers     they take eight bytes each
 --   numbers-append     those of two lists in a row
---   length-numbersAt   as many are read as are asked for
+--   numbers-back       numbers that were written are read back
+--   numbers-read       numbers that were read are the bytes there
 --   read-more, write-more     what a loop over them needs, where places stop at a last one past the end
 -- Assumes nothing.
 use mathlib.Core.Path.{_≡_, refl, sym, ap, ap₂, _∙_}
-use Prim.Native.Nat.{ℕ, zero, suc, _+_, _*_, _-_, _≤_, _<_, min}
+use Prim.Native.Nat.{ℕ, zero, suc, _+_, _*_, _-_, _^_, _≤_, _<_, min}
+use native.Mathlib.Nat.{mod-eq-of-lt}
 use native.Mathlib.Numerals.{add-one}
 use native.Mathlib.Omega.{arith}
 use mathlib.Core.List.{List, [], _∷_, _++_, append-assoc}
 use lib.ListN.{length, take, drop, getD, set, length-append}
-use lib.Seq.{sets, length-sets, drop-cons, take-suc-set}
-use Rattle.little_endian.specs.Bytes.{toLe, leAt, numbers, numbersAt}
-use Rattle.little_endian.proofs.Numbers.{length-toLe}
+use lib.Seq.{sets, length-sets, drop-cons, drop-drop, drop-append-seam, take-add, take-append-seam, take-suc-set}
+use Rattle.little_endian.specs.Bytes.{Bytes, fromLe, toLe, leAt, numbers, numbersAt}
+use Rattle.little_endian.proofs.Numbers.{length-toLe, from-to}
 use Rattle.little_endian.proofs.Past.{at-min}
-use Rattle.little_endian.proofs.Reading.{leAt-out}
+use Rattle.little_endian.proofs.Reading.{leAt-out, to-leAt}
 use Rattle.little_endian.proofs.Stores.{sets-append, sets-past}
 
 -- ---- lengths, and lists in a row
@@ -30,11 +32,6 @@ unfolding numbers
 numbers-append [] ms = refl
 numbers-append (n ∷ ns) ms =
     ap (λ (l : List ℕ). toLe 8 n ++ l) (numbers-append ns ms) ∙ sym (append-assoc (toLe 8 n) (numbers ns) (numbers ms))
-
-pub length-numbersAt : (k : ℕ) (s : List ℕ) (i : ℕ) → length (numbersAt k s i) ≡ k
-unfolding numbersAt
-length-numbersAt zero s i = refl
-length-numbersAt (suc k) s i = ap suc (length-numbersAt k s (i + 8))
 
 -- ---- places past the end
 
@@ -76,3 +73,28 @@ write-more s ns i place m {t} h g e f =
     ∙ ap₂ (λ (l : List ℕ) (k : ℕ). sets l (place + k) rest) e (sym (length-toLe 8 n))
     ∙ sym (sets-append s place (toLe 8 n) rest)
     ∙ ap (λ (l : List ℕ). sets s place (numbers l)) (sym (drop-cons ns i 0 g ∙ ap (λ (j : ℕ). n ∷ drop j ns) (sym (add-one i))))
+
+-- ---- there and back
+
+pub numbers-back : (p ns q : List ℕ) → ((j : ℕ) → getD ns j 0 < 2 ^ 64) → numbersAt (length ns) (p ++ (numbers ns ++ q)) (length p) ≡ ns
+unfolding numbers numbersAt leAt
+numbers-back p [] q h = refl
+numbers-back p (n ∷ ns) q h =
+    let low : List ℕ = toLe 8 n in
+    let rest : List ℕ = numbers ns ++ q in
+    let whole : (low ++ numbers ns) ++ q ≡ low ++ rest = append-assoc low (numbers ns) q in
+    let size : length p + 8 ≡ length (p ++ low) = omega (arith, length-append p low, length-toLe 8 n) in
+    let part : take 8 (drop (length p) (p ++ (low ++ rest))) ≡ low =
+    ap₂ (λ (k : ℕ) (l : List ℕ). take k l) (sym (length-toLe 8 n)) (drop-append-seam p (low ++ rest)) ∙ take-append-seam low rest in
+    let first : fromLe (take 8 (drop (length p) (p ++ (low ++ rest)))) ≡ n = ap fromLe part ∙ from-to 8 n ∙ mod-eq-of-lt (h 0) in
+    ap (λ (l : List ℕ). numbersAt (suc (length ns)) (p ++ l) (length p)) whole
+    ∙ ap₂ _∷_ first
+    (ap₂ (λ (l : List ℕ) (i : ℕ). numbersAt (length ns) l i) (sym (append-assoc p low rest)) size ∙ numbers-back (p ++ low) ns q (λ j. h (suc j)))
+
+pub numbers-read : (k : ℕ) (s : List ℕ) (i : ℕ) → Bytes s → i + 8 * k ≤ length s → numbers (numbersAt k s i) ≡ take (8 * k) (drop i s)
+unfolding numbers numbersAt
+numbers-read zero s i h fits = refl
+numbers-read (suc k) s i h fits =
+    let size : 8 + 8 * k ≡ 8 * suc k = omega arith in
+    ap₂ _++_ (to-leAt 8 s i h (omega arith)) (numbers-read k s (i + 8) h (omega arith) ∙ ap (take (8 * k)) (sym (drop-drop 8 i s)))
+    ∙ sym (take-add 8 (8 * k) (drop i s)) ∙ ap (λ (n : ℕ). take n (drop i s)) size

@@ -1,0 +1,56 @@
+-- Inventories in lent bytes, there and back.
+--
+--   loaded-back    the bytes of an inventory are that inventory
+--   stored-back    104 bytes are the bytes of the inventory that they are
+-- Assumes nothing.
+use mathlib.Core.Path.{_≡_, refl, sym, ap, ap₂, _∙_}
+use mathlib.Core.List.{List, [], _∷_, _++_, append-nil, append-assoc}
+use Prim.Native.Nat.{ℕ, zero, suc, _*_, _^_, _<_}
+use native.Mathlib.Nat.{zero-lt-suc}
+use native.Mathlib.Omega.{arith}
+use lib.ListN.{length, getD, length-append}
+use lib.Seq.{take-all}
+use Rattle.inventory.specs.declared.Inventory.{Inventory}
+use Rattle.little_endian.specs.Bytes.{numbers, numbersAt}
+use Rattle.little_endian.proofs.NumberLists.{length-numbers, numbers-append, numbers-back, numbers-read}
+use Rattle.inventory_bytes.specs.Inventories.{inventoryOf, inventoryBytes}
+use Rattle.inventory_bytes.specs.Claim.{LoadedBack, StoredBack}
+
+-- the numbers ms, with others before and after them
+part-back : (i k : ℕ) (ks ms ls : List ℕ) {l : List ℕ} → l ≡ (ks ++ ms) ++ ls → 8 * length ks ≡ i → length ms ≡ k
+    → ((j : ℕ) → getD ms j 0 < 2 ^ 64) → numbersAt k (numbers l) i ≡ ms
+part-back i k ks ms ls e at size h =
+    let split : numbers ((ks ++ ms) ++ ls) ≡ numbers ks ++ (numbers ms ++ numbers ls) =
+    simp (numbers-append, append-assoc) in
+    let start : i ≡ length (numbers ks) = sym at ∙ sym (length-numbers ks) in
+    ap (λ (l : List ℕ). numbersAt k (numbers l) i) e
+    ∙ ap₂ (λ (b : List ℕ) (j : ℕ). numbersAt k b j) split start
+    ∙ ap (λ (m : ℕ). numbersAt m (numbers ks ++ (numbers ms ++ numbers ls)) (length (numbers ks))) (sym size)
+    ∙ numbers-back (numbers ks) ms (numbers ls) h
+
+one-number : (n : ℕ) → n < 2 ^ 64 → (j : ℕ) → getD (n ∷ []) j 0 < 2 ^ 64
+one-number n h zero = h
+one-number n h (suc j) = zero-lt-suc 18446744073709551615
+
+same-parts : {n m : ℕ} {a b c d e f : List ℕ} → n ≡ m → a ≡ b → c ≡ d → e ≡ f
+    → _≡_ {A = Inventory} (record { n = n; files = a; volumes = c; nonempty = e }) (record { n = m; files = b; volumes = d; nonempty = f })
+same-parts p q r t = cc
+
+pub loaded-back : LoadedBack
+unfolding inventoryOf inventoryBytes numbersAt
+loaded-back s small f v e =
+    let n : List ℕ = s .n ∷ [] in
+    let ns = part-back 0 1 [] n (s .files ++ s .volumes ++ s .nonempty) refl refl refl (one-number (s .n) small) in
+    let fs =
+    part-back 8 4 n (s .files) (s .volumes ++ s .nonempty) (ap (λ (l : List ℕ). s .n ∷ l) (append-assoc (s .files) (s .volumes) (s .nonempty))) refl
+    (f .four) (f .fits) in
+    let vs = part-back 40 4 (n ++ s .files) (s .volumes) (s .nonempty) refl (simp (f .four)) (v .four) (v .fits) in
+    let es =
+    part-back 72 4 (n ++ s .files ++ s .volumes) (s .nonempty) [] (sym (append-nil (n ++ s .files ++ s .volumes ++ s .nonempty)))
+    (simp (length-append, f .four, v .four)) (e .four) (e .fits) in
+    same-parts (ap (λ (l : List ℕ). getD l 0 0) ns) fs vs es
+
+-- the 13 numbers of an inventory are those of all its bytes
+pub stored-back : StoredBack
+unfolding inventoryOf inventoryBytes numbersAt
+stored-back b bytes size = numbers-read 13 b 0 bytes (omega arith) ∙ take-all 104 b (omega arith)

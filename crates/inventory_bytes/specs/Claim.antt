@@ -1,0 +1,22 @@
+-- Inventories in lent bytes, there and back: from C a call goes on from what the last one handed back.
+--
+--   LoadedBack    the bytes of an inventory are that inventory
+--   StoredBack    104 bytes are the bytes of the inventory that they are
+-- Assumes nothing.
+use mathlib.Core.Path.{_≡_}
+use mathlib.Core.List.{List}
+use Prim.Native.Nat.{ℕ, _^_, _<_}
+use lib.ListN.{length}
+use Rattle.inventory.specs.declared.Inventory.{Inventory}
+use Rattle.little_endian.specs.Bytes.{Bytes}
+use Rattle.number_sets.specs.Sets.{Words}
+use Rattle.inventory_bytes.specs.Inventories.{inventoryOf, inventoryBytes}
+
+-- n is a u64, and each set is four words; proved: proofs/BackLaws.antt, `loaded-back`
+abbrev pub LoadedBack : Type 0
+LoadedBack =
+    (s : Inventory) → s .n < 2 ^ 64 → Words (s .files) → Words (s .volumes) → Words (s .nonempty) → inventoryOf (inventoryBytes s) ≡ s
+
+-- proved: proofs/BackLaws.antt, `stored-back`
+abbrev pub StoredBack : Type 0
+StoredBack = (b : List ℕ) → Bytes b → length b ≡ 104 → inventoryBytes (inventoryOf b) ≡ b
