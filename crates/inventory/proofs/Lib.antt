@@ -1,5 +1,5 @@
 pub mod Tests
-mod Outcomes
+pub mod Outcomes
 pub mod Rows
 pub mod Recovery
 pub mod Weights

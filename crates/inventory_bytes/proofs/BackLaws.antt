@@ -1,5 +1,6 @@
 -- Inventories in lent bytes, there and back.
 --
+--   length-inventory     they are 104
 --   loaded-back    the bytes of an inventory are that inventory
 --   stored-back    104 bytes are the bytes of the inventory that they are
 -- Assumes nothing.
@@ -14,7 +15,13 @@ use Rattle.inventory.specs.declared.Inventory.{Inventory}
 use Rattle.little_endian.specs.Bytes.{numbers, numbersAt}
 use Rattle.little_endian.proofs.NumberLists.{length-numbers, numbers-append, numbers-back, numbers-read}
 use Rattle.inventory_bytes.specs.Inventories.{inventoryOf, inventoryBytes}
-use Rattle.inventory_bytes.specs.Claim.{LoadedBack, StoredBack}
+use Rattle.inventory_bytes.specs.Claim.{Held, LoadedBack, StoredBack}
+
+pub length-inventory : (s : Inventory) → Held s → length (inventoryBytes s) ≡ 104
+unfolding inventoryBytes
+length-inventory s h =
+    let all : length (s .n ∷ s .files ++ s .volumes ++ s .nonempty) ≡ 13 = simp (length-append, h .files .four, h .volumes .four, h .nonempty .four) in
+    length-numbers (s .n ∷ s .files ++ s .volumes ++ s .nonempty) ∙ omega arith
 
 -- the numbers ms, with others before and after them
 part-back : (i k : ℕ) (ks ms ls : List ℕ) {l : List ℕ} → l ≡ (ks ++ ms) ++ ls → 8 * length ks ≡ i → length ms ≡ k
@@ -38,16 +45,16 @@ same-parts p q r t = cc
 
 pub loaded-back : LoadedBack
 unfolding inventoryOf inventoryBytes numbersAt
-loaded-back s small f v e =
+loaded-back s h =
     let n : List ℕ = s .n ∷ [] in
-    let ns = part-back 0 1 [] n (s .files ++ s .volumes ++ s .nonempty) refl refl refl (one-number (s .n) small) in
+    let ns = part-back 0 1 [] n (s .files ++ s .volumes ++ s .nonempty) refl refl refl (one-number (s .n) (h .small)) in
     let fs =
     part-back 8 4 n (s .files) (s .volumes ++ s .nonempty) (ap (λ (l : List ℕ). s .n ∷ l) (append-assoc (s .files) (s .volumes) (s .nonempty))) refl
-    (f .four) (f .fits) in
-    let vs = part-back 40 4 (n ++ s .files) (s .volumes) (s .nonempty) refl (simp (f .four)) (v .four) (v .fits) in
+    (h .files .four) (h .files .fits) in
+    let vs = part-back 40 4 (n ++ s .files) (s .volumes) (s .nonempty) refl (simp (h .files .four)) (h .volumes .four) (h .volumes .fits) in
     let es =
     part-back 72 4 (n ++ s .files ++ s .volumes) (s .nonempty) [] (sym (append-nil (n ++ s .files ++ s .volumes ++ s .nonempty)))
-    (simp (length-append, f .four, v .four)) (e .four) (e .fits) in
+    (simp (length-append, h .files .four, h .volumes .four)) (h .nonempty .four) (h .nonempty .fits) in
     same-parts (ap (λ (l : List ℕ). getD l 0 0) ns) fs vs es
 
 -- the 13 numbers of an inventory are those of all its bytes

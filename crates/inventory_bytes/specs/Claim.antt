@@ -1,5 +1,6 @@
 -- Inventories in lent bytes, there and back: from C a call goes on from what the last one handed back.
 --
+--   Held s        bytes can hold the inventory s: n is a u64, and each set is four words
 --   LoadedBack    the bytes of an inventory are that inventory
 --   StoredBack    104 bytes are the bytes of the inventory that they are
 -- Assumes nothing.
@@ -12,10 +13,15 @@ use Rattle.little_endian.specs.Bytes.{Bytes}
 use Rattle.number_sets.specs.Sets.{Words}
 use Rattle.inventory_bytes.specs.Inventories.{inventoryOf, inventoryBytes}
 
--- n is a u64, and each set is four words; proved: proofs/BackLaws.antt, `loaded-back`
+pub record Held (s : Inventory) : Type 0 where
+  pub small : s .n < 2 ^ 64
+  pub files : Words (s .files)
+  pub volumes : Words (s .volumes)
+  pub nonempty : Words (s .nonempty)
+
+-- proved: proofs/BackLaws.antt, `loaded-back`
 abbrev pub LoadedBack : Type 0
-LoadedBack =
-    (s : Inventory) → s .n < 2 ^ 64 → Words (s .files) → Words (s .volumes) → Words (s .nonempty) → inventoryOf (inventoryBytes s) ≡ s
+LoadedBack = (s : Inventory) → Held s → inventoryOf (inventoryBytes s) ≡ s
 
 -- proved: proofs/BackLaws.antt, `stored-back`
 abbrev pub StoredBack : Type 0

@@ -9,7 +9,7 @@
 --   size-by-ones                      the counts of ones of the words sum to the size of the set
 --   below-four                        what holds at 0 to 3 holds below 4
 --   words-same                        two sets with the same members are the same words
---   words-none, words-inserted        the words that calls give
+--   words-none, words-inserted, words-removed     the words that calls give
 -- Assumes nothing.
 use mathlib.Core.Path.{_≡_, refl, sym, ap, ap₂, _∙_, subst}
 use mathlib.Core.Logic.{_≢_}
@@ -23,7 +23,7 @@ use lib.Arith.{digits-mod}
 use lib.Pow.{pow-lt}
 use lib.ListN.{length, getD, set, replicate, length-set, List·getD-eq-default, length-replicate}
 use lib.Seq.{getD-set-same, getD-set-other, set-out, ext-getD}
-use lib.Bits.{bitAnd, bitOr, or-shr, or-step, and-shr, and-step, and-mask, or-lt}
+use lib.Bits.{bitAnd, bitOr, or-shr, or-step, and-shr, and-step, and-mask, and-le-l, or-lt}
 use lib.Count.{ones, ones-step}
 use lib.Dec.{eqb}
 use borrow.Author.Tests.{eq-eqb, ne-eqb}
@@ -329,21 +329,31 @@ words-none = record {
   fits = λ j. subst (λ (x : ℕ). x < 2 ^ 64) (sym (zero-word j)) (omega arith);
 }
 
-pub words-inserted : (k : ℕ) (ws : List ℕ) → Words ws → Words (inserted k ws)
-unfolding inserted
-words-inserted k ws W = record {
-  four = length-set ws (k / 64) (bitOr (getD ws (k / 64) 0) (2 ^ (k % 64))) ∙ W .four;
-  fits = λ j. elim (decLt (k / 64) (length ws)) [
-    | yes l ↦ elim (ℕ-discrete j (k / 64)) [
+-- one word replaced
+words-set : (i word : ℕ) (ws : List ℕ) → word < 2 ^ 64 → Words ws → Words (set ws i word)
+words-set i word ws h W = record {
+  four = length-set ws i word ∙ W .four;
+  fits = λ j. elim (decLt i (length ws)) [
+    | yes l ↦ elim (ℕ-discrete j i) [
       | yes e ↦
-          subst (λ (x : ℕ). x < 2 ^ 64)
-          (sym (ap (λ (i : ℕ). getD (set ws (k / 64) word) i 0) e ∙ getD-set-same ws (k / 64) word 0 l))
-          (or-lt 64 (getD ws (k / 64) 0) (2 ^ (k % 64)) (W .fits (k / 64)) (pow-lt {i = k % 64} {j = 64} (omega arith)))
-      | no q ↦ subst (λ (x : ℕ). x < 2 ^ 64) (sym (getD-set-other ws (k / 64) j word 0 q)) (W .fits j)
+          subst (λ (x : ℕ). x < 2 ^ 64) (sym (ap (λ (p : ℕ). getD (set ws i word) p 0) e ∙ getD-set-same ws i word 0 l)) h
+      | no q ↦ subst (λ (x : ℕ). x < 2 ^ 64) (sym (getD-set-other ws i j word 0 q)) (W .fits j)
     ]
-    | no q ↦ subst (λ (l : List ℕ). getD l j 0 < 2 ^ 64) (sym (set-out ws (k / 64) word (omega arith))) (W .fits j)
+    | no q ↦ subst (λ (l : List ℕ). getD l j 0 < 2 ^ 64) (sym (set-out ws i word (omega arith))) (W .fits j)
   ];
 }
+
+pub words-inserted : (k : ℕ) (ws : List ℕ) → Words ws → Words (inserted k ws)
+unfolding inserted
+words-inserted k ws W =
+    words-set (k / 64) _ ws (or-lt 64 (getD ws (k / 64) 0) (2 ^ (k % 64)) (W .fits (k / 64)) (pow-lt {i = k % 64} {j = 64} (omega arith))) W
+
+pub words-removed : (k : ℕ) (ws : List ℕ) → Words ws → Words (removed k ws)
+unfolding removed
+words-removed k ws W =
+    let word : ℕ = getD ws (k / 64) 0 in
+    let less : bitAnd word (2 ^ 64 - 1 - 2 ^ (k % 64)) < 2 ^ 64 = le-lt (and-le-l word (2 ^ 64 - 1 - 2 ^ (k % 64))) (W .fits (k / 64)) in
+    words-set (k / 64) _ ws less W
   where
-    word : ℕ
-    word = bitOr (getD ws (k / 64) 0) (2 ^ (k % 64))
+    le-lt : {a b c : ℕ} → a ≤ b → b < c → a < c
+    le-lt h g = omega arith

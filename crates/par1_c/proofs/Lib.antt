@@ -1,2 +1,3 @@
 mod CallLaws
 mod Determined
+pub mod OnBytes

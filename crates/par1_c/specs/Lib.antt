@@ -1,1 +1,2 @@
 pub mod Inventories
+pub mod Claim

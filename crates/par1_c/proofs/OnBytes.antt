@@ -1,0 +1,139 @@
+-- From C the calls on the bytes of an inventory are those on the inventory.
+--
+--   opened-on-bytes      an opening
+--   changed-on-bytes     the four calls that add and remove
+--   counted-on-bytes     a count
+--   queried-on-bytes     a query
+-- Assumes nothing.
+use mathlib.Core.Path.{_≡_, refl, sym, ap, ap₂, _∙_, subst}
+use mathlib.Core.Bool.{Bool, true, false, cond, _&&_, and-false}
+use mathlib.Core.List.{List, [], _++_, append-nil}
+use Prim.Native.Nat.{ℕ, zero, suc, _*_, _^_, _≤_, _<_}
+use native.Mathlib.Decide.{ℕ-discrete, decLe}
+use native.Mathlib.Nat.{zero-lt-suc}
+use native.Mathlib.Omega.{arith}
+use borrow.Author.Tests.{eqb-true, eqb-false, leb-true, le-leb, lt-leb, eq-eqb, ne-eqb}
+use lib.Dec.{eqb, leb}
+use lib.ListN.{getD, length, drop, drop-of-length-le}
+use Rattle.answers.proofs.WritingLaws.{written-fits, unless-none, unless-refused, numbered-as}
+use Rattle.inventory.specs.Query.{Queried}
+use Rattle.inventory.specs.Steps.{allBelow, oneTo, zeros, fresh, refusedOpening, nonemptyOf, openStep, outcome, accepted, withFiles, withVolumes, addFileStep, removeFileStep, addVolumeStep, removeVolumeStep}
+use Rattle.inventory.specs.declared.Inventory.{Inventory}
+use Rattle.inventory.specs.declared.Outcome.{Outcome}
+use Rattle.finite.proofs.Tests.{and-both}
+use Rattle.inventory.proofs.Outcomes.{open-out-of-range, open-miscounted}
+use Rattle.little_endian.specs.Bytes.{numbers, numbersAt}
+use Rattle.little_endian.proofs.NumberLists.{length-numbers, numbers-back}
+use Rattle.inventory_bytes.specs.Claim.{Held}
+use Rattle.inventory_bytes.specs.Inventories.{inventoryBytes, openedBy, storedBy}
+use Rattle.inventory_bytes.proofs.BackLaws.{length-inventory, loaded-back}
+use Rattle.number_sets.specs.Sets.{Words, inserted}
+use Rattle.number_sets.proofs.Words.{words-none, words-inserted, words-removed}
+use Rattle.par1_c.specs.Inventories.{otherLength, answered}
+use Rattle.par1_c.specs.Claim.{OnBytes, OpenedOnBytes, ChangedOnBytes, CountedOnBytes, QueriedOnBytes}
+use Rattle.par1_c.proofs.CallLaws.{changed-same, counted-same}
+
+-- an accepted outcome is stored, and a refused one leaves the bytes
+stored : (n : ℕ) (changed s : Inventory) → Held changed → Held s → let o = accepted n changed s in (n, inventoryBytes (o .next)) ≡ storedBy o (inventoryBytes s)
+unfolding storedBy
+stored n changed s hc hs = by (eqb n 0) refl
+  where
+    b : List ℕ
+    b = inventoryBytes s
+
+    by : (z : Bool) → eqb n 0 ≡ z → (n, inventoryBytes (cond z changed s)) ≡ storedBy (outcome (cond z changed s) n) b
+    by true z =
+        let t : List ℕ = inventoryBytes changed in
+        let none : n ≡ 0 = eqb-true n 0 z in
+        let all : t ++ drop (length t) b ≡ t = ap (λ (l : List ℕ). t ++ l) (drop-of-length-le b {i = length t} (omega (arith, length-inventory changed hc, length-inventory s hs))) ∙ append-nil t in
+        let fits = written-fits t b (omega (arith, length-inventory changed hc, length-inventory s hs)) refl (sym all) in
+        numbered-as none (unless-none t b refl none fits)
+    by false z = numbered-as refl (unless-refused b b refl (eqb-false n 0 z) refl)
+
+held-one : (n : ℕ) (changed s : Inventory) → Held changed → Held s → Held (accepted n changed s .next)
+held-one n changed s hc hs = by (eqb n 0)
+  where
+    by : (z : Bool) → Held (cond z changed s)
+    by true = hc
+    by false = hs
+
+on-bytes : (step : Inventory → ℕ → Outcome) (s : Inventory) (k n : ℕ) (changed : Inventory) → step s k ≡ accepted n changed s → Held changed → Held s
+    → OnBytes step s k
+on-bytes step s k n changed e hc hs =
+    let b : List ℕ = inventoryBytes s in
+    let same = changed-same step k b (length-inventory s hs) (sym (loaded-back s hs)) (sym e) (stored n changed s hc hs) in
+    record {
+      gives = sym same ∙ ap (λ (o : Outcome). (o .number, inventoryBytes (o .next))) (sym e);
+      held = subst (λ (o : Outcome). Held (o .next)) (sym e) (held-one n changed s hc hs);
+    }
+
+-- the inventory with other words for a set
+with-files : (s : Inventory) (ws : List ℕ) → Held s → Words ws → Held (withFiles s ws)
+with-files s ws h w = record { small = h .small; files = w; volumes = h .volumes; nonempty = h .nonempty }
+
+with-volumes : (s : Inventory) (ws : List ℕ) → Held s → Words ws → Held (withVolumes s ws)
+with-volumes s ws h w = record { small = h .small; files = h .files; volumes = w; nonempty = h .nonempty }
+
+pub changed-on-bytes : ChangedOnBytes
+unfolding addFileStep removeFileStep addVolumeStep removeVolumeStep
+changed-on-bytes s h k = (
+  on-bytes addFileStep s k _ _ refl (with-files s _ h (words-inserted k (s .files) (h .files))) h,
+  on-bytes removeFileStep s k _ _ refl (with-files s _ h (words-removed k (s .files) (h .files))) h,
+  on-bytes addVolumeStep s k _ _ refl (with-volumes s _ h (words-inserted k (s .volumes) (h .volumes))) h,
+  on-bytes removeVolumeStep s k _ _ refl (with-volumes s _ h (words-removed k (s .volumes) (h .volumes))) h,
+)
+
+-- ---- counts and queries
+
+pub counted-on-bytes : CountedOnBytes
+counted-on-bytes s h out = sym (counted-same (inventoryBytes s) out (length-inventory s h) (sym (loaded-back s h)) refl refl)
+
+pub queried-on-bytes : QueriedOnBytes
+queried-on-bytes s h f out r out′ (otherLength l e o) = absurd (eqb-false (length (inventoryBytes s)) 104 l (length-inventory s h))
+queried-on-bytes s h f out r out′ (answered l a q e) = (a, subst (λ (i : Inventory). Queried i f out a out′) (loaded-back s h) q, e)
+
+-- ---- opening
+
+nonempty-words : (sizes : List ℕ) (k : ℕ) → Words (nonemptyOf sizes k)
+unfolding nonemptyOf
+nonempty-words sizes zero = words-none
+nonempty-words sizes (suc k) = by (leb 1 (getD sizes k 0)) (nonempty-words sizes k)
+  where
+    by : (b : Bool) → Words (nonemptyOf sizes k) → Words (cond b (inserted (suc k) (nonemptyOf sizes k)) (nonemptyOf sizes k))
+    by true w = words-inserted (suc k) (nonemptyOf sizes k) w
+    by false w = w
+
+-- the sizes in bytes are read as they were
+opened-same : (n : ℕ) (sizes : List ℕ) → ((j : ℕ) → getD sizes j 0 < 2 ^ 64) → openedBy n (numbers sizes) ≡ openStep n sizes
+unfolding openedBy
+opened-same n sizes small = elim (decLe n 254) [
+  | yes few ↦ elim (ℕ-discrete (length sizes) n) [
+    | yes same ↦
+        let whole : length (numbers sizes) ≡ 8 * n = omega (arith, length-numbers sizes) in
+        let back : numbersAt n (numbers sizes) 0 ≡ sizes =
+        ap₂ (λ (k : ℕ) (b : List ℕ). numbersAt k b 0) (sym same) (sym (append-nil (numbers sizes))) ∙ numbers-back [] sizes [] small in
+        simp (le-leb n 254 few, eq-eqb (length (numbers sizes)) (8 * n) whole) (ap (openStep n) back)
+    | no other ↦
+        simp (le-leb n 254 few, ne-eqb (length (numbers sizes)) (8 * n) (λ e. other (omega (arith, length-numbers sizes)))) (open-miscounted n sizes other)
+  ]
+  | no many ↦
+      let above : 254 < n = omega arith in
+      simp (lt-leb n 254 above) (open-out-of-range n sizes (simp (lt-leb n 254 above, and-false)))
+]
+
+held-opened : (n : ℕ) (sizes : List ℕ) → Held (openStep n sizes .next)
+unfolding openStep
+held-opened n sizes = by (oneTo 254 n && eqb (length sizes) n) (allBelow n (λ i. leb (getD sizes i 0) 16777216)) refl
+  where
+    none : Held zeros
+    none = record { small = zero-lt-suc 18446744073709551615; files = words-none; volumes = words-none; nonempty = words-none }
+
+    by : (a b : Bool) → (oneTo 254 n && eqb (length sizes) n) ≡ a → Held (cond a (cond b (outcome (fresh n sizes) 0) (refusedOpening 1)) (refusedOpening 10) .next)
+    by true true e =
+        let few : n ≤ 254 = leb-true n 254 (and-both (leb 1 n) (leb n 254) (and-both (oneTo 254 n) (eqb (length sizes) n) e .0) .1) in
+        record { small = omega arith; files = words-none; volumes = words-none; nonempty = nonempty-words sizes n }
+    by true false e = none
+    by false b e = none
+
+pub opened-on-bytes : OpenedOnBytes
+opened-on-bytes n sizes out small = (ap (λ (o : Outcome). storedBy o out) (opened-same n sizes small), held-opened n sizes)

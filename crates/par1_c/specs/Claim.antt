@@ -1,0 +1,44 @@
+-- From C the calls on the bytes of an inventory are those on the inventory: so what is shown of a list of calls holds from C too.
+--
+--   OnBytes step s k     a call that changes s: its number, and the bytes of the inventory that it hands back, which bytes can hold again
+--   OpenedOnBytes        an opening with the bytes of the sizes is one with the sizes, and bytes can hold what it gives
+--   ChangedOnBytes       so are the four calls that add and remove
+--   CountedOnBytes       so is a count
+--   QueriedOnBytes       so is a query
+-- Assumes nothing.
+use mathlib.Core.Path.{_≡_}
+use mathlib.Core.List.{List}
+use Prim.Native.Nat.{ℕ, _^_, _<_}
+use lib.ListN.{getD}
+use Rattle.inventory.specs.Query.{Queried}
+use Rattle.inventory.specs.Steps.{openStep, addFileStep, removeFileStep, addVolumeStep, removeVolumeStep, countStep, answerNumber}
+use Rattle.inventory.specs.declared.Answer.{Answer}
+use Rattle.inventory.specs.declared.Inventory.{Inventory}
+use Rattle.inventory.specs.declared.Outcome.{Outcome}
+use Rattle.inventory_bytes.specs.Claim.{Held}
+use Rattle.inventory_bytes.specs.Inventories.{inventoryBytes, storedBy, countedInto}
+use Rattle.little_endian.specs.Bytes.{numbers}
+use Rattle.par1_c.specs.Inventories.{openInto, changedBy, countInto, QueryInto}
+
+pub record OnBytes (step : Inventory → ℕ → Outcome) (s : Inventory) (k : ℕ) : Type 0 where
+  pub gives : changedBy step k (inventoryBytes s) ≡ (step s k .number, inventoryBytes (step s k .next))
+  pub held : Held (step s k .next)
+
+-- each size is a u64; all proved: proofs/OnBytes.antt
+abbrev pub OpenedOnBytes : Type 0
+OpenedOnBytes =
+    (n : ℕ) (sizes out : List ℕ) → ((j : ℕ) → getD sizes j 0 < 2 ^ 64)
+    → (openInto n (numbers sizes) out ≡ storedBy (openStep n sizes) out) × Held (openStep n sizes .next)
+
+abbrev pub ChangedOnBytes : Type 0
+ChangedOnBytes =
+    (s : Inventory) → Held s → (k : ℕ)
+    → OnBytes addFileStep s k × OnBytes removeFileStep s k × OnBytes addVolumeStep s k × OnBytes removeVolumeStep s k
+
+abbrev pub CountedOnBytes : Type 0
+CountedOnBytes = (s : Inventory) → Held s → (out : List ℕ) → countInto (inventoryBytes s) out ≡ countedInto (countStep s) out
+
+abbrev pub QueriedOnBytes : Type 0
+QueriedOnBytes =
+    (s : Inventory) → Held s → (f : ℕ) (out : List ℕ) (r : ℕ) (out′ : List ℕ) → QueryInto (inventoryBytes s) f out r out′
+    → (a : Answer) × Queried s f out a out′ × (r ≡ answerNumber a)
