@@ -1,13 +1,13 @@
 -- Laws of the model.
 --
---   next-n, after-n, after-size     calls keep the number of files and their sizes
 --   holding t fs vs           the state t with the files fs and the volumes vs present
---   after-adds                calls that only add
+--   next-n, after-n, after-size     calls keep the number of files and their sizes
+--   opened-told               calls that add what is present in a state, and nothing else, on a set newly opened
 --   after-told                calls that add what is present, and nothing else, lead to the same state
 --   gives-one, givesAll-one   the model gives one reply at most to each call: it determines each reply
 -- Assumes nothing.
 use mathlib.Core.Path.{_≡_, refl, sym, ap, ap₂, _∙_, subst, fun-ext}
-use mathlib.Core.Bool.{Bool, true, false, not, cond, _&&_, _||_, false≢true}
+use mathlib.Core.Bool.{Bool, true, false, not, cond, _&&_, _||_, false≢true, or-false}
 use mathlib.Core.List.{List, [], _∷_, _++_}
 use Prim.Native.Nat.{ℕ, _<_, _≤_}
 use native.Mathlib.Omega.{arith}
@@ -23,6 +23,9 @@ use Rattle.inventory.proofs.Weights.{one-weights}
 
 -- ---- what calls keep
 
+abbrev pub holding : State → (ℕ → Bool) → (ℕ → Bool) → State
+holding t fs vs = record { n = t .n; size = t .size; files = fs; volumes = vs }
+
 -- a state of the same files as t, with what is present in range
 record Kin (t u : State) : Type 0 where
   same-n : u .n ≡ t .n
@@ -30,9 +33,11 @@ record Kin (t u : State) : Type 0 where
   files-in-range : (f : ℕ) → u .files f ≡ true → isFile (t .n) f ≡ true
   volumes-in-range : (v : ℕ) → u .volumes v ≡ true → isVolume (t .n) v ≡ true
 
-pick-kin : (t u v : State) (b : Bool) → Kin t u → (b ≡ true → Kin t v) → Kin t (cond b v u)
-pick-kin t u v true k h = h refl
-pick-kin t u v false k h = k
+-- a call that is accepted where b is true, and then gives the files fs and the volumes vs
+kin-by : (t u : State) (b : Bool) (fs vs : ℕ → Bool) → Kin t u → (b ≡ true → (f : ℕ) → fs f ≡ true → isFile (t .n) f ≡ true)
+    → (b ≡ true → (v : ℕ) → vs v ≡ true → isVolume (t .n) v ≡ true) → Kin t (cond b (holding u fs vs) u)
+kin-by t u true fs vs k hf hv = record { same-n = k .same-n; same-size = k .same-size; files-in-range = hf refl; volumes-in-range = hv refl }
+kin-by t u false fs vs k hf hv = k
 
 insert-in-range : (P : ℕ → Bool) (s : ℕ → Bool) (f : ℕ) → P f ≡ true → ((g : ℕ) → s g ≡ true → P g ≡ true)
     → (g : ℕ) → insert f s g ≡ true → P g ≡ true
@@ -45,40 +50,21 @@ insert-in-range P s f p h g e = go (eqb g f) refl e
 next-kin : (t u : State) (c : Call) → Kin t u → Kin t (next u c)
 unfolding next
 next-kin t u (addFile f) k =
-    pick-kin t u (withFiles u (insert f (u .files))) (isFile (u .n) f && not (u .files f)) k
-    (λ e. record {
-      same-n = k .same-n;
-      same-size = k .same-size;
-      files-in-range = insert-in-range (isFile (t .n)) (u .files) f
-          (subst (λ (m : ℕ). isFile m f ≡ true) (k .same-n) (and-both (isFile (u .n) f) (not (u .files f)) e .0)) (k .files-in-range);
-      volumes-in-range = k .volumes-in-range;
-    })
+    kin-by t u (isFile (u .n) f && not (u .files f)) (insert f (u .files)) (u .volumes) k
+    (λ e.
+    insert-in-range (isFile (t .n)) (u .files) f (rw (k .same-n) at (and-both (isFile (u .n) f) (not (u .files f)) e .0)) (k .files-in-range))
+    (λ e. k .volumes-in-range)
 next-kin t u (removeFile f) k =
-    pick-kin t u (withFiles u (remove f (u .files))) (isFile (u .n) f && u .files f) k
-    (λ e. record {
-      same-n = k .same-n;
-      same-size = k .same-size;
-      files-in-range = λ g h. k .files-in-range g (and-both (not (eqb g f)) (u .files g) h .1);
-      volumes-in-range = k .volumes-in-range;
-    })
-next-kin t u (addVolume f) k =
-    pick-kin t u (withVolumes u (insert f (u .volumes))) (isVolume (u .n) f && not (u .volumes f)) k
-    (λ e. record {
-      same-n = k .same-n;
-      same-size = k .same-size;
-      files-in-range = k .files-in-range;
-      volumes-in-range = insert-in-range (isVolume (t .n)) (u .volumes) f
-          (subst (λ (m : ℕ). isVolume m f ≡ true) (k .same-n) (and-both (isVolume (u .n) f) (not (u .volumes f)) e .0))
-          (k .volumes-in-range);
-    })
-next-kin t u (removeVolume f) k =
-    pick-kin t u (withVolumes u (remove f (u .volumes))) (isVolume (u .n) f && u .volumes f) k
-    (λ e. record {
-      same-n = k .same-n;
-      same-size = k .same-size;
-      files-in-range = k .files-in-range;
-      volumes-in-range = λ g h. k .volumes-in-range g (and-both (not (eqb g f)) (u .volumes g) h .1);
-    })
+    kin-by t u (isFile (u .n) f && u .files f) (remove f (u .files)) (u .volumes) k
+    (λ e g h. k .files-in-range g (and-both (not (eqb g f)) (u .files g) h .1)) (λ e. k .volumes-in-range)
+next-kin t u (addVolume v) k =
+    kin-by t u (isVolume (u .n) v && not (u .volumes v)) (u .files) (insert v (u .volumes)) k (λ e. k .files-in-range)
+    (λ e.
+    insert-in-range (isVolume (t .n)) (u .volumes) v (rw (k .same-n) at (and-both (isVolume (u .n) v) (not (u .volumes v)) e .0))
+    (k .volumes-in-range))
+next-kin t u (removeVolume v) k =
+    kin-by t u (isVolume (u .n) v && u .volumes v) (u .files) (remove v (u .volumes)) k (λ e. k .files-in-range)
+    (λ e g h. k .volumes-in-range g (and-both (not (eqb g v)) (u .volumes g) h .1))
 next-kin t u count k = k
 next-kin t u (query f room) k = k
 
@@ -101,28 +87,16 @@ after-n n size cs = after-kin (opened n size) (opened n size) cs (opened-kin n s
 pub after-size : (n : ℕ) (size : ℕ → ℕ) (cs : List Call) → after (opened n size) cs .size ≡ size
 after-size n size cs = after-kin (opened n size) (opened n size) cs (opened-kin n size) .same-size
 
+same-n-by : (t : State) (b : Bool) (fs vs : ℕ → Bool) → cond b (holding t fs vs) t .n ≡ t .n
+same-n-by t true fs vs = refl
+same-n-by t false fs vs = refl
+
 pub next-n : (t : State) (c : Call) → next t c .n ≡ t .n
 unfolding next
-next-n t (addFile f) = go (isFile (t .n) f && not (t .files f))
-  where
-    go : (b : Bool) → cond b (withFiles t (insert f (t .files))) t .n ≡ t .n
-    go true = refl
-    go false = refl
-next-n t (removeFile f) = go (isFile (t .n) f && t .files f)
-  where
-    go : (b : Bool) → cond b (withFiles t (remove f (t .files))) t .n ≡ t .n
-    go true = refl
-    go false = refl
-next-n t (addVolume f) = go (isVolume (t .n) f && not (t .volumes f))
-  where
-    go : (b : Bool) → cond b (withVolumes t (insert f (t .volumes))) t .n ≡ t .n
-    go true = refl
-    go false = refl
-next-n t (removeVolume f) = go (isVolume (t .n) f && t .volumes f)
-  where
-    go : (b : Bool) → cond b (withVolumes t (remove f (t .volumes))) t .n ≡ t .n
-    go true = refl
-    go false = refl
+next-n t (addFile f) = same-n-by t (isFile (t .n) f && not (t .files f)) (insert f (t .files)) (t .volumes)
+next-n t (removeFile f) = same-n-by t (isFile (t .n) f && t .files f) (remove f (t .files)) (t .volumes)
+next-n t (addVolume v) = same-n-by t (isVolume (t .n) v && not (t .volumes v)) (t .files) (insert v (t .volumes))
+next-n t (removeVolume v) = same-n-by t (isVolume (t .n) v && t .volumes v) (t .files) (remove v (t .volumes))
 next-n t count = refl
 next-n t (query f room) = refl
 
@@ -136,25 +110,15 @@ insert-present s f e = fun-ext (λ g. go g (eqb g f) refl)
     go g true q = sym (ap s (eqb-true g f q) ∙ e)
     go g false q = refl
 
-add-file-next : (t : State) (f : ℕ) → isFile (t .n) f ≡ true → next t (addFile f) ≡ withFiles t (insert f (t .files))
-unfolding next
-add-file-next t f r =
-    ap (λ (b : Bool). cond (b && not (t .files f)) (withFiles t (insert f (t .files))) t) r ∙ go (t .files f) refl
+-- adding what is in range gives the set with it, also where it is present already
+add-next : (t : State) (put : (ℕ → Bool) → State) (s : ℕ → Bool) (f : ℕ) (inRange : Bool) → put s ≡ t → inRange ≡ true
+    → cond (inRange && not (s f)) (put (insert f s)) t ≡ put (insert f s)
+add-next t put s f inRange same r = go inRange r (s f) refl
   where
-    go : (b : Bool) → t .files f ≡ b
-        → cond (not b) (withFiles t (insert f (t .files))) t ≡ withFiles t (insert f (t .files))
-    go true e = ap (withFiles t) (sym (insert-present (t .files) f e))
-    go false e = refl
-
-add-volume-next : (t : State) (v : ℕ) → isVolume (t .n) v ≡ true → next t (addVolume v) ≡ withVolumes t (insert v (t .volumes))
-unfolding next
-add-volume-next t v r =
-    ap (λ (b : Bool). cond (b && not (t .volumes v)) (withVolumes t (insert v (t .volumes))) t) r ∙ go (t .volumes v) refl
-  where
-    go : (b : Bool) → t .volumes v ≡ b
-        → cond (not b) (withVolumes t (insert v (t .volumes))) t ≡ withVolumes t (insert v (t .volumes))
-    go true e = ap (withVolumes t) (sym (insert-present (t .volumes) v e))
-    go false e = refl
+    go : (a : Bool) → a ≡ true → (b : Bool) → s f ≡ b → cond (a && not b) (put (insert f s)) t ≡ put (insert f s)
+    go true r true e = sym same ∙ ap put (sym (insert-present s f e))
+    go true r false e = refl
+    go false r b e = absurd (false≢true r)
 
 or-move : (a b c : Bool) → (b || (a || c)) ≡ ((a || b) || c)
 or-move true true c = refl
@@ -166,26 +130,21 @@ or-true : (a b : Bool) → b ≡ true → (a || b) ≡ true
 or-true true b e = refl
 or-true false b e = e
 
-or-false : (a : Bool) → (a || false) ≡ a
-or-false true = refl
-or-false false = refl
-
-abbrev pub holding : State → (ℕ → Bool) → (ℕ → Bool) → State
-holding t fs vs = record { n = t .n; size = t .size; files = fs; volumes = vs }
-
-pub after-adds : (cs : List Call) (t : State) → OnlyAdds cs
+after-adds : (cs : List Call) (t : State) → OnlyAdds cs
     → ((f : ℕ) → addsFile f cs ≡ true → isFile (t .n) f ≡ true) → ((v : ℕ) → addsVolume v cs ≡ true → isVolume (t .n) v ≡ true)
     → after t cs ≡ holding t (λ f. addsFile f cs || t .files f) (λ v. addsVolume v cs || t .volumes v)
-unfolding after OnlyAdds addsFile addsVolume
+unfolding after next OnlyAdds addsFile addsVolume
 after-adds [] t N hf hv = refl
 after-adds (addFile g ∷ cs) t N hf hv =
-    ap (λ (u : State). after u cs) (add-file-next t g (hf g (ap (λ (b : Bool). b || addsFile g cs) (eq-eqb g g refl))))
+    let r = hf g (ap (λ (b : Bool). b || addsFile g cs) (eq-eqb g g refl)) in
+    ap (λ (u : State). after u cs) (add-next t (withFiles t) (t .files) g (isFile (t .n) g) refl r)
     ∙ after-adds cs (withFiles t (insert g (t .files))) N (λ f e. hf f (or-true (eqb f g) (addsFile f cs) e)) hv
     ∙ ap (λ (s : ℕ → Bool). holding t s (λ v. addsVolume v cs || t .volumes v))
     (fun-ext (λ f. or-move (eqb f g) (addsFile f cs) (t .files f)))
 after-adds (removeFile g ∷ cs) t N hf hv = absurd N
 after-adds (addVolume g ∷ cs) t N hf hv =
-    ap (λ (u : State). after u cs) (add-volume-next t g (hv g (ap (λ (b : Bool). b || addsVolume g cs) (eq-eqb g g refl))))
+    let r = hv g (ap (λ (b : Bool). b || addsVolume g cs) (eq-eqb g g refl)) in
+    ap (λ (u : State). after u cs) (add-next t (withVolumes t) (t .volumes) g (isVolume (t .n) g) refl r)
     ∙ after-adds cs (withVolumes t (insert g (t .volumes))) N hf (λ v e. hv v (or-true (eqb v g) (addsVolume v cs) e))
     ∙ ap (λ (s : ℕ → Bool). holding t (λ f. addsFile f cs || t .files f) s)
     (fun-ext (λ v. or-move (eqb v g) (addsVolume v cs) (t .volumes v)))
@@ -193,20 +152,21 @@ after-adds (removeVolume g ∷ cs) t N hf hv = absurd N
 after-adds (count ∷ cs) t N hf hv = absurd N
 after-adds (query g room ∷ cs) t N hf hv = absurd N
 
+pub opened-told : (n : ℕ) (size : ℕ → ℕ) (u : State) (adds : List Call) → Told u adds
+    → ((f : ℕ) → u .files f ≡ true → isFile n f ≡ true) → ((v : ℕ) → u .volumes v ≡ true → isVolume n v ≡ true)
+    → after (opened n size) adds ≡ holding (opened n size) (u .files) (u .volumes)
+opened-told n size u adds told hf hv =
+    after-adds adds (opened n size) (told .only) (λ f e. hf f (sym (told .files f) ∙ e)) (λ v e. hv v (sym (told .volumes v) ∙ e))
+    ∙ ap₂ (holding (opened n size)) (fun-ext (λ f. or-false (addsFile f adds) ∙ told .files f))
+    (fun-ext (λ v. or-false (addsVolume v adds) ∙ told .volumes v))
+
 pub after-told : (n : ℕ) (size : ℕ → ℕ) (cs adds : List Call) → Told (after (opened n size) cs) adds
     → after (opened n size) adds ≡ after (opened n size) cs
 after-told n size cs adds told =
-    after-adds adds (opened n size) (told .only) (λ f e. k .files-in-range f (sym (told .files f) ∙ e))
-    (λ v e. k .volumes-in-range v (sym (told .volumes v) ∙ e))
-    ∙ (λ i. record {
-      n = sym (k .same-n) i;
-      size = sym (k .same-size) i;
-      files = fun-ext (λ f. or-false (addsFile f adds) ∙ told .files f) i;
-      volumes = fun-ext (λ v. or-false (addsVolume v adds) ∙ told .volumes v) i;
-    })
-  where
-    k : Kin (opened n size) (after (opened n size) cs)
-    k = after-kin (opened n size) (opened n size) cs (opened-kin n size)
+    let t = after (opened n size) cs in
+    let k = after-kin (opened n size) (opened n size) cs (opened-kin n size) in
+    opened-told n size t adds told (k .files-in-range) (k .volumes-in-range)
+    ∙ (λ i. record { n = sym (k .same-n) i; size = sym (k .same-size) i; files = t .files; volumes = t .volumes })
 
 -- ---- the model determines each reply
 

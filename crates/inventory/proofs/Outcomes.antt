@@ -23,25 +23,23 @@ use Rattle.inventory.proofs.Tests.{all-true, all-false}
 
 -- ---- adding and removing
 
--- a call that changes the files, or the volumes, unless it is refused
+-- a call that changes one of the sets, the files or the volumes, unless it is refused
 module _ (s : Inventory) (ws now changed : List ℕ) (k number : ℕ) (is : changed ≡ ws) (same : k ≡ number) where
-  pub files-changed : now ≡ unlessRefused k changed (s .files) → outcome (withFiles s now) k ≡ accepted number (withFiles s ws) s
-  files-changed e =
-      ap (λ (b : List ℕ). outcome (withFiles s b) k) (e ∙ ap (λ (b : List ℕ). unlessRefused k b (s .files)) is)
-      ∙ go (eqb k 0) ∙ ap (λ (k : ℕ). accepted k (withFiles s ws) s) same
+  set-changed : (put : List ℕ → Inventory) (set : List ℕ) → put set ≡ s → now ≡ unlessRefused k changed set
+      → outcome (put now) k ≡ accepted number (put ws) s
+  set-changed put set own e =
+      ap (λ (b : List ℕ). outcome (put b) k) (e ∙ ap (λ (b : List ℕ). unlessRefused k b set) is)
+      ∙ go (eqb k 0) ∙ ap (λ (k : ℕ). accepted k (put ws) s) same
     where
-      go : (b : Bool) → outcome (withFiles s (cond b ws (s .files))) k ≡ outcome (cond b (withFiles s ws) s) k
+      go : (b : Bool) → outcome (put (cond b ws set)) k ≡ outcome (cond b (put ws) s) k
       go true = refl
-      go false = refl
+      go false = ap (λ (x : Inventory). outcome x k) own
+
+  pub files-changed : now ≡ unlessRefused k changed (s .files) → outcome (withFiles s now) k ≡ accepted number (withFiles s ws) s
+  files-changed = set-changed (withFiles s) (s .files) refl
 
   pub volumes-changed : now ≡ unlessRefused k changed (s .volumes) → outcome (withVolumes s now) k ≡ accepted number (withVolumes s ws) s
-  volumes-changed e =
-      ap (λ (b : List ℕ). outcome (withVolumes s b) k) (e ∙ ap (λ (b : List ℕ). unlessRefused k b (s .volumes)) is)
-      ∙ go (eqb k 0) ∙ ap (λ (k : ℕ). accepted k (withVolumes s ws) s) same
-    where
-      go : (b : Bool) → outcome (withVolumes s (cond b ws (s .volumes))) k ≡ outcome (cond b (withVolumes s ws) s) k
-      go true = refl
-      go false = refl
+  volumes-changed = set-changed (withVolumes s) (s .volumes) refl
 
 -- the tests of the code are those of the step
 pub number-same : {a a′ b b′ c c′ : Bool} → a ≡ a′ → b ≡ b′ → c ≡ c′ → changeNumber a b c ≡ changeNumber a′ b′ c′

@@ -4,13 +4,14 @@
 --   within-bits             each number of a set in range is in range
 --   n-valid, files-valid, nonempty-valid, volumes-valid     the parts of a valid inventory are in range
 --   meets                   the code's reply is the model's, and what it hands back stands for the next state
---   no-file, file-more      no number above m is one of m files; one file more adds its own number alone
+--   nonempty-words          the files that an opening has as not empty are four words of 64 bits
+--   none-below, one-more-number     which numbers up to 0 a set has, none; which up to m + 1, by those up to m
 --   nonempty-member         the files that an opening has as not empty are those of size 1 or more
 --   opened-represents       an accepted opening gives the model's opened state
 -- Assumes nothing.
 use mathlib.Core.Path.{_≡_, refl, sym, ap, ap₂, _∙_, subst, fun-ext}
 use mathlib.Core.Logic.{_≢_}
-use mathlib.Core.Bool.{Bool, true, false, not, cond, _&&_, _||_, true≢false, false≢true, and-false}
+use mathlib.Core.Bool.{Bool, true, false, not, cond, _&&_, _||_, true≢false, false≢true, and-false, Bool·not-not}
 use mathlib.Core.List.{List}
 use Prim.Native.Nat.{ℕ, zero, suc, _<_, _≤_, _-_}
 use native.Mathlib.Omega.{arith}
@@ -21,7 +22,7 @@ use borrow.Author.Tests.{eq-eqb, ne-eqb, eqb-true, le-leb, lt-leb}
 use Rattle.finite.proofs.Tests.{and-both}
 use Rattle.parity.specs.Coefficient.{coefficient}
 use Rattle.parity.specs.Parity.{isFile}
-use Rattle.number_sets.specs.Sets.{member, inserted, removed, sizeBelow}
+use Rattle.number_sets.specs.Sets.{member, inserted, removed, sizeBelow, Words}
 use Rattle.inventory.specs.Recoverable.{State, isVolume}
 use Rattle.inventory.specs.Model as M
 use Rattle.inventory.specs.Model.{Call, addFile, removeFile, addVolume, removeVolume, count, query, Reply, numbered, queried, opened, insert, remove, next, Gives}
@@ -33,7 +34,7 @@ use Rattle.inventory.specs.declared.Counted.the-variants as counted
 use Rattle.inventory.specs.declared.Answer.{Answer}
 use Rattle.inventory.specs.declared.Answer.the-variants as answer
 use Rattle.inventory.proofs.Tests.{all-true, all-at, file-in-range, file-range, volume-in-range}
-use Rattle.number_sets.proofs.Words.{member-inserted, member-removed, member-none, length-inserted, length-removed}
+use Rattle.number_sets.proofs.Words.{member-inserted, member-removed, member-none, length-inserted, length-removed, words-none, words-inserted}
 use Rattle.inventory.proofs.CoefficientRows.{few-files}
 
 pub record Represents (size : ℕ → ℕ) (t : State) (s : Inventory) : Type 0 where
@@ -58,18 +59,39 @@ within-by m ws h = all-true 256 (λ k. not (member ws k) || isFile m k) (λ k l.
     go k l true e = h k l e
     go k l false e = refl
 
-within-inserted : (m f : ℕ) (ws : List ℕ) → length ws ≡ 4 → f < 256 → isFile m f ≡ true → within m ws ≡ true → within m (inserted f ws) ≡ true
-within-inserted m f ws w l r h =
-    within-by m (inserted f ws) (λ k b e. go k b (eqb k f) refl (sym (member-inserted ws f w l k) ∙ e))
-  where
-    go : (k : ℕ) → k < 256 → (b : Bool) → eqb k f ≡ b → (b || member ws k) ≡ true → isFile m k ≡ true
-    go k b true e h′ = ap (isFile m) (eqb-true k f e) ∙ r
-    go k b false e h′ = within-bits m ws h k b h′
+-- the words ws are a set of some of the numbers 1 to m, at most 255
+record IsSet (m : ℕ) (ws : List ℕ) (set : ℕ → Bool) : Type 0 where
+  small : m ≤ 255
+  words : length ws ≡ 4
+  in-range : within m ws ≡ true
+  members : (k : ℕ) → member ws k ≡ set k
 
-within-removed : (m f : ℕ) (ws : List ℕ) → length ws ≡ 4 → f < 256 → within m ws ≡ true → within m (removed f ws) ≡ true
-within-removed m f ws w l h =
-    within-by m (removed f ws)
-    (λ k b e. within-bits m ws h k b (and-both (not (eqb k f)) (member ws k) (sym (member-removed ws f w l k) ∙ e) .1))
+with-number : {m : ℕ} {ws : List ℕ} (f : ℕ) → IsSet m ws (member ws) → isFile m f ≡ true → IsSet m (inserted f ws) (insert f (member ws))
+with-number {m} {ws} f h r = record {
+  small = h .small;
+  words = length-inserted f ws ∙ h .words;
+  in-range = within-by m (inserted f ws) (λ k l e. go k l (eqb k f) refl (sym (at k) ∙ e));
+  members = at;
+}
+  where
+    at : (k : ℕ) → member (inserted f ws) k ≡ insert f (member ws) k
+    at = let b = file-in-range m f r in member-inserted ws f (h .words) (omega arith)
+
+    go : (k : ℕ) → k < 256 → (b : Bool) → eqb k f ≡ b → (b || member ws k) ≡ true → isFile m k ≡ true
+    go k l true e q = ap (isFile m) (eqb-true k f e) ∙ r
+    go k l false e q = within-bits m ws (h .in-range) k l q
+
+without-number : {m : ℕ} {ws : List ℕ} (f : ℕ) → IsSet m ws (member ws) → isFile m f ≡ true → IsSet m (removed f ws) (remove f (member ws))
+without-number {m} {ws} f h r = record {
+  small = h .small;
+  words = length-removed f ws ∙ h .words;
+  in-range = within-by m (removed f ws)
+      (λ k l e. within-bits m ws (h .in-range) k l (and-both (not (eqb k f)) (member ws k) (sym (at k) ∙ e) .1));
+  members = at;
+}
+  where
+    at : (k : ℕ) → member (removed f ws) k ≡ remove f (member ws) k
+    at = let b = file-in-range m f r in member-removed ws f (h .words) (omega arith)
 
 -- the parts of a valid inventory
 module _ (s : Inventory) (valid : isInventory s ≡ true) where
@@ -91,32 +113,22 @@ module _ (s : Inventory) (valid : isInventory s ≡ true) where
   volumes-valid =
       and-both (within (s .n) (s .nonempty)) _ (and-both (within (s .n) (s .files)) _ (and-both (isFile 254 (s .n)) _ valid .1) .1) .1
 
-is-inventory : (s : Inventory) → isFile 254 (s .n) ≡ true → within (s .n) (s .files) ≡ true → within (s .n) (s .nonempty) ≡ true
-    → within (255 - s .n) (s .volumes) ≡ true → isInventory s ≡ true
+-- an inventory of two sets stands for the state of these sets
+represents : {size : ℕ → ℕ} {n : ℕ} {fs vs es : List ℕ} {files volumes : ℕ → Bool}
+    → isFile 254 n ≡ true → IsSet n fs files → IsSet (255 - n) vs volumes → within n es ≡ true
+    → ((f : ℕ) → isFile n f ≡ true → member es f ≡ leb 1 (size f))
+    → Represents size record { n = n; size = size; files = files; volumes = volumes } record { n = n; files = fs; volumes = vs; nonempty = es }
 unfolding isInventory
-is-inventory s a b c d =
-    ap₂ (λ (x y : Bool). x && y) a (ap₂ (λ (x y : Bool). x && y) b (ap₂ (λ (x y : Bool). x && y) c d))
+represents {size} {n} r F W e m = record {
+  valid = ap₂ _&&_ r (ap₂ _&&_ (F .in-range) (ap₂ _&&_ e (W .in-range)));
+  state = ap₂ (λ (fs vs : ℕ → Bool). record { n = n; size = size; files = fs; volumes = vs })
+      (fun-ext (λ k. sym (F .members k))) (fun-ext (λ k. sym (W .members k)));
+  matches = m;
+  file-words = F .words;
+  volume-words = W .words;
+}
 
 -- ---- one call
-
--- a refused call leaves all as it was
-picked : (size : ℕ → ℕ) (t t₁ : State) (s s₁ : Inventory) (number : ℕ) (accept : Bool) → eqb number 0 ≡ accept
-    → Represents size t s → (accept ≡ true → Represents size t₁ s₁)
-    → Represents size (cond accept t₁ t) (accepted number s₁ s .next)
-picked size t t₁ s s₁ number true e R h = subst (λ (b : Bool). Represents size t₁ (cond b s₁ s)) (sym e) (h refl)
-picked size t t₁ s s₁ number false e R h = subst (λ (b : Bool). Represents size t (cond b s₁ s)) (sym e) R
-
-add-accepts : (a b : Bool) → eqb (changeNumber true a b) 0 ≡ (a && not b)
-unfolding changeNumber
-add-accepts true true = refl
-add-accepts true false = refl
-add-accepts false b = refl
-
-remove-accepts : (a b : Bool) → eqb (changeNumber true a (not b)) 0 ≡ (a && b)
-unfolding changeNumber
-remove-accepts true true = refl
-remove-accepts true false = refl
-remove-accepts false b = refl
 
 -- the number of the answer with the number k
 answer-number : (k : ℕ) → answerNumber (answerOf k) ≡ k
@@ -130,114 +142,64 @@ answer-number k = go (eqb k 0) refl (eqb k 12) refl (eqb k 13) refl
     go false p false q true r = sym (eqb-true k 13 r)
     go false p false q false r = refl
 
-volume-file : (n v : ℕ) → n ≤ 255 → isVolume n v ≡ true → isFile (255 - n) v ≡ true
-volume-file n v l e = let b = volume-in-range n v e in file-range (255 - n) v (b .0) (omega arith)
-
 module _ (size : ℕ → ℕ) (s : Inventory) (R : Represents size (stateOf s size) s) where
-  few : s .n ≤ 254
-  few = few-files s (R .valid)
-
-  file-below : (f : ℕ) → isFile (s .n) f ≡ true → f < 256
-  file-below f e = let b = file-in-range (s .n) f e in let l = few in omega arith
-
-  volume-below : (v : ℕ) → isVolume (s .n) v ≡ true → v < 256
-  volume-below v e = let b = volume-in-range (s .n) v e in omega arith
-
-  with-files : (ws : List ℕ) (set : ℕ → Bool) → length ws ≡ 4 → within (s .n) ws ≡ true → ((k : ℕ) → member ws k ≡ set k)
-      → Represents size (M.withFiles (stateOf s size) set) (withFiles s ws)
-  with-files ws set w h e = record {
-    valid = is-inventory (withFiles s ws) (n-valid s (R .valid)) h (nonempty-valid s (R .valid)) (volumes-valid s (R .valid));
-    state = ap (M.withFiles (stateOf s size)) (fun-ext (λ k. sym (e k)));
-    matches = R .matches;
-    file-words = w;
-    volume-words = R .volume-words;
+  files-set : IsSet (s .n) (s .files) (member (s .files))
+  files-set = record {
+    small = let l = few-files s (R .valid) in omega arith;
+    words = R .file-words;
+    in-range = files-valid s (R .valid);
+    members = λ k. refl;
   }
 
-  with-volumes : (ws : List ℕ) (set : ℕ → Bool) → length ws ≡ 4 → within (255 - s .n) ws ≡ true → ((k : ℕ) → member ws k ≡ set k)
-      → Represents size (M.withVolumes (stateOf s size) set) (withVolumes s ws)
-  with-volumes ws set w h e = record {
-    valid = is-inventory (withVolumes s ws) (n-valid s (R .valid)) (files-valid s (R .valid)) (nonempty-valid s (R .valid)) h;
-    state = ap (M.withVolumes (stateOf s size)) (fun-ext (λ k. sym (e k)));
-    matches = R .matches;
-    file-words = R .file-words;
-    volume-words = w;
-  }
+  volumes-set : IsSet (255 - s .n) (s .volumes) (member (s .volumes))
+  volumes-set = record { small = omega arith; words = R .volume-words; in-range = volumes-valid s (R .valid); members = λ k. refl }
+
+  with-files : {ws : List ℕ} {set : ℕ → Bool} → IsSet (s .n) ws set → Represents size (M.withFiles (stateOf s size) set) (withFiles s ws)
+  with-files F = represents (n-valid s (R .valid)) F volumes-set (nonempty-valid s (R .valid)) (R .matches)
+
+  with-volumes : {ws : List ℕ} {set : ℕ → Bool} → IsSet (255 - s .n) ws set → Represents size (M.withVolumes (stateOf s size) set) (withVolumes s ws)
+  with-volumes W = represents (n-valid s (R .valid)) files-set W (nonempty-valid s (R .valid)) (R .matches)
+
+  volume-file : (v : ℕ) → isVolume (s .n) v ≡ true → isFile (255 - s .n) v ≡ true
+  volume-file v e = let b = volume-in-range (s .n) v e in file-range (255 - s .n) v (b .0) (omega arith)
 
   abbrev Met : Call → Reply → Inventory → Type 0
   Met c r s₁ = Gives coefficient (stateOf s size) c r × Represents size (next (stateOf s size) c) s₁
 
-  -- adding and removing: a step with its number and what it changes
-  met : (number : ℕ) (accept : Bool) (t₁ : State) (s₁ : Inventory) (number′ : ℕ) → number ≡ number′ → eqb number 0 ≡ accept
-      → (accept ≡ true → Represents size t₁ s₁)
-      → (numbered (accepted number s₁ s .number) ≡ numbered number′) × Represents size (cond accept t₁ (stateOf s size)) (accepted number s₁ s .next)
-  met number accept t₁ s₁ number′ e a h =
-      (ap numbered e, picked size (stateOf s size) t₁ s s₁ number accept a R h)
-
-  valid-number : (a b : Bool) → changeNumber (isInventory s) a b ≡ changeNumber true a b
-  valid-number a b = ap (λ (x : Bool). changeNumber x a b) (R .valid)
+  -- adding and removing: a refused call leaves all as it was
+  changed : {t₁ : State} {s₁ : Inventory} (valid inRange already : Bool) → valid ≡ true → (inRange ≡ true → Represents size t₁ s₁)
+      → (numbered (accepted (changeNumber valid inRange already) s₁ s .number) ≡ numbered (M.adding inRange already))
+      × Represents size (cond (inRange && not already) t₁ (stateOf s size)) (accepted (changeNumber valid inRange already) s₁ s .next)
+  unfolding changeNumber
+  changed true true true e h = (refl, R)
+  changed true true false e h = (refl, h refl)
+  changed true false already e h = (refl, R)
+  changed false inRange already e h = absurd (false≢true e)
 
   meets-add-file : (f : ℕ) → Met (addFile f) (numbered (addFileStep s f .number)) (addFileStep s f .next)
-  unfolding Gives next addFileStep changeNumber
+  unfolding Gives next addFileStep
   meets-add-file f =
-      met (changeNumber (isInventory s) (isFile (s .n) f) (member (s .files) f)) (isFile (s .n) f && not (member (s .files) f))
-      (M.withFiles (stateOf s size) (insert f (member (s .files)))) (withFiles s (inserted f (s .files)))
-      (M.adding (isFile (s .n) f) (member (s .files) f))
-      (valid-number (isFile (s .n) f) (member (s .files) f))
-      (ap (λ (k : ℕ). eqb k 0) (valid-number (isFile (s .n) f) (member (s .files) f))
-      ∙ add-accepts (isFile (s .n) f) (member (s .files) f))
-      (λ e.
-      let r = and-both (isFile (s .n) f) (not (member (s .files) f)) e .0 in
-      let l = file-below f r in
-      with-files (inserted f (s .files)) (insert f (member (s .files))) (length-inserted f (s .files) ∙ R .file-words)
-      (within-inserted (s .n) f (s .files) (R .file-words) l r (files-valid s (R .valid)))
-      (member-inserted (s .files) f (R .file-words) l))
+      changed (isInventory s) (isFile (s .n) f) (member (s .files) f) (R .valid) (λ e. with-files (with-number f files-set e))
 
   meets-remove-file : (f : ℕ) → Met (removeFile f) (numbered (removeFileStep s f .number)) (removeFileStep s f .next)
-  unfolding Gives next removeFileStep changeNumber
+  unfolding Gives next removeFileStep
   meets-remove-file f =
-      met (changeNumber (isInventory s) (isFile (s .n) f) (not (member (s .files) f))) (isFile (s .n) f && member (s .files) f)
-      (M.withFiles (stateOf s size) (remove f (member (s .files)))) (withFiles s (removed f (s .files)))
-      (M.removing (isFile (s .n) f) (member (s .files) f))
-      (valid-number (isFile (s .n) f) (not (member (s .files) f)))
-      (ap (λ (k : ℕ). eqb k 0) (valid-number (isFile (s .n) f) (not (member (s .files) f)))
-      ∙ remove-accepts (isFile (s .n) f) (member (s .files) f))
-      (λ e.
-      let l = file-below f (and-both (isFile (s .n) f) (member (s .files) f) e .0) in
-      with-files (removed f (s .files)) (remove f (member (s .files))) (length-removed f (s .files) ∙ R .file-words)
-      (within-removed (s .n) f (s .files) (R .file-words) l (files-valid s (R .valid)))
-      (member-removed (s .files) f (R .file-words) l))
+      rw (Bool·not-not (member (s .files) f)) at
+      (changed (isInventory s) (isFile (s .n) f) (not (member (s .files) f)) (R .valid)
+      (λ (e : isFile (s .n) f ≡ true). with-files (without-number f files-set e)))
 
   meets-add-volume : (v : ℕ) → Met (addVolume v) (numbered (addVolumeStep s v .number)) (addVolumeStep s v .next)
-  unfolding Gives next addVolumeStep changeNumber
+  unfolding Gives next addVolumeStep
   meets-add-volume v =
-      met (changeNumber (isInventory s) (isVolume (s .n) v) (member (s .volumes) v)) (isVolume (s .n) v && not (member (s .volumes) v))
-      (M.withVolumes (stateOf s size) (insert v (member (s .volumes)))) (withVolumes s (inserted v (s .volumes)))
-      (M.adding (isVolume (s .n) v) (member (s .volumes) v))
-      (valid-number (isVolume (s .n) v) (member (s .volumes) v))
-      (ap (λ (k : ℕ). eqb k 0) (valid-number (isVolume (s .n) v) (member (s .volumes) v))
-      ∙ add-accepts (isVolume (s .n) v) (member (s .volumes) v))
-      (λ e.
-      let r = and-both (isVolume (s .n) v) (not (member (s .volumes) v)) e .0 in
-      let l = volume-below v r in
-      let b = few in
-      with-volumes (inserted v (s .volumes)) (insert v (member (s .volumes))) (length-inserted v (s .volumes) ∙ R .volume-words)
-      (within-inserted (255 - s .n) v (s .volumes) (R .volume-words) l (volume-file (s .n) v (omega arith) r) (volumes-valid s (R .valid)))
-      (member-inserted (s .volumes) v (R .volume-words) l))
+      changed (isInventory s) (isVolume (s .n) v) (member (s .volumes) v) (R .valid)
+      (λ e. with-volumes (with-number v volumes-set (volume-file v e)))
 
   meets-remove-volume : (v : ℕ) → Met (removeVolume v) (numbered (removeVolumeStep s v .number)) (removeVolumeStep s v .next)
-  unfolding Gives next removeVolumeStep changeNumber
+  unfolding Gives next removeVolumeStep
   meets-remove-volume v =
-      met (changeNumber (isInventory s) (isVolume (s .n) v) (not (member (s .volumes) v))) (isVolume (s .n) v && member (s .volumes) v)
-      (M.withVolumes (stateOf s size) (remove v (member (s .volumes)))) (withVolumes s (removed v (s .volumes)))
-      (M.removing (isVolume (s .n) v) (member (s .volumes) v))
-      (valid-number (isVolume (s .n) v) (not (member (s .volumes) v)))
-      (ap (λ (k : ℕ). eqb k 0) (valid-number (isVolume (s .n) v) (not (member (s .volumes) v)))
-      ∙ remove-accepts (isVolume (s .n) v) (member (s .volumes) v))
-      (λ e.
-      let l = volume-below v (and-both (isVolume (s .n) v) (member (s .volumes) v) e .0) in
-      with-volumes (removed v (s .volumes)) (remove v (member (s .volumes))) (length-removed v (s .volumes) ∙ R .volume-words)
-      (within-removed (255 - s .n) v (s .volumes) (R .volume-words) l (volumes-valid s (R .valid)))
-      (member-removed (s .volumes) v (R .volume-words) l))
+      rw (Bool·not-not (member (s .volumes) v)) at
+      (changed (isInventory s) (isVolume (s .n) v) (not (member (s .volumes) v)) (R .valid)
+      (λ (e : isVolume (s .n) v ≡ true). with-volumes (without-number v volumes-set (volume-file v e))))
 
   -- ---- counting and querying
 
@@ -293,20 +255,19 @@ meets size t s c r s₁ R did =
 
 -- ---- opening
 
-nonempty-words : (sizes : List ℕ) (k : ℕ) → length (nonemptyOf sizes k) ≡ 4
+pub nonempty-words : (sizes : List ℕ) (k : ℕ) → Words (nonemptyOf sizes k)
 unfolding nonemptyOf
-nonempty-words sizes zero = length-replicate {A = ℕ} 4 0
+nonempty-words sizes zero = words-none
 nonempty-words sizes (suc k) = go (leb 1 (getD sizes k 0)) (nonempty-words sizes k)
   where
-    go : (b : Bool) → length (nonemptyOf sizes k) ≡ 4
-        → length (cond b (inserted (suc k) (nonemptyOf sizes k)) (nonemptyOf sizes k)) ≡ 4
-    go true e = length-inserted (suc k) (nonemptyOf sizes k) ∙ e
-    go false e = e
+    go : (b : Bool) → Words (nonemptyOf sizes k) → Words (cond b (inserted (suc k) (nonemptyOf sizes k)) (nonemptyOf sizes k))
+    go true w = words-inserted (suc k) (nonemptyOf sizes k) w
+    go false w = w
 
-pub no-file : (m f : ℕ) → m < f → isFile m f ≡ false
+no-file : (m f : ℕ) → m < f → isFile m f ≡ false
 no-file m f l = ap (λ (b : Bool). leb 1 f && b) (lt-leb f m l) ∙ and-false (leb 1 f)
 
-pub file-more : (m f : ℕ) → f ≢ suc m → isFile (suc m) f ≡ isFile m f
+file-more : (m f : ℕ) → f ≢ suc m → isFile (suc m) f ≡ isFile m f
 file-more m f q =
     ap (λ (b : Bool). leb 1 f && b)
     (elim (decLe f m) [
@@ -314,40 +275,36 @@ file-more m f q =
       | no h ↦ lt-leb f (suc m) (omega arith) ∙ sym (lt-leb f m (omega arith))
     ])
 
+-- whether a set has f among its numbers 1 to 0
+pub none-below : (f : ℕ) (b : Bool) → false ≡ (isFile 0 f && b)
+none-below zero b = refl
+none-below (suc f) b = sym (ap (λ (c : Bool). c && b) (no-file 0 (suc f) (omega arith)))
+
+-- whether a set has f among its numbers 1 to m + 1
+pub one-more-number : (m f : ℕ) (set : ℕ → Bool) (before : Bool) → before ≡ (isFile m f && set f)
+    → (a : Bool) → set (suc m) ≡ a → (cond a (eqb f (suc m) || before) before) ≡ (isFile (suc m) f && set f)
+one-more-number m f set before h a e = elim (ℕ-discrete f (suc m)) [ yes p ↦ same a e p | no q ↦ other a q ]
+  where
+    same : (a : Bool) → set (suc m) ≡ a → f ≡ suc m → cond a (eqb f (suc m) || before) before ≡ (isFile (suc m) f && set f)
+    same true e p = rw (eq-eqb f (suc m) p, file-range (suc m) f (omega arith) (omega arith), ap set p ∙ e)
+    same false e p = rw (h, ap set p ∙ e, and-false (isFile m f), and-false (isFile (suc m) f))
+
+    other : (a : Bool) → f ≢ suc m → cond a (eqb f (suc m) || before) before ≡ (isFile (suc m) f && set f)
+    other true q = rw (ne-eqb f (suc m) q, file-more m f q) h
+    other false q = rw (file-more m f q) h
+
 pub nonempty-member : (sizes : List ℕ) (k : ℕ) → k < 256 → (f : ℕ) → member (nonemptyOf sizes k) f ≡ (isFile k f && leb 1 (sizeIn sizes f))
 unfolding nonemptyOf
-nonempty-member sizes zero l f =
-    member-none f
-    ∙ sym (elim (ℕ-discrete f 0) [
-      | yes e ↦ ap (λ (b : Bool). (b && leb f 0) && leb 1 (sizeIn sizes f)) (lt-leb 1 f (omega arith))
-      | no q ↦ ap (λ (b : Bool). b && leb 1 (sizeIn sizes f)) (no-file 0 f (omega arith))
-    ])
-nonempty-member sizes (suc k) l f = go (leb 1 (getD sizes k 0)) refl (nonempty-member sizes k (omega arith) f)
+nonempty-member sizes zero l f = member-none f ∙ none-below f (leb 1 (sizeIn sizes f))
+nonempty-member sizes (suc k) l f =
+    go (leb 1 (getD sizes k 0))
+    ∙ one-more-number k f (λ f. leb 1 (sizeIn sizes f)) (member (nonemptyOf sizes k) f) (nonempty-member sizes k (omega arith) f)
+    (leb 1 (getD sizes k 0)) (ap (λ (i : ℕ). leb 1 (getD sizes i 0)) (omega arith))
   where
-    Before : Type 0
-    Before = member (nonemptyOf sizes k) f ≡ (isFile k f && leb 1 (sizeIn sizes f))
-
-    same : Before → f ≢ suc k → member (nonemptyOf sizes k) f ≡ (isFile (suc k) f && leb 1 (sizeIn sizes f))
-    same prev q = prev ∙ ap (λ (b : Bool). b && leb 1 (sizeIn sizes f)) (sym (file-more k f q))
-
-    here : (b : Bool) → leb 1 (getD sizes k 0) ≡ b → f ≡ suc k → (isFile (suc k) f && leb 1 (sizeIn sizes f)) ≡ b
-    here b h e =
-        ap₂ (λ (x y : Bool). x && y) (file-range (suc k) f (omega arith) (omega arith))
-        (ap (λ (i : ℕ). leb 1 (getD sizes i 0)) (omega arith) ∙ h)
-
-    go : (b : Bool) → leb 1 (getD sizes k 0) ≡ b → Before
-        → member (cond b (inserted (suc k) (nonemptyOf sizes k)) (nonemptyOf sizes k)) f ≡ (isFile (suc k) f && leb 1 (sizeIn sizes f))
-    go true h prev =
-        member-inserted (nonemptyOf sizes k) (suc k) (nonempty-words sizes k) l f
-        ∙ elim (ℕ-discrete f (suc k)) [
-          | yes e ↦ ap (λ (b : Bool). b || member (nonemptyOf sizes k) f) (eq-eqb f (suc k) e) ∙ sym (here true h e)
-          | no q ↦ ap (λ (b : Bool). b || member (nonemptyOf sizes k) f) (ne-eqb f (suc k) q) ∙ same prev q
-        ]
-    go false h prev =
-        elim (ℕ-discrete f (suc k)) [
-          | yes e ↦ prev ∙ ap (λ (b : Bool). b && leb 1 (sizeIn sizes f)) (no-file k f (omega arith)) ∙ sym (here false h e)
-          | no q ↦ same prev q
-        ]
+    go : (b : Bool) → member (cond b (inserted (suc k) (nonemptyOf sizes k)) (nonemptyOf sizes k)) f
+        ≡ cond b (eqb f (suc k) || member (nonemptyOf sizes k) f) (member (nonemptyOf sizes k) f)
+    go true = member-inserted (nonemptyOf sizes k) (suc k) (nonempty-words sizes k .four) l f
+    go false = refl
 
 pub opened-represents : (n : ℕ) (sizes : List ℕ) → openStep n sizes .number ≡ 0
     → (n ≤ 254) × Represents (sizeIn sizes) (opened n (sizeIn sizes)) (openStep n sizes .next)
@@ -355,8 +312,13 @@ unfolding openStep
 opened-represents n sizes e =
     go (isFile 254 n && eqb (length sizes) n) refl (allBelow n (λ i. leb (getD sizes i 0) 16777216)) e
   where
-    none : (m : ℕ) → within m (replicate 4 0) ≡ true
-    none m = within-by m (replicate 4 0) (λ k l h. absurd (false≢true (sym (member-none k) ∙ h)))
+    none : (m : ℕ) → m ≤ 255 → IsSet m (replicate 4 0) (λ k. false)
+    none m l = record {
+      small = l;
+      words = length-replicate {A = ℕ} 4 0;
+      in-range = within-by m (replicate 4 0) (λ k b h. absurd (false≢true (sym (member-none k) ∙ h)));
+      members = member-none;
+    }
 
     go : (a : Bool) → (isFile 254 n && eqb (length sizes) n) ≡ a → (b : Bool)
         → cond a (cond b (outcome (fresh n sizes) 0) (refusedOpening 1)) (refusedOpening 10) .number ≡ 0
@@ -366,18 +328,10 @@ opened-represents n sizes e =
         let r = and-both (isFile 254 n) (eqb (length sizes) n) p .0 in
         let l = file-in-range 254 n r .1 in (
           l,
-          record {
-            valid = is-inventory (fresh n sizes) r (none n)
-                (within-by n (nonemptyOf sizes n)
-                (λ k b h. and-both (isFile n k) (leb 1 (sizeIn sizes k)) (sym (nonempty-member sizes n (omega arith) k) ∙ h) .0))
-                (none (255 - n));
-            state = ap₂ (λ (fs vs : ℕ → Bool). record { n = n; size = sizeIn sizes; files = fs; volumes = vs })
-                (fun-ext (λ k. sym (member-none k))) (fun-ext (λ k. sym (member-none k)));
-            matches = λ f h.
-                nonempty-member sizes n (omega arith) f ∙ ap (λ (b : Bool). b && leb 1 (sizeIn sizes f)) h;
-            file-words = length-replicate {A = ℕ} 4 0;
-            volume-words = length-replicate {A = ℕ} 4 0;
-          },
+          represents r (none n (omega arith)) (none (255 - n) (omega arith))
+              (within-by n (nonemptyOf sizes n)
+              (λ k b h. and-both (isFile n k) (leb 1 (sizeIn sizes k)) (sym (nonempty-member sizes n (omega arith) k) ∙ h) .0))
+              (λ f h. nonempty-member sizes n (omega arith) f ∙ ap (λ (b : Bool). b && leb 1 (sizeIn sizes f)) h),
         )
     go true p false z = absurd (omega arith)
     go false p b z = absurd (omega arith)
