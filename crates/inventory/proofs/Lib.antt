@@ -7,7 +7,7 @@ mod Following
 mod CoefficientRows
 mod QuerySteps
 mod Queries
-mod Representation
+pub mod Representation
 mod Calls
 pub mod Condition
 pub mod Answered

@@ -8,7 +8,7 @@
 use mathlib.Core.Path.{_≡_, refl, sym, ap, ap₂, _∙_, subst}
 use mathlib.Core.Bool.{Bool, true, false, cond, _&&_, and-false}
 use mathlib.Core.List.{List, [], _++_, append-nil}
-use Prim.Native.Nat.{ℕ, zero, suc, _*_, _^_, _≤_, _<_}
+use Prim.Native.Nat.{ℕ, _*_, _^_, _≤_, _<_}
 use native.Mathlib.Decide.{ℕ-discrete, decLe}
 use native.Mathlib.Nat.{zero-lt-suc}
 use native.Mathlib.Omega.{arith}
@@ -17,17 +17,18 @@ use lib.Dec.{eqb, leb}
 use lib.ListN.{getD, length, drop, drop-of-length-le}
 use Rattle.answers.proofs.WritingLaws.{written-fits, unless-none, unless-refused, numbered-as}
 use Rattle.inventory.specs.Query.{Queried}
-use Rattle.inventory.specs.Steps.{allBelow, oneTo, zeros, fresh, refusedOpening, nonemptyOf, openStep, outcome, accepted, withFiles, withVolumes, addFileStep, removeFileStep, addVolumeStep, removeVolumeStep}
+use Rattle.inventory.specs.Steps.{allBelow, oneTo, zeros, fresh, refusedOpening, openStep, outcome, accepted, withFiles, withVolumes, addFileStep, removeFileStep, addVolumeStep, removeVolumeStep}
 use Rattle.inventory.specs.declared.Inventory.{Inventory}
 use Rattle.inventory.specs.declared.Outcome.{Outcome}
 use Rattle.finite.proofs.Tests.{and-both}
 use Rattle.inventory.proofs.Outcomes.{open-out-of-range, open-miscounted}
+use Rattle.inventory.proofs.Representation.{nonempty-words}
 use Rattle.little_endian.specs.Bytes.{numbers, numbersAt}
 use Rattle.little_endian.proofs.NumberLists.{length-numbers, numbers-back}
 use Rattle.inventory_bytes.specs.Claim.{Held}
 use Rattle.inventory_bytes.specs.Inventories.{inventoryBytes, openedBy, storedBy}
 use Rattle.inventory_bytes.proofs.BackLaws.{length-inventory, loaded-back}
-use Rattle.number_sets.specs.Sets.{Words, inserted}
+use Rattle.number_sets.specs.Sets.{Words}
 use Rattle.number_sets.proofs.Words.{words-none, words-inserted, words-removed}
 use Rattle.par1_c.specs.Inventories.{otherLength, answered}
 use Rattle.par1_c.specs.Claim.{OnBytes, OpenedOnBytes, ChangedOnBytes, CountedOnBytes, QueriedOnBytes}
@@ -93,15 +94,6 @@ queried-on-bytes s h f out r out′ (otherLength l e o) = absurd (eqb-false (len
 queried-on-bytes s h f out r out′ (answered l a q e) = (a, subst (λ (i : Inventory). Queried i f out a out′) (loaded-back s h) q, e)
 
 -- ---- opening
-
-nonempty-words : (sizes : List ℕ) (k : ℕ) → Words (nonemptyOf sizes k)
-unfolding nonemptyOf
-nonempty-words sizes zero = words-none
-nonempty-words sizes (suc k) = by (leb 1 (getD sizes k 0)) (nonempty-words sizes k)
-  where
-    by : (b : Bool) → Words (nonemptyOf sizes k) → Words (cond b (inserted (suc k) (nonemptyOf sizes k)) (nonemptyOf sizes k))
-    by true w = words-inserted (suc k) (nonemptyOf sizes k) w
-    by false w = w
 
 -- the sizes in bytes are read as they were
 opened-same : (n : ℕ) (sizes : List ℕ) → ((j : ℕ) → getD sizes j 0 < 2 ^ 64) → openedBy n (numbers sizes) ≡ openStep n sizes
