@@ -1,4 +1,4 @@
--- From C the calls on the bytes of an inventory are those on the inventory.
+-- From C each call on the bytes of an inventory is the call on the inventory.
 --
 --   opened-on-bytes      an opening
 --   changed-on-bytes     the four calls that add and remove
