@@ -1,5 +1,4 @@
--- From C each call on the bytes of an inventory is the call on the inventory, and the next goes on from what it stored: so from C too a
--- list of calls is one of those that condition 3 speaks of.
+-- From C each call on the bytes of an inventory is the call on the inventory, and leaves the bytes of what that call hands back.
 --
 --   OnBytes step s k     a call that changes s: its number, and the bytes of the inventory that it hands back, which bytes can hold again
 --   OpenedOnBytes        an opening with the bytes of the sizes is one with the sizes, and bytes can hold what it gives
