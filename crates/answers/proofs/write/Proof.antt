@@ -11,12 +11,6 @@ use Rattle.answers.proofs.write.Tie as tie
 returns : tie.Need-returns
 returns c = ap numbered (written-short _ _ (c .if1 .taken))
 
-put-requires : tie.Need-put-requires
-put-requires c κs = search needs
-
-same-length : tie.Need-same-length
-same-length c = search needs
-
 returns-2 : tie.Need-returns-2
 returns-2 c =
     let a = c .before .before .before .before .before .before .before .args in
@@ -25,4 +19,4 @@ returns-2 c =
     ap numbered (written-fits (now (a .bytes)) (now (a .out)) fits refl over)
 
 pub write-spec : {M : Type 1} → statement M
-write-spec = tie.close (tie.spec returns put-requires same-length returns-2)
+write-spec = tie.close (tie.spec returns (λ c κs. search needs) (λ c. search needs) returns-2)

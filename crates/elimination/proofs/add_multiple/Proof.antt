@@ -8,19 +8,10 @@ use borrow.Author.Needs.{needs}
 use Rattle.elimination.proofs.add_multiple.Statement.{statement}
 use Rattle.elimination.proofs.add_multiple.Tie as tie
 
-mul-add-requires : tie.Need-mul-add-requires
-mul-add-requires c κs = search needs
-
-same-length : tie.Need-same-length
-same-length c = search needs
-
-returns : tie.Need-returns
-returns c = search needs
-
 returns-2 : tie.Need-returns-2
 returns-2 c =
     let a = c .before .before .before .args in
     sym (ap (λ (w : ℕ). mulAdd w (a .fragment .now) (a .buffer .now)) (c .if1 .left) ∙ mulAdd-zero (a .fragment .now) (a .buffer .now))
 
 pub add-multiple-spec : {M : Type 1} → statement M
-add-multiple-spec = tie.close (tie.spec mul-add-requires same-length returns returns-2)
+add-multiple-spec = tie.close (tie.spec (λ c κs. search needs) (λ c. search needs) (λ c. search needs) returns-2)

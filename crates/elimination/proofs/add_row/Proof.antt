@@ -6,27 +6,6 @@ use borrow.Author.Needs.{needs}
 use Rattle.elimination.proofs.add_row.Statement.{statement}
 use Rattle.elimination.proofs.add_row.Tie as tie
 
-row-times-requires : tie.Need-row-times-requires
-row-times-requires c κs = search needs
-
-slice-aggregate-pivot : tie.Need-slice-aggregate-pivot
-slice-aggregate-pivot c = search needs
-
-pivot-requires : tie.Need-pivot-requires
-pivot-requires c κs = search needs
-
-array-read-inverse : tie.Need-array-read-inverse
-array-read-inverse c = search needs
-
-inverse-requires : tie.Need-inverse-requires
-inverse-requires c κs = search needs
-
-enum-known-scale : tie.Need-enum-known-scale
-enum-known-scale c = search needs
-
-enum-told : tie.Need-enum-told
-enum-told c = search needs
-
 returns : tie.Need-returns
 returns c =
     let searched = c .before .before .before .before .pivot in
@@ -34,18 +13,6 @@ returns c =
     let a = c .before .before .before .before .before .before .before .before .before .before .args in
     absurd (pivot-has-inverse (a .row .now) (a .matrix .now) (a .owners .now) (y .result) (searched .result) (y .ensures) (searched .ensures) _
     (c .before .before .before .if1 .taken) (sym (c .before .before .inverse .ensures) ∙ c .enum-told .given .1))
-
-array-read-y : tie.Need-array-read-y
-array-read-y c = search needs
-
-array-write-y : tie.Need-array-write-y
-array-write-y c = search needs
-
-sweep-requires : tie.Need-sweep-requires
-sweep-requires c κs = search needs
-
-element-write-owners : tie.Need-element-write-owners
-element-write-owners c = search needs
 
 returns-2 : tie.Need-returns-2
 returns-2 c =
@@ -69,17 +36,17 @@ pub add-row-spec : {M : Type 1} → statement M
 add-row-spec =
     tie.close
     (tie.spec
-    row-times-requires
-    slice-aggregate-pivot
-    pivot-requires
-    array-read-inverse
-    inverse-requires
-    enum-known-scale
-    enum-told
+    (λ c κs. search needs)
+    (λ c. search needs)
+    (λ c κs. search needs)
+    (λ c. search needs)
+    (λ c κs. search needs)
+    (λ c. search needs)
+    (λ c. search needs)
     returns
-    array-read-y
-    array-write-y
-    sweep-requires
-    element-write-owners
+    (λ c. search needs)
+    (λ c. search needs)
+    (λ c κs. search needs)
+    (λ c. search needs)
     returns-2
     returns-3)

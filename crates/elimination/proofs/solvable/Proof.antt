@@ -9,15 +9,6 @@ use borrow.Author.Needs.{needs}
 use Rattle.elimination.proofs.solvable.Statement.{statement}
 use Rattle.elimination.proofs.solvable.Tie as tie
 
-index-requires : tie.Need-index-requires
-index-requires c κs = search needs
-
-mul-pivot : tie.Need-mul-pivot
-mul-pivot c = omega arith
-
-pivot-requires : tie.Need-pivot-requires
-pivot-requires c κs = search needs
-
 returns : tie.Need-returns
 returns c =
     let a = c .before .before .before .args in
@@ -26,4 +17,4 @@ returns c =
     (subst (λ (f : ℕ). IsPivot (entry (a .matrix .now) f) (a .owners .now) (c .pivot .result)) e (c .pivot .ensures))
 
 pub solvable-spec : {M : Type 1} → statement M
-solvable-spec = tie.close (tie.spec index-requires mul-pivot pivot-requires returns)
+solvable-spec = tie.close (tie.spec (λ c κs. search needs) (λ c. omega arith) (λ c κs. search needs) returns)

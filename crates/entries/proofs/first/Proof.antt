@@ -26,12 +26,6 @@ sized-at c = sized _ _ (allowed-at c)
 returns : tie.Need-returns
 returns c = sym (first-end (now (c .before .before .args .list)) (c .if1 .taken))
 
-read64-requires : tie.Need-read64-requires
-read64-requires c κs = search needs
-
-entry-size-allowed-requires : tie.Need-entry-size-allowed-requires
-entry-size-allowed-requires c κs = search needs
-
 returns-2 : tie.Need-returns-2
 returns-2 c =
     let s : List ℕ = now (c .before .before .before .before .before .args .list) in
@@ -40,9 +34,6 @@ returns-2 c =
 
 slice-aggregate-entry : tie.Need-slice-aggregate-entry
 slice-aggregate-entry c = simp length-take (omega (arith, sized-at (c .before) .high))
-
-read64-requires-2 : tie.Need-read64-requires-2
-read64-requires-2 c κs = search needs
 
 returns-3 : tie.Need-returns-3
 returns-3 c =
@@ -57,12 +48,6 @@ sub-name-allowed c = let z = sized-at (c .before .before .before) in simp length
 part-name-allowed-start : tie.Need-part-name-allowed-start
 part-name-allowed-start c = let z = sized-at (c .before .before .before) in simp length-take (omega (arith, z .high, z .low))
 
-part-name-allowed-end : tie.Need-part-name-allowed-end
-part-name-allowed-end c = search needs
-
-name-allowed-requires : tie.Need-name-allowed-requires
-name-allowed-requires c κs = search needs
-
 returns-4 : tie.Need-returns-4
 returns-4 c =
     let a = c .before .before .before in
@@ -71,9 +56,6 @@ returns-4 c =
     let name = c .before .name-allowed .ensures ∙ ap (λ (l : List ℕ). nameAllowed (unitsOf l)) (part-to-end (take (b .before .before .read64 .result) s) 56) in
     sym (first-name s (omega (arith, b .before .before .before .if1 .left)) (b .before .before .read64 .ensures) (allowed-at b)
     (ap fileSizeAllowed (sym (a .before .read642 .ensures)) ∙ le-leb _ _ (a .if3 .left)) (sym name ∙ not-true _ (c .if4 .taken)))
-
-read64-requires-3 : tie.Need-read64-requires-3
-read64-requires-3 c κs = search needs
 
 returns-5 : tie.Need-returns-5
 returns-5 c =
@@ -93,16 +75,16 @@ first-spec =
     tie.close
     (tie.spec
     returns
-    read64-requires
-    entry-size-allowed-requires
+    (λ c κs. search needs)
+    (λ c κs. search needs)
     returns-2
     slice-aggregate-entry
-    read64-requires-2
+    (λ c κs. search needs)
     returns-3
     sub-name-allowed
     part-name-allowed-start
-    part-name-allowed-end
-    name-allowed-requires
+    (λ c. search needs)
+    (λ c κs. search needs)
     returns-4
-    read64-requires-3
+    (λ c κs. search needs)
     returns-5)

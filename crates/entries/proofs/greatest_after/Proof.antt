@@ -5,12 +5,6 @@ use borrow.Author.Needs.{needs}
 use Rattle.entries.proofs.greatest_after.Statement.{statement}
 use Rattle.entries.proofs.greatest_after.Tie as tie
 
-is-counted-requires : tie.Need-is-counted-requires
-is-counted-requires c κs = search needs
-
-greater-requires : tie.Need-greater-requires
-greater-requires c κs = search needs
-
 returns : tie.Need-returns
 returns c = c .greater .ensures ∙ simp (sym (c .before .before .is-counted .ensures) ∙ c .before .if1 .taken)
 
@@ -18,4 +12,4 @@ returns-2 : tie.Need-returns-2
 returns-2 c = simp (sym (c .before .is-counted .ensures) ∙ c .if1 .left)
 
 pub greatest-after-spec : {M : Type 1} → statement M
-greatest-after-spec = tie.close (tie.spec is-counted-requires greater-requires returns returns-2)
+greatest-after-spec = tie.close (tie.spec (λ c κs. search needs) (λ c κs. search needs) returns returns-2)

@@ -5,12 +5,6 @@ use Rattle.gf256.proofs.Shifts.{double-low, double-high}
 use Rattle.gf256.proofs.double.Statement.{statement}
 use Rattle.gf256.proofs.double.Tie as tie
 
-mul-result : tie.Need-mul-result
-mul-result c = search needs
-
-mul-result-2 : tie.Need-mul-result-2
-mul-result-2 c = search needs
-
 returns : tie.Need-returns
 returns c = double-low (c .before .args .x) (c .if1 .taken)
 
@@ -18,4 +12,4 @@ returns-2 : tie.Need-returns-2
 returns-2 c = double-high (c .before .args .x) (c .if1 .left) (search needs)
 
 pub double-spec : {M : Type 1} → statement M
-double-spec = tie.close (tie.spec mul-result mul-result-2 returns returns-2)
+double-spec = tie.close (tie.spec (λ c. search needs) (λ c. search needs) returns returns-2)

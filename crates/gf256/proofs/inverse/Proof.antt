@@ -14,9 +14,6 @@ returns : tie.Need-returns
 unfolding inverseAnswer
 returns c = simp (eq-eqb _ _ (c .if1 .taken))
 
-power-requires : tie.Need-power-requires
-power-requires c κs = search needs
-
 returns-2 : tie.Need-returns-2
 unfolding inverseAnswer
 returns-2 c =
@@ -25,4 +22,4 @@ returns-2 c =
     (ap Byte (c .power .ensures ∙ sym (inverse-power a (search needs) (omega (arith, c .before .if1 .left)))))
 
 pub inverse-spec : {M : Type 1} → statement M
-inverse-spec = tie.close (tie.spec returns power-requires returns-2)
+inverse-spec = tie.close (tie.spec returns (λ c κs. search needs) returns-2)

@@ -8,42 +8,6 @@ use borrow.Author.Needs.{needs}
 use Rattle.inventory_bytes.proofs.bytes_of.Statement.{statement}
 use Rattle.inventory_bytes.proofs.bytes_of.Tie as tie
 
-slice-aggregate-write-numbers : tie.Need-slice-aggregate-write-numbers
-slice-aggregate-write-numbers c = search needs
-
-slice-aggregate-write-numbers-2 : tie.Need-slice-aggregate-write-numbers-2
-slice-aggregate-write-numbers-2 c = search needs
-
-write-numbers-requires : tie.Need-write-numbers-requires
-write-numbers-requires c κs = search needs
-
-slice-aggregate-write-numbers-3 : tie.Need-slice-aggregate-write-numbers-3
-slice-aggregate-write-numbers-3 c = search needs
-
-slice-aggregate-write-numbers-4 : tie.Need-slice-aggregate-write-numbers-4
-slice-aggregate-write-numbers-4 c = search needs
-
-write-numbers-requires-2 : tie.Need-write-numbers-requires-2
-write-numbers-requires-2 c κs = search needs
-
-slice-aggregate-write-numbers-5 : tie.Need-slice-aggregate-write-numbers-5
-slice-aggregate-write-numbers-5 c = search needs
-
-slice-aggregate-write-numbers-6 : tie.Need-slice-aggregate-write-numbers-6
-slice-aggregate-write-numbers-6 c = search needs
-
-write-numbers-requires-3 : tie.Need-write-numbers-requires-3
-write-numbers-requires-3 c κs = search needs
-
-slice-aggregate-write-numbers-7 : tie.Need-slice-aggregate-write-numbers-7
-slice-aggregate-write-numbers-7 c = search needs
-
-slice-aggregate-write-numbers-8 : tie.Need-slice-aggregate-write-numbers-8
-slice-aggregate-write-numbers-8 c = search needs
-
-write-numbers-requires-4 : tie.Need-write-numbers-requires-4
-write-numbers-requires-4 c κs = search needs
-
 files-length : (c : tie.Start) → length (c .args .inventory .files) ≡ 4
 files-length c = search needs
 
@@ -69,16 +33,16 @@ pub bytes-of-spec : {M : Type 1} → statement M
 bytes-of-spec =
     tie.close
     (tie.spec
-    slice-aggregate-write-numbers
-    slice-aggregate-write-numbers-2
-    write-numbers-requires
-    slice-aggregate-write-numbers-3
-    slice-aggregate-write-numbers-4
-    write-numbers-requires-2
-    slice-aggregate-write-numbers-5
-    slice-aggregate-write-numbers-6
-    write-numbers-requires-3
-    slice-aggregate-write-numbers-7
-    slice-aggregate-write-numbers-8
-    write-numbers-requires-4
+    (λ c. search needs)
+    (λ c. search needs)
+    (λ c κs. search needs)
+    (λ c. search needs)
+    (λ c. search needs)
+    (λ c κs. search needs)
+    (λ c. search needs)
+    (λ c. search needs)
+    (λ c κs. search needs)
+    (λ c. search needs)
+    (λ c. search needs)
+    (λ c κs. search needs)
     returns)

@@ -13,31 +13,16 @@ use borrow.Author.Needs.{needs}
 use Rattle.inventory_bytes.proofs.opened.Statement.{statement}
 use Rattle.inventory_bytes.proofs.opened.Tie as tie
 
-no-opening-requires : tie.Need-no-opening-requires
-no-opening-requires c κs = search needs
-
 returns : tie.Need-returns
 unfolding openedBy
 returns c = simp (lt-leb _ _ (c .before .if1 .taken)) (c .no-opening .ensures)
-
-mul-if2 : tie.Need-mul-if2
-mul-if2 c = search needs
-
-no-opening-requires-2 : tie.Need-no-opening-requires-2
-no-opening-requires-2 c κs = search needs
 
 returns-2 : tie.Need-returns-2
 unfolding openedBy
 returns-2 c = simp (le-leb _ _ (c .before .before .if1 .left), ne-eqb _ _ (c .before .if2 .taken)) (c .no-opening2 .ensures)
 
-array-borrow-prefix-numbers : tie.Need-array-borrow-prefix-numbers
-array-borrow-prefix-numbers c = search needs
-
 slice-aggregate-opened-by : tie.Need-slice-aggregate-opened-by
 slice-aggregate-opened-by c = simp length-take (omega arith)
-
-opened-by-requires : tie.Need-opened-by-requires
-opened-by-requires c κs = search needs
 
 returns-3 : tie.Need-returns-3
 unfolding openedBy
@@ -52,12 +37,12 @@ pub opened-spec : {M : Type 1} → statement M
 opened-spec =
     tie.close
     (tie.spec
-    no-opening-requires
+    (λ c κs. search needs)
     returns
-    mul-if2
-    no-opening-requires-2
+    (λ c. search needs)
+    (λ c κs. search needs)
     returns-2
-    array-borrow-prefix-numbers
+    (λ c. search needs)
     slice-aggregate-opened-by
-    opened-by-requires
+    (λ c κs. search needs)
     returns-3)

@@ -15,18 +15,6 @@ returns : tie.Need-returns
 unfolding storedBy
 returns c = numbered-as refl (unless-refused _ _ refl (c .if1 .taken) refl)
 
-bytes-of-requires : tie.Need-bytes-of-requires
-bytes-of-requires c κs = search needs
-
-slice-aggregate-write : tie.Need-slice-aggregate-write
-slice-aggregate-write c = search needs
-
-write-requires : tie.Need-write-requires
-write-requires c κs = search needs
-
-same-length : tie.Need-same-length
-same-length c = search needs
-
 returns-2 : tie.Need-returns-2
 unfolding storedBy
 returns-2 c =
@@ -42,8 +30,8 @@ store-spec =
     tie.close
     (tie.spec
     returns
-    bytes-of-requires
-    slice-aggregate-write
-    write-requires
-    same-length
+    (λ c κs. search needs)
+    (λ c. search needs)
+    (λ c κs. search needs)
+    (λ c. search needs)
     returns-2)

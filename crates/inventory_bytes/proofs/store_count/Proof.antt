@@ -9,26 +9,8 @@ use borrow.Author.Needs.{needs}
 use Rattle.inventory_bytes.proofs.store_count.Statement.{statement}
 use Rattle.inventory_bytes.proofs.store_count.Tie as tie
 
-enum-known-counted : tie.Need-enum-known-counted
-enum-known-counted c = search needs
-
 returns : tie.Need-returns
 returns c = rw (c .before .counted .given .1)
-
-enum-known-counted-2 : tie.Need-enum-known-counted-2
-enum-known-counted-2 c = search needs
-
-bytes-of-count-requires : tie.Need-bytes-of-count-requires
-bytes-of-count-requires c κs = search needs
-
-slice-aggregate-write : tie.Need-slice-aggregate-write
-slice-aggregate-write c = search needs
-
-write-requires : tie.Need-write-requires
-write-requires c κs = search needs
-
-same-length : tie.Need-same-length
-same-length c = search needs
 
 returns-2 : tie.Need-returns-2
 returns-2 c =
@@ -42,11 +24,11 @@ pub store-count-spec : {M : Type 1} → statement M
 store-count-spec =
     tie.close
     (tie.spec
-    enum-known-counted
+    (λ c. search needs)
     returns
-    enum-known-counted-2
-    bytes-of-count-requires
-    slice-aggregate-write
-    write-requires
-    same-length
+    (λ c. search needs)
+    (λ c κs. search needs)
+    (λ c. search needs)
+    (λ c κs. search needs)
+    (λ c. search needs)
     returns-2)

@@ -10,14 +10,8 @@ use borrow.Author.Needs.{needs}
 use Rattle.listing.proofs.list.Statement.{statement}
 use Rattle.listing.proofs.list.Tie as tie
 
-read-requires : tie.Need-read-requires
-read-requires c κs = search needs
-
 list-as-requires : tie.Need-list-as-requires
 list-as-requires c κs = list-in (now (c .before .before .before .before .args .file)) (c .before .read .ensures)
-
-same-length : tie.Need-same-length
-same-length c = search needs
 
 returns : tie.Need-returns
 unfolding listingOf
@@ -26,4 +20,4 @@ returns c =
     c .before .before .list-as .ensures ∙ ap (λ (r : Reading). written (listingBy r (now (a .file))) (now (a .out))) (c .before .before .before .before .read .ensures)
 
 pub list-spec : {M : Type 1} → statement M
-list-spec = tie.close (tie.spec read-requires list-as-requires same-length returns)
+list-spec = tie.close (tie.spec (λ c κs. search needs) list-as-requires (λ c. search needs) returns)

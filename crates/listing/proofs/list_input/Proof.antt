@@ -6,12 +6,6 @@ use borrow.Author.Needs.{needs}
 use Rattle.listing.proofs.list_input.Statement.{statement}
 use Rattle.listing.proofs.list_input.Tie as tie
 
-list-requires : tie.Need-list-requires
-list-requires c κs = search needs
-
-same-length : tie.Need-same-length
-same-length c = search needs
-
 returns : tie.Need-returns
 unfolding inputListing
 returns c = simp (le-leb _ _ (c .before .before .before .before .if1 .taken)) (c .before .before .list .ensures)
@@ -19,13 +13,10 @@ returns c = simp (le-leb _ _ (c .before .before .before .before .if1 .taken)) (c
 list-as-requires : tie.Need-list-as-requires
 list-as-requires c κs = tt
 
-same-length-2 : tie.Need-same-length-2
-same-length-2 c = search needs
-
 returns-2 : tie.Need-returns-2
 unfolding inputListing
 returns-2 c = simp (lt-leb _ _ (c .before .before .before .before .if1 .left)) (c .before .before .list-as .ensures)
 
 pub list-input-spec : {M : Type 1} → statement M
 list-input-spec =
-    tie.close (tie.spec list-requires same-length returns list-as-requires same-length-2 returns-2)
+    tie.close (tie.spec (λ c κs. search needs) (λ c. search needs) returns list-as-requires (λ c. search needs) returns-2)

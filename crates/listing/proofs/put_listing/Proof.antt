@@ -20,21 +20,6 @@ use Rattle.listing.proofs.put_listing.Tie as tie
 list-in : (c : tie.After-known-told) → ListIn (Accepted (c .before .reading .given .0 .0)) (now (c .before .before .before .before .before .args .file))
 list-in c = subst (λ (r : Reading). ListIn r (now (c .before .before .before .before .before .args .file))) (c .before .reading .given .1) (c .before .before .before .before .before .pre)
 
-enum-known-reading : tie.Need-enum-known-reading
-enum-known-reading c = search needs
-
-enum-told : tie.Need-enum-told
-enum-told c = search needs
-
-refusal-requires : tie.Need-refusal-requires
-refusal-requires c κs = search needs
-
-put-refused-requires : tie.Need-put-refused-requires
-put-refused-requires c κs = search needs
-
-same-length : tie.Need-same-length
-same-length c = search needs
-
 returns : tie.Need-returns
 returns c =
     let told = c .before .before .before .before .before .enum-told .given .1 in
@@ -44,26 +29,11 @@ returns c =
     ∙ ap (λ (n : ℕ). put here (refusedLine n)) (c .before .before .before .refusal .ensures ∙ ap refusal told)
     ∙ ap (λ (r : Reading). put here (listingBy r (now (a .file)))) (sym told)
 
-put-head-requires : tie.Need-put-head-requires
-put-head-requires c κs = search needs
-
 add-end : tie.Need-add-end
 add-end c = omega (arith, list-in (c .before .before .before .before) .0, list-in (c .before .before .before .before) .1)
 
-sub-put-entries : tie.Need-sub-put-entries
-sub-put-entries c = search needs
-
-part-put-entries-start : tie.Need-part-put-entries-start
-part-put-entries-start c = search needs
-
 part-put-entries-end : tie.Need-part-put-entries-end
 part-put-entries-end c = omega (arith, list-in (c .before .before .before .before .before) .0, list-in (c .before .before .before .before .before) .1)
-
-put-entries-requires : tie.Need-put-entries-requires
-put-entries-requires c κs = search needs
-
-same-length-2 : tie.Need-same-length-2
-same-length-2 c = search needs
 
 returns-2 : tie.Need-returns-2
 returns-2 c =
@@ -80,17 +50,17 @@ pub put-listing-spec : {M : Type 1} → statement M
 put-listing-spec =
     tie.close
     (tie.spec
-    enum-known-reading
-    enum-told
-    refusal-requires
-    put-refused-requires
-    same-length
+    (λ c. search needs)
+    (λ c. search needs)
+    (λ c κs. search needs)
+    (λ c κs. search needs)
+    (λ c. search needs)
     returns
-    put-head-requires
+    (λ c κs. search needs)
     add-end
-    sub-put-entries
-    part-put-entries-start
+    (λ c. search needs)
+    (λ c. search needs)
     part-put-entries-end
-    put-entries-requires
-    same-length-2
+    (λ c κs. search needs)
+    (λ c. search needs)
     returns-2)

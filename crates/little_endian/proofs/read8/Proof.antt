@@ -8,9 +8,6 @@ use Rattle.little_endian.proofs.Reading.{leAt-byte}
 use Rattle.little_endian.proofs.read8.Statement.{statement}
 use Rattle.little_endian.proofs.read8.Tie as tie
 
-shared-slice-read-result : tie.Need-shared-slice-read-result
-shared-slice-read-result c = search needs
-
 returns : tie.Need-returns
 returns c =
     let a = c .before .before .args in
@@ -22,4 +19,4 @@ returns-2 c =
     sym (leAt-byte (now (a .s)) (a .at) ∙ List·getD-eq-default (now (a .s)) 0 (c .if1 .left))
 
 pub read8-spec : {M : Type 1} → statement M
-read8-spec = tie.close (tie.spec shared-slice-read-result returns returns-2)
+read8-spec = tie.close (tie.spec (λ c. search needs) returns returns-2)

@@ -9,12 +9,6 @@ use Rattle.little_endian.proofs.Writing.{write-byte}
 use Rattle.little_endian.proofs.write8.Statement.{statement}
 use Rattle.little_endian.proofs.write8.Tie as tie
 
-slice-write-out : tie.Need-slice-write-out
-slice-write-out c = search needs
-
-same-length : tie.Need-same-length
-same-length c = search needs
-
 returns : tie.Need-returns
 returns c =
     let a = c .before .args in
@@ -26,4 +20,4 @@ returns-2 c =
     sym (sets-out (now (a .out)) (a .at) (toLe 1 (a .x)) (c .if1 .left))
 
 pub write8-spec : {M : Type 1} → statement M
-write8-spec = tie.close (tie.spec slice-write-out same-length returns returns-2)
+write8-spec = tie.close (tie.spec (λ c. search needs) (λ c. search needs) returns returns-2)

@@ -7,17 +7,8 @@ use borrow.Author.Needs.{needs}
 use Rattle.md5.proofs.digest.Statement.{statement}
 use Rattle.md5.proofs.digest.Tie as tie
 
-new-requires : tie.Need-new-requires
-new-requires c κs = search needs
-
-push-requires : tie.Need-push-requires
-push-requires c κs = search needs
-
-finish-requires : tie.Need-finish-requires
-finish-requires c κs = search needs
-
 returns : tie.Need-returns
 returns c = c .finish .ensures ∙ digest-whole (now (c .before .before .before .before .args .bytes)) (c .before .before .new .ensures) (c .before .push .ensures)
 
 pub digest-spec : {M : Type 1} → statement M
-digest-spec = tie.close (tie.spec new-requires push-requires finish-requires returns)
+digest-spec = tie.close (tie.spec (λ c κs. search needs) (λ c κs. search needs) (λ c κs. search needs) returns)

@@ -9,18 +9,6 @@ use borrow.Author.Needs.{needs}
 use Rattle.md5.proofs.digest_into.Statement.{statement}
 use Rattle.md5.proofs.digest_into.Tie as tie
 
-digest-requires : tie.Need-digest-requires
-digest-requires c κs = search needs
-
-slice-aggregate-write : tie.Need-slice-aggregate-write
-slice-aggregate-write c = search needs
-
-write-requires : tie.Need-write-requires
-write-requires c κs = search needs
-
-same-length : tie.Need-same-length
-same-length c = search needs
-
 returns : tie.Need-returns
 returns c =
     let w = c .before .before in
@@ -32,8 +20,8 @@ pub digest-into-spec : {M : Type 1} → statement M
 digest-into-spec =
     tie.close
     (tie.spec
-    digest-requires
-    slice-aggregate-write
-    write-requires
-    same-length
+    (λ c κs. search needs)
+    (λ c. search needs)
+    (λ c κs. search needs)
+    (λ c. search needs)
     returns)

@@ -6,21 +6,6 @@ use borrow.Author.Needs.{needs}
 use Rattle.md5.proofs.put_words.Statement.{statement}
 use Rattle.md5.proofs.put_words.Tie as tie
 
-write32-requires : tie.Need-write32-requires
-write32-requires c κs = search needs
-
-write32-requires-2 : tie.Need-write32-requires-2
-write32-requires-2 c κs = search needs
-
-write32-requires-3 : tie.Need-write32-requires-3
-write32-requires-3 c κs = search needs
-
-write32-requires-4 : tie.Need-write32-requires-4
-write32-requires-4 c κs = search needs
-
-same-length : tie.Need-same-length
-same-length c = search needs
-
 returns : tie.Need-returns
 returns c =
     let second = c .before .before .before .before .before .before .before .before .before .before in
@@ -32,9 +17,9 @@ pub put-words-spec : {M : Type 1} → statement M
 put-words-spec =
     tie.close
     (tie.spec
-    write32-requires
-    write32-requires-2
-    write32-requires-3
-    write32-requires-4
-    same-length
+    (λ c κs. search needs)
+    (λ c κs. search needs)
+    (λ c κs. search needs)
+    (λ c κs. search needs)
+    (λ c. search needs)
     returns)

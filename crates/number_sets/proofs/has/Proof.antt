@@ -11,17 +11,8 @@ returns c =
     let a = c .before .args in
     sym (member-above (a .t1) (a .k) (search needs) (c .if1 .taken))
 
-mul-word : tie.Need-mul-word
-mul-word c = search needs
-
-array-read-word : tie.Need-array-read-word
-array-read-word c = search needs
-
-shr-result : tie.Need-shr-result
-shr-result c = search needs
-
 returns-2 : tie.Need-returns-2
 returns-2 c = member-bit (c .before .args .t1) (c .before .args .k)
 
 pub has-spec : {M : Type 1} → statement M
-has-spec = tie.close (tie.spec returns mul-word array-read-word shr-result returns-2)
+has-spec = tie.close (tie.spec returns (λ c. search needs) (λ c. search needs) (λ c. search needs) returns-2)

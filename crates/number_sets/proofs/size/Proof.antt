@@ -8,39 +8,6 @@ use borrow.Author.Needs.{needs}
 use Rattle.number_sets.proofs.size.Statement.{statement}
 use Rattle.number_sets.proofs.size.Tie as tie
 
-array-read-ones : tie.Need-array-read-ones
-array-read-ones c = search needs
-
-ones-requires : tie.Need-ones-requires
-ones-requires c κs = search needs
-
-array-read-ones-2 : tie.Need-array-read-ones-2
-array-read-ones-2 c = search needs
-
-ones-requires-2 : tie.Need-ones-requires-2
-ones-requires-2 c κs = search needs
-
-array-read-ones-3 : tie.Need-array-read-ones-3
-array-read-ones-3 c = search needs
-
-ones-requires-3 : tie.Need-ones-requires-3
-ones-requires-3 c κs = search needs
-
-array-read-ones-4 : tie.Need-array-read-ones-4
-array-read-ones-4 c = search needs
-
-ones-requires-4 : tie.Need-ones-requires-4
-ones-requires-4 c κs = search needs
-
-add-result : tie.Need-add-result
-add-result c = search needs
-
-add-result-2 : tie.Need-add-result-2
-add-result-2 c = search needs
-
-add-result-3 : tie.Need-add-result-3
-add-result-3 c = search needs
-
 returns : tie.Need-returns
 returns c =
     let d = c .ones4 .ensures in
@@ -55,15 +22,15 @@ pub size-spec : {M : Type 1} → statement M
 size-spec =
     tie.close
     (tie.spec
-    array-read-ones
-    ones-requires
-    array-read-ones-2
-    ones-requires-2
-    array-read-ones-3
-    ones-requires-3
-    array-read-ones-4
-    ones-requires-4
-    add-result
-    add-result-2
-    add-result-3
+    (λ c. search needs)
+    (λ c κs. search needs)
+    (λ c. search needs)
+    (λ c κs. search needs)
+    (λ c. search needs)
+    (λ c κs. search needs)
+    (λ c. search needs)
+    (λ c κs. search needs)
+    (λ c. search needs)
+    (λ c. search needs)
+    (λ c. search needs)
     returns)

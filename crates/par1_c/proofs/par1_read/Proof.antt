@@ -8,15 +8,6 @@ use borrow.Author.Needs.{needs}
 use Rattle.par1_c.proofs.par1_read.Statement.{statement}
 use Rattle.par1_c.proofs.par1_read.Tie as tie
 
-read-requires : tie.Need-read-requires
-read-requires c κs = search needs
-
-put-reading-requires : tie.Need-put-reading-requires
-put-reading-requires c κs = search needs
-
-same-length : tie.Need-same-length
-same-length c = search needs
-
 returns : tie.Need-returns
 returns c =
     let p = c .before .before in
@@ -24,4 +15,4 @@ returns c =
     p .put-reading .ensures ∙ ap (λ (r : Reading). readInto r (now (a .out))) (p .before .before .read .ensures)
 
 pub par1-read-spec : {M : Type 1} → statement M
-par1-read-spec = tie.close (tie.spec read-requires put-reading-requires same-length returns)
+par1-read-spec = tie.close (tie.spec (λ c κs. search needs) (λ c κs. search needs) (λ c. search needs) returns)

@@ -25,18 +25,6 @@ returns-4 c =
     let a = c .before .before .before .before .args in
     sym (answer-sum-above (a .file) (a .volume) (omega arith))
 
-cast-power : tie.Need-cast-power
-cast-power c = search needs
-
-sub-power : tie.Need-sub-power
-sub-power c = search needs
-
-cast-power-2 : tie.Need-cast-power-2
-cast-power-2 c = search needs
-
-power-requires : tie.Need-power-requires
-power-requires c κs = search needs
-
 returns-5 : tie.Need-returns-5
 unfolding coefficient
 returns-5 c =
@@ -51,8 +39,8 @@ coefficient-spec =
     returns-2
     returns-3
     returns-4
-    cast-power
-    sub-power
-    cast-power-2
-    power-requires
+    (λ c. search needs)
+    (λ c. search needs)
+    (λ c. search needs)
+    (λ c κs. search needs)
     returns-5)

@@ -10,27 +10,9 @@ use borrow.Author.Needs.{needs}
 use Rattle.result_bytes.proofs.put_reading.Statement.{statement}
 use Rattle.result_bytes.proofs.put_reading.Tie as tie
 
-enum-known-reading : tie.Need-enum-known-reading
-enum-known-reading c = search needs
-
 returns : tie.Need-returns
 unfolding readInto
 returns c = rw (c .before .reading .given .1)
-
-enum-known-reading-2 : tie.Need-enum-known-reading-2
-enum-known-reading-2 c = search needs
-
-bytes-of-parts-requires : tie.Need-bytes-of-parts-requires
-bytes-of-parts-requires c κs = search needs
-
-slice-aggregate-write : tie.Need-slice-aggregate-write
-slice-aggregate-write c = search needs
-
-write-requires : tie.Need-write-requires
-write-requires c κs = search needs
-
-same-length : tie.Need-same-length
-same-length c = search needs
 
 returns-2 : tie.Need-returns-2
 unfolding readInto
@@ -45,11 +27,11 @@ pub put-reading-spec : {M : Type 1} → statement M
 put-reading-spec =
     tie.close
     (tie.spec
-    enum-known-reading
+    (λ c. search needs)
     returns
-    enum-known-reading-2
-    bytes-of-parts-requires
-    slice-aggregate-write
-    write-requires
-    same-length
+    (λ c. search needs)
+    (λ c κs. search needs)
+    (λ c. search needs)
+    (λ c κs. search needs)
+    (λ c. search needs)
     returns-2)

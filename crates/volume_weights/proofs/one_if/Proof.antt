@@ -11,11 +11,5 @@ returns c =
     let a = c .before .args in
     sym (ap (λ (b : Bool). cond (a .inside && not b) 1 0) (c .if1 .taken) ∙ ap (λ (b : Bool). cond b 1 0) (and-false (a .inside)))
 
-returns-2 : tie.Need-returns-2
-returns-2 c = search needs
-
-returns-3 : tie.Need-returns-3
-returns-3 c = search needs
-
 pub one-if-spec : {M : Type 1} → statement M
-one-if-spec = tie.close (tie.spec returns returns-2 returns-3)
+one-if-spec = tie.close (tie.spec returns (λ c. search needs) (λ c. search needs))

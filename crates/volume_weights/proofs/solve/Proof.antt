@@ -14,17 +14,11 @@ use borrow.Author.Needs.{needs}
 use Rattle.volume_weights.proofs.solve.Statement.{statement}
 use Rattle.volume_weights.proofs.solve.Tie as tie
 
-set-diagonal-requires : tie.Need-set-diagonal-requires
-set-diagonal-requires c κs = search needs
-
 add-volumes-requires : tie.Need-add-volumes-requires
 add-volumes-requires c κs =
     let a = c .before .before .before .before .args in
     let table = tableOf (a .inside) (a .outside) (a .volumes) in
     subst (λ (m : List ℕ). ReducedBytes table m (replicate 256 0) 0) (sym (c .before .before .set-diagonal .ensures)) (start-reduced table)
-
-solvable-requires : tie.Need-solvable-requires
-solvable-requires c κs = search needs
 
 returns : tie.Need-returns
 returns c =
@@ -37,9 +31,6 @@ returns c =
     (unsolved-by (a .inside) (a .outside) (a .volumes) (a .rows) (a .column) (omega (arith, start .fits .column .fits))
     (reduced .last .1 .1 .1 .1 .0) (reduced .last .1 .1 .1 .1 .1 .0) (replicate 256 0) (reduced .ensures)
     (subst (IsSolvable (reduced .last .1 .1 .1 .1 .0) (reduced .last .1 .1 .1 .1 .1 .0) (a .column)) e (answered .solvable .ensures)) refl)
-
-weights-requires : tie.Need-weights-requires
-weights-requires c κs = search needs
 
 returns-2 : tie.Need-returns-2
 returns-2 c =
@@ -58,9 +49,9 @@ pub solve-spec : {M : Type 1} → statement M
 solve-spec =
     tie.close
     (tie.spec
-    set-diagonal-requires
+    (λ c κs. search needs)
     add-volumes-requires
-    solvable-requires
+    (λ c κs. search needs)
     returns
-    weights-requires
+    (λ c κs. search needs)
     returns-2)

@@ -6,9 +6,6 @@ use borrow.Author.Needs.{needs}
 use Rattle.volume_weights.proofs.take_volume.Statement.{statement}
 use Rattle.volume_weights.proofs.take_volume.Tie as tie
 
-add-row-requires : tie.Need-add-row-requires
-add-row-requires c κs = search needs
-
 returns : tie.Need-returns
 returns c = added (c .before .before .before .if1 .taken) (c .add-row .ensures)
 
@@ -16,4 +13,4 @@ returns-2 : tie.Need-returns-2
 returns-2 c = absent (c .if1 .left) refl refl
 
 pub take-volume-spec : {M : Type 1} → statement M
-take-volume-spec = tie.close (tie.spec add-row-requires returns returns-2)
+take-volume-spec = tie.close (tie.spec (λ c κs. search needs) returns returns-2)

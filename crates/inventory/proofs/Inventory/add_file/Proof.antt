@@ -7,24 +7,6 @@ use borrow.Author.Needs.{needs}
 use Rattle.inventory.proofs.Inventory.add_file.Statement.{statement}
 use Rattle.inventory.proofs.Inventory.add_file.Tie as tie
 
-is-inventory-requires : tie.Need-is-inventory-requires
-is-inventory-requires c κs = search needs
-
-one-to-requires : tie.Need-one-to-requires
-one-to-requires c κs = search needs
-
-has-requires : tie.Need-has-requires
-has-requires c κs = search needs
-
-change-number-requires : tie.Need-change-number-requires
-change-number-requires c κs = search needs
-
-insert-requires : tie.Need-insert-requires
-insert-requires c κs = search needs
-
-unless-refused-requires : tie.Need-unless-refused-requires
-unless-refused-requires c κs = search needs
-
 returns : tie.Need-returns
 unfolding addFileStep
 returns c =
@@ -36,10 +18,10 @@ pub add-file-spec : {M : Type 1} → statement M
 add-file-spec =
     tie.close
     (tie.spec
-    is-inventory-requires
-    one-to-requires
-    has-requires
-    change-number-requires
-    insert-requires
-    unless-refused-requires
+    (λ c κs. search needs)
+    (λ c κs. search needs)
+    (λ c κs. search needs)
+    (λ c κs. search needs)
+    (λ c κs. search needs)
+    (λ c κs. search needs)
     returns)

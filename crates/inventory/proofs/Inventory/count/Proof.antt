@@ -7,18 +7,9 @@ use borrow.Author.Needs.{needs}
 use Rattle.inventory.proofs.Inventory.count.Statement.{statement}
 use Rattle.inventory.proofs.Inventory.count.Tie as tie
 
-is-inventory-requires : tie.Need-is-inventory-requires
-is-inventory-requires c κs = search needs
-
 returns : tie.Need-returns
 unfolding countStep
 returns c = simp (sym (c .before .is-inventory .ensures) ∙ not-true (c .before .is-inventory .result) (c .if1 .taken))
-
-size-requires : tie.Need-size-requires
-size-requires c κs = search needs
-
-size-requires-2 : tie.Need-size-requires-2
-size-requires-2 c κs = search needs
 
 returns-2 : tie.Need-returns-2
 unfolding countStep
@@ -28,4 +19,4 @@ returns-2 c =
 
 pub count-spec : {M : Type 1} → statement M
 count-spec =
-    tie.close (tie.spec is-inventory-requires returns size-requires size-requires-2 returns-2)
+    tie.close (tie.spec (λ c κs. search needs) returns (λ c κs. search needs) (λ c κs. search needs) returns-2)

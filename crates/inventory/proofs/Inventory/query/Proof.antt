@@ -25,22 +25,13 @@ missing : (c : tie.Else3)
     → let a = c .before .before .before .before .before .before .before .before .before .before .args in member (a .self .files) (a .file) ≡ false
 missing c = sym (c .before .has .ensures) ∙ c .if3 .left
 
-is-inventory-requires : tie.Need-is-inventory-requires
-is-inventory-requires c κs = search needs
-
 returns : tie.Need-returns
 returns c = noInventory (sym (c .before .is-inventory .ensures) ∙ not-true (c .before .is-inventory .result) (c .if1 .taken)) refl refl
-
-one-to-requires : tie.Need-one-to-requires
-one-to-requires c κs = search needs
 
 returns-2 : tie.Need-returns-2
 returns-2 c =
     query-out-of-range _ (valid (c .before .before)) _ _
     (sym (c .before .one-to .ensures) ∙ not-true (c .before .one-to .result) (c .if2 .taken))
-
-has-requires : tie.Need-has-requires
-has-requires c κs = search needs
 
 returns-3 : tie.Need-returns-3
 returns-3 c =
@@ -73,9 +64,6 @@ write-requires c κs =
     let known = c .before .before .before .before .before .before .before .before .before .before .before .before .before in
     (few-files _ (valid known), c .before .before .before .if5 .left)
 
-same-length : tie.Need-same-length
-same-length c = search needs
-
 returns-6 : tie.Need-returns-6
 returns-6 c =
     let roomy = c .before .before .before .before .before .before in
@@ -90,15 +78,15 @@ pub query-spec : {M : Type 1} → statement M
 query-spec =
     tie.close
     (tie.spec
-    is-inventory-requires
+    (λ c κs. search needs)
     returns
-    one-to-requires
+    (λ c κs. search needs)
     returns-2
-    has-requires
+    (λ c κs. search needs)
     returns-3
     solve-requires
     returns-4
     returns-5
     write-requires
-    same-length
+    (λ c. search needs)
     returns-6)

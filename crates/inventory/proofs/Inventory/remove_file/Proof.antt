@@ -8,24 +8,6 @@ use borrow.Author.Needs.{needs}
 use Rattle.inventory.proofs.Inventory.remove_file.Statement.{statement}
 use Rattle.inventory.proofs.Inventory.remove_file.Tie as tie
 
-is-inventory-requires : tie.Need-is-inventory-requires
-is-inventory-requires c κs = search needs
-
-one-to-requires : tie.Need-one-to-requires
-one-to-requires c κs = search needs
-
-has-requires : tie.Need-has-requires
-has-requires c κs = search needs
-
-change-number-requires : tie.Need-change-number-requires
-change-number-requires c κs = search needs
-
-remove-requires : tie.Need-remove-requires
-remove-requires c κs = search needs
-
-unless-refused-requires : tie.Need-unless-refused-requires
-unless-refused-requires c κs = search needs
-
 returns : tie.Need-returns
 unfolding removeFileStep
 returns c =
@@ -37,10 +19,10 @@ pub remove-file-spec : {M : Type 1} → statement M
 remove-file-spec =
     tie.close
     (tie.spec
-    is-inventory-requires
-    one-to-requires
-    has-requires
-    change-number-requires
-    remove-requires
-    unless-refused-requires
+    (λ c κs. search needs)
+    (λ c κs. search needs)
+    (λ c κs. search needs)
+    (λ c κs. search needs)
+    (λ c κs. search needs)
+    (λ c κs. search needs)
     returns)

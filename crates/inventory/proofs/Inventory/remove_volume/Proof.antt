@@ -8,24 +8,6 @@ use borrow.Author.Needs.{needs}
 use Rattle.inventory.proofs.Inventory.remove_volume.Statement.{statement}
 use Rattle.inventory.proofs.Inventory.remove_volume.Tie as tie
 
-is-inventory-requires : tie.Need-is-inventory-requires
-is-inventory-requires c κs = search needs
-
-is-volume-requires : tie.Need-is-volume-requires
-is-volume-requires c κs = search needs
-
-has-requires : tie.Need-has-requires
-has-requires c κs = search needs
-
-change-number-requires : tie.Need-change-number-requires
-change-number-requires c κs = search needs
-
-remove-requires : tie.Need-remove-requires
-remove-requires c κs = search needs
-
-unless-refused-requires : tie.Need-unless-refused-requires
-unless-refused-requires c κs = search needs
-
 returns : tie.Need-returns
 unfolding removeVolumeStep
 returns c =
@@ -37,10 +19,10 @@ pub remove-volume-spec : {M : Type 1} → statement M
 remove-volume-spec =
     tie.close
     (tie.spec
-    is-inventory-requires
-    is-volume-requires
-    has-requires
-    change-number-requires
-    remove-requires
-    unless-refused-requires
+    (λ c κs. search needs)
+    (λ c κs. search needs)
+    (λ c κs. search needs)
+    (λ c κs. search needs)
+    (λ c κs. search needs)
+    (λ c κs. search needs)
     returns)

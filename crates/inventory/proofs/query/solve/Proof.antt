@@ -10,9 +10,6 @@ use borrow.Author.Needs.{needs}
 use Rattle.inventory.proofs.query.solve.Statement.{statement}
 use Rattle.inventory.proofs.query.solve.Tie as tie
 
-has-requires : tie.Need-has-requires
-has-requires c κs = search needs
-
 returns : tie.Need-returns
 returns c = empty (sym (c .before .has .ensures) ∙ not-true (c .before .has .result) (c .if1 .taken)) refl (zeros-at 256)
 
@@ -36,9 +33,6 @@ cast-solve-2 c =
     let l = file-in-range (start .args .n) (start .args .file) (start .pre .1) in
     omega (arith, start .pre .0)
 
-solve-requires : tie.Need-solve-requires
-solve-requires c κs = search needs
-
 returns-2 : tie.Need-returns-2
 returns-2 c =
     let found = c .before .before .has in
@@ -48,11 +42,11 @@ pub solve-spec : {M : Type 1} → statement M
 solve-spec =
     tie.close
     (tie.spec
-    has-requires
+    (λ c κs. search needs)
     returns
     sub-solve
     cast-solve
     sub-solve-2
     cast-solve-2
-    solve-requires
+    (λ c κs. search needs)
     returns-2)

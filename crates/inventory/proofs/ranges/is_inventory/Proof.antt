@@ -10,15 +10,9 @@ use borrow.Author.Needs.{needs}
 use Rattle.inventory.proofs.ranges.is_inventory.Statement.{statement}
 use Rattle.inventory.proofs.ranges.is_inventory.Tie as tie
 
-one-to-requires : tie.Need-one-to-requires
-one-to-requires c κs = search needs
-
 returns : tie.Need-returns
 unfolding isInventory
 returns c = first-fails _ _ (sym (c .before .one-to .ensures) ∙ not-true (c .before .one-to .result) (c .if1 .taken))
-
-within-requires : tie.Need-within-requires
-within-requires c κs = search needs
 
 returns-2 : tie.Need-returns-2
 unfolding isInventory
@@ -26,9 +20,6 @@ returns-2 c =
     let ranged = c .before .before .before in
     first-holds _ _ _ (sym (ranged .before .one-to .ensures) ∙ not-false (ranged .before .one-to .result) (ranged .if1 .left))
     (first-fails _ _ (sym (c .before .within .ensures) ∙ not-true (c .before .within .result) (c .if2 .taken)))
-
-within-requires-2 : tie.Need-within-requires-2
-within-requires-2 c κs = search needs
 
 returns-3 : tie.Need-returns-3
 unfolding isInventory
@@ -46,9 +37,6 @@ sub-within c =
     let h = file-in-range 254 (s .n) (sym (ranged .before .one-to .ensures) ∙ not-false (ranged .before .one-to .result) (ranged .if1 .left)) in
     omega arith
 
-within-requires-3 : tie.Need-within-requires-3
-within-requires-3 c κs = search needs
-
 returns-4 : tie.Need-returns-4
 unfolding isInventory
 returns-4 c =
@@ -64,12 +52,12 @@ pub is-inventory-spec : {M : Type 1} → statement M
 is-inventory-spec =
     tie.close
     (tie.spec
-    one-to-requires
+    (λ c κs. search needs)
     returns
-    within-requires
+    (λ c κs. search needs)
     returns-2
-    within-requires-2
+    (λ c κs. search needs)
     returns-3
     sub-within
-    within-requires-3
+    (λ c κs. search needs)
     returns-4)

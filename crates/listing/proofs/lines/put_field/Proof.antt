@@ -6,15 +6,6 @@ use borrow.Author.Needs.{needs}
 use Rattle.listing.proofs.lines.put_field.Statement.{statement}
 use Rattle.listing.proofs.lines.put_field.Tie as tie
 
-put-bytes-requires : tie.Need-put-bytes-requires
-put-bytes-requires c κs = search needs
-
-put-decimal-requires : tie.Need-put-decimal-requires
-put-decimal-requires c κs = search needs
-
-same-length : tie.Need-same-length
-same-length c = search needs
-
 returns : tie.Need-returns
 returns c =
     let second = c .before .before in
@@ -22,4 +13,4 @@ returns c =
     put-then _ _ _ (omega (arith, first .before .before .before .before .good .0 .0)) (first .put-bytes .ensures) (second .put-decimal .ensures)
 
 pub put-field-spec : {M : Type 1} → statement M
-put-field-spec = tie.close (tie.spec put-bytes-requires put-decimal-requires same-length returns)
+put-field-spec = tie.close (tie.spec (λ c κs. search needs) (λ c κs. search needs) (λ c. search needs) returns)

@@ -12,9 +12,6 @@ use borrow.Author.Needs.{needs}
 use Rattle.md5.proofs.Md5.end.Statement.{statement}
 use Rattle.md5.proofs.Md5.end.Tie as tie
 
-padding-of-requires : tie.Need-padding-of-requires
-padding-of-requires c κs = search needs
-
 array-share-prefix-b : tie.Need-array-share-prefix-b
 array-share-prefix-b c =
     let h : length (c .before .padding-of .result .bytes) ≡ 72 = search needs in
@@ -25,9 +22,6 @@ slice-aggregate-push c =
     let h : length (c .before .before .padding-of .result .bytes) ≡ 72 = search needs in
     simp length-take (omega arith)
 
-push-requires : tie.Need-push-requires
-push-requires c κs = search needs
-
 returns : tie.Need-returns
 unfolding pushed
 returns c =
@@ -37,4 +31,4 @@ returns c =
 pub end-spec : {M : Type 1} → statement M
 end-spec =
     tie.close
-    (tie.spec padding-of-requires array-share-prefix-b slice-aggregate-push push-requires returns)
+    (tie.spec (λ c κs. search needs) array-share-prefix-b slice-aggregate-push (λ c κs. search needs) returns)

@@ -8,19 +8,10 @@ use borrow.Author.Needs.{needs}
 use Rattle.md5.proofs.Md5.finish.Statement.{statement}
 use Rattle.md5.proofs.Md5.finish.Tie as tie
 
-slice-aggregate-put-words : tie.Need-slice-aggregate-put-words
-slice-aggregate-put-words c = search needs
-
-end-requires : tie.Need-end-requires
-end-requires c κs = search needs
-
-put-words-requires : tie.Need-put-words-requires
-put-words-requires c κs = search needs
-
 returns : tie.Need-returns
 unfolding finished
 returns c = c .before .put-words .ensures ∙ output-alone (c .before .before .end .result) ∙ ap output (c .before .before .end .ensures)
 
 pub finish-spec : {M : Type 1} → statement M
 finish-spec =
-    tie.close (tie.spec slice-aggregate-put-words end-requires put-words-requires returns)
+    tie.close (tie.spec (λ c. search needs) (λ c κs. search needs) (λ c κs. search needs) returns)

@@ -11,9 +11,6 @@ use borrow.Author.Needs.{needs}
 use Rattle.md5.proofs.Md5.push.Statement.{statement}
 use Rattle.md5.proofs.Md5.push.Tie as tie
 
-wrapping-add-u64-requires : tie.Need-wrapping-add-u64-requires
-wrapping-add-u64-requires c κs = search needs
-
 -- the tail is 64 bytes
 tailed : (c : tie.Start) → length (c .args .self .tail) ≡ 64
 tailed c = search needs
@@ -27,12 +24,6 @@ slice-aggregate-fill c = simp length-take (omega (arith, tailed (c .before .befo
 fill-requires : tie.Need-fill-requires
 fill-requires c κs = simp length-take (omega (arith, tailed (c .before .before .before .before .before)))
 
-sub-k : tie.Need-sub-k
-sub-k c = search needs
-
-fill-requires-2 : tie.Need-fill-requires-2
-fill-requires-2 c κs = search needs
-
 returns : tie.Need-returns
 returns c =
     let s = c .before .before .before .before .before .before .before .before in
@@ -43,36 +34,6 @@ slice-aggregate-fill-2 c = simp length-take (omega arith)
 
 fill-requires-3 : tie.Need-fill-requires-3
 fill-requires-3 c κs = simp length-take (omega arith)
-
-sub-more : tie.Need-sub-more
-sub-more c = search needs
-
-part-more-start : tie.Need-part-more-start
-part-more-start c = search needs
-
-part-more-end : tie.Need-part-more-end
-part-more-end c = search needs
-
-mul-m : tie.Need-mul-m
-mul-m c = search needs
-
-sub-fill : tie.Need-sub-fill
-sub-fill c = search needs
-
-part-fill-start : tie.Need-part-fill-start
-part-fill-start c = search needs
-
-part-fill-end : tie.Need-part-fill-end
-part-fill-end c = search needs
-
-fill-requires-4 : tie.Need-fill-requires-4
-fill-requires-4 c κs = search needs
-
-slice-aggregate-after-blocks : tie.Need-slice-aggregate-after-blocks
-slice-aggregate-after-blocks c = search needs
-
-after-blocks-requires : tie.Need-after-blocks-requires
-after-blocks-requires c κs = search needs
 
 returns-2 : tie.Need-returns-2
 returns-2 c =
@@ -88,23 +49,23 @@ pub push-spec : {M : Type 1} → statement M
 push-spec =
     tie.close
     (tie.spec
-    wrapping-add-u64-requires
+    (λ c κs. search needs)
     array-share-prefix-t
     slice-aggregate-fill
     fill-requires
-    sub-k
-    fill-requires-2
+    (λ c. search needs)
+    (λ c κs. search needs)
     returns
     slice-aggregate-fill-2
     fill-requires-3
-    sub-more
-    part-more-start
-    part-more-end
-    mul-m
-    sub-fill
-    part-fill-start
-    part-fill-end
-    fill-requires-4
-    slice-aggregate-after-blocks
-    after-blocks-requires
+    (λ c. search needs)
+    (λ c. search needs)
+    (λ c. search needs)
+    (λ c. search needs)
+    (λ c. search needs)
+    (λ c. search needs)
+    (λ c. search needs)
+    (λ c κs. search needs)
+    (λ c. search needs)
+    (λ c κs. search needs)
     returns-2)

@@ -10,15 +10,6 @@ use borrow.Author.Needs.{needs}
 use Rattle.md5_blocks.proofs.blocks.block.Statement.{statement}
 use Rattle.md5_blocks.proofs.blocks.block.Tie as tie
 
-words-requires : tie.Need-words-requires
-words-requires c κs = search needs
-
-rounds-requires : tie.Need-rounds-requires
-rounds-requires c κs = search needs
-
-sum-requires : tie.Need-sum-requires
-sum-requires c κs = search needs
-
 returns : tie.Need-returns
 unfolding compress
 returns c =
@@ -29,4 +20,4 @@ returns c =
     (c .before .rounds .ensures ∙ ap₂ (λ (t x : List ℕ). steps t x 0 64 (a .w)) (s .pre) (c .before .before .before .words .ensures))
 
 pub block-spec : {M : Type 1} → statement M
-block-spec = tie.close (tie.spec words-requires rounds-requires sum-requires returns)
+block-spec = tie.close (tie.spec (λ c κs. search needs) (λ c κs. search needs) (λ c κs. search needs) returns)

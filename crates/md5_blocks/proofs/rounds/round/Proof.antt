@@ -6,27 +6,6 @@ use borrow.Author.Needs.{needs}
 use Rattle.md5_blocks.proofs.rounds.round.Statement.{statement}
 use Rattle.md5_blocks.proofs.rounds.round.Tie as tie
 
-four-requires : tie.Need-four-requires
-four-requires c κs = search needs
-
-add-four : tie.Need-add-four
-add-four c = search needs
-
-four-requires-2 : tie.Need-four-requires-2
-four-requires-2 c κs = search needs
-
-add-four-2 : tie.Need-add-four-2
-add-four-2 c = search needs
-
-four-requires-3 : tie.Need-four-requires-3
-four-requires-3 c κs = search needs
-
-add-four-3 : tie.Need-add-four-3
-add-four-3 c = search needs
-
-four-requires-4 : tie.Need-four-requires-4
-four-requires-4 c κs = search needs
-
 returns : tie.Need-returns
 returns c =
     let a = c .before .before .before .before .args in
@@ -37,11 +16,11 @@ pub round-spec : {M : Type 1} → statement M
 round-spec =
     tie.close
     (tie.spec
-    four-requires
-    add-four
-    four-requires-2
-    add-four-2
-    four-requires-3
-    add-four-3
-    four-requires-4
+    (λ c κs. search needs)
+    (λ c. search needs)
+    (λ c κs. search needs)
+    (λ c. search needs)
+    (λ c κs. search needs)
+    (λ c. search needs)
+    (λ c κs. search needs)
     returns)

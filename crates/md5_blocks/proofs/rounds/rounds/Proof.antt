@@ -6,18 +6,6 @@ use borrow.Author.Needs.{needs}
 use Rattle.md5_blocks.proofs.rounds.rounds.Statement.{statement}
 use Rattle.md5_blocks.proofs.rounds.rounds.Tie as tie
 
-round-requires : tie.Need-round-requires
-round-requires c κs = search needs
-
-round-requires-2 : tie.Need-round-requires-2
-round-requires-2 c κs = search needs
-
-round-requires-3 : tie.Need-round-requires-3
-round-requires-3 c κs = search needs
-
-round-requires-4 : tie.Need-round-requires-4
-round-requires-4 c κs = search needs
-
 returns : tie.Need-returns
 returns c =
     let a = c .before .before .before .before .args in
@@ -26,4 +14,4 @@ returns c =
 
 pub rounds-spec : {M : Type 1} → statement M
 rounds-spec =
-    tie.close (tie.spec round-requires round-requires-2 round-requires-3 round-requires-4 returns)
+    tie.close (tie.spec (λ c κs. search needs) (λ c κs. search needs) (λ c κs. search needs) (λ c κs. search needs) returns)

@@ -55,32 +55,17 @@ first-test c =
     c .matches2 .ensures
     ∙ ap (λ (t : List ℕ). equal (md5Of16k (entry-3 (c .before .before .before))) (md5 t)) (c .before .first-part .ensures)
 
-lone-refusal-requires : tie.Need-lone-refusal-requires
-lone-refusal-requires c κs = search needs
-
 returns : tie.Need-returns
 returns c =
     let found = c .before .lone-refusal .ensures in found ∙ sym (check-refused _ _ (λ z. c .if1 .taken (found ∙ z)))
-
-read64-requires : tie.Need-read64-requires
-read64-requires c κs = search needs
 
 returns-2 : tie.Need-returns-2
 returns-2 c =
     let one = c .before .before in
     sym (check-lone (entry-1 one) (contents-1 one) (lone one) ∙ simp (ne-eqb _ _ (λ z. c .if2 .taken (c .before .read64 .ensures ∙ z))))
 
-sub-matches : tie.Need-sub-matches
-sub-matches c = search needs
-
-part-matches-start : tie.Need-part-matches-start
-part-matches-start c = search needs
-
 part-matches-end : tie.Need-part-matches-end
 part-matches-end c = omega (arith, lone-passed _ (lone (c .before .before)))
-
-matches-requires : tie.Need-matches-requires
-matches-requires c κs = search needs
 
 returns-3 : tie.Need-returns-3
 returns-3 c =
@@ -88,20 +73,8 @@ returns-3 c =
     sym (check-lone (entry-2 two) (contents-2 two) (lone (two .before .before))
     ∙ simp (size-passed two, sym (c .before .matches .ensures) ∙ not-true (c .before .matches .result) (c .if3 .taken)))
 
-sub-matches-2 : tie.Need-sub-matches-2
-sub-matches-2 c = search needs
-
-part-matches-start-2 : tie.Need-part-matches-start-2
-part-matches-start-2 c = search needs
-
 part-matches-end-2 : tie.Need-part-matches-end-2
 part-matches-end-2 c = omega (arith, lone-passed _ (lone (c .before .before .before .before .before)))
-
-first-part-requires : tie.Need-first-part-requires
-first-part-requires c κs = search needs
-
-matches-requires-2 : tie.Need-matches-requires-2
-matches-requires-2 c κs = search needs
 
 returns-4 : tie.Need-returns-4
 returns-4 c =
@@ -121,19 +94,19 @@ pub check-spec : {M : Type 1} → statement M
 check-spec =
     tie.close
     (tie.spec
-    lone-refusal-requires
+    (λ c κs. search needs)
     returns
-    read64-requires
+    (λ c κs. search needs)
     returns-2
-    sub-matches
-    part-matches-start
+    (λ c. search needs)
+    (λ c. search needs)
     part-matches-end
-    matches-requires
+    (λ c κs. search needs)
     returns-3
-    sub-matches-2
-    part-matches-start-2
+    (λ c. search needs)
+    (λ c. search needs)
     part-matches-end-2
-    first-part-requires
-    matches-requires-2
+    (λ c κs. search needs)
+    (λ c κs. search needs)
     returns-4
     returns-5)

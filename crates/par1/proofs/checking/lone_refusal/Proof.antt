@@ -20,29 +20,8 @@ entry-refusal c =
     ap (itemRefusal (length (now (c .before .before .before .before .before .args .entry))))
     (sym (c .before .before .before .first .ensures) ∙ c .before .length .given .1)
 
-first-requires : tie.Need-first-requires
-first-requires c κs = search needs
-
-enum-known-length : tie.Need-enum-known-length
-enum-known-length c = search needs
-
-fault-number-requires : tie.Need-fault-number-requires
-fault-number-requires c κs = search needs
-
 returns : tie.Need-returns
 returns c = c .fault-number .ensures ∙ sym (entry-refusal (c .before .before) ∙ simp (ne-eqb _ _ (c .before .if1 .taken)))
-
-enum-told : tie.Need-enum-told
-enum-told c = search needs
-
-fault-number-requires-2 : tie.Need-fault-number-requires-2
-fault-number-requires-2 c κs = search needs
-
-enum-known-fault : tie.Need-enum-known-fault
-enum-known-fault c = search needs
-
-fault-number-requires-3 : tie.Need-fault-number-requires-3
-fault-number-requires-3 c κs = search needs
 
 returns-2 : tie.Need-returns-2
 returns-2 c = sym (entry-refusal (c .before) ∙ simp (eq-eqb _ _ (c .if1 .left)))
@@ -65,14 +44,14 @@ pub lone-refusal-spec : {M : Type 1} → statement M
 lone-refusal-spec =
     tie.close
     (tie.spec
-    first-requires
-    enum-known-length
-    fault-number-requires
+    (λ c κs. search needs)
+    (λ c. search needs)
+    (λ c κs. search needs)
     returns
-    enum-told
-    fault-number-requires-2
-    enum-known-fault
-    fault-number-requires-3
+    (λ c. search needs)
+    (λ c κs. search needs)
+    (λ c. search needs)
+    (λ c κs. search needs)
     returns-2
     returns-3
     returns-4)

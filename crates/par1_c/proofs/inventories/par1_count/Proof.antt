@@ -8,18 +8,6 @@ use Rattle.par1_c.proofs.inventories.par1_count.Tie as tie
 returns : tie.Need-returns
 returns c = counted-other _ _ (c .if1 .taken)
 
-loaded-requires : tie.Need-loaded-requires
-loaded-requires c κs = search needs
-
-count-requires : tie.Need-count-requires
-count-requires c κs = search needs
-
-store-count-requires : tie.Need-store-count-requires
-store-count-requires c κs = search needs
-
-same-length : tie.Need-same-length
-same-length c = search needs
-
 returns-2 : tie.Need-returns-2
 returns-2 c =
     let s = c .before .before in
@@ -29,4 +17,4 @@ returns-2 c =
 pub par1-count-spec : {M : Type 1} → statement M
 par1-count-spec =
     tie.close
-    (tie.spec returns loaded-requires count-requires store-count-requires same-length returns-2)
+    (tie.spec returns (λ c κs. search needs) (λ c κs. search needs) (λ c κs. search needs) (λ c. search needs) returns-2)

@@ -8,19 +8,10 @@ use borrow.Author.Needs.{needs}
 use Rattle.par1_c.proofs.inventories.par1_open.Statement.{statement}
 use Rattle.par1_c.proofs.inventories.par1_open.Tie as tie
 
-opened-requires : tie.Need-opened-requires
-opened-requires c κs = search needs
-
-store-requires : tie.Need-store-requires
-store-requires c κs = search needs
-
-same-length : tie.Need-same-length
-same-length c = search needs
-
 returns : tie.Need-returns
 returns c =
     let s = c .before .before in
     s .store .ensures ∙ ap (λ (o : Outcome). storedBy o (now (s .before .before .before .before .before .args .out))) (s .before .before .opened .ensures)
 
 pub par1-open-spec : {M : Type 1} → statement M
-par1-open-spec = tie.close (tie.spec opened-requires store-requires same-length returns)
+par1-open-spec = tie.close (tie.spec (λ c κs. search needs) (λ c κs. search needs) (λ c. search needs) returns)

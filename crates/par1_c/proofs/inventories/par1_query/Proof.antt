@@ -13,18 +13,6 @@ use Rattle.par1_c.proofs.inventories.par1_query.Tie as tie
 returns : tie.Need-returns
 returns c = otherLength (ne-eqb _ _ (c .if1 .taken)) refl refl
 
-loaded-requires : tie.Need-loaded-requires
-loaded-requires c κs = search needs
-
-query-requires : tie.Need-query-requires
-query-requires c κs = search needs
-
-answer-number-requires : tie.Need-answer-number-requires
-answer-number-requires c κs = search needs
-
-same-length : tie.Need-same-length
-same-length c = search needs
-
 returns-2 : tie.Need-returns-2
 returns-2 c =
     let q = c .before .before .before in
@@ -38,4 +26,4 @@ returns-2 c =
 pub par1-query-spec : {M : Type 1} → statement M
 par1-query-spec =
     tie.close
-    (tie.spec returns loaded-requires query-requires answer-number-requires same-length returns-2)
+    (tie.spec returns (λ c κs. search needs) (λ c κs. search needs) (λ c κs. search needs) (λ c. search needs) returns-2)

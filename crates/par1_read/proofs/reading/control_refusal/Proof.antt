@@ -22,12 +22,6 @@ control-test c =
     let f : List ℕ = now (c .before .before .before .before .args .file) in
     c .matches .ensures ∙ ap (λ (t : List ℕ). equal (controlHashOf f) (md5 t)) (part-to-end f 32)
 
-sub-matches : tie.Need-sub-matches
-sub-matches c = search needs
-
-part-matches-start : tie.Need-part-matches-start
-part-matches-start c = search needs
-
 part-matches-end : tie.Need-part-matches-end
 part-matches-end c = omega (arith, c .before .pre)
 
@@ -36,12 +30,6 @@ sub-matches-2 c = omega (arith, c .before .before .pre)
 
 part-matches-start-2 : tie.Need-part-matches-start-2
 part-matches-start-2 c = omega (arith, c .before .before .pre)
-
-part-matches-end-2 : tie.Need-part-matches-end-2
-part-matches-end-2 c = search needs
-
-matches-requires : tie.Need-matches-requires
-matches-requires c κs = search needs
 
 returns : tie.Need-returns
 unfolding controlRefusal
@@ -55,12 +43,12 @@ pub control-refusal-spec : {M : Type 1} → statement M
 control-refusal-spec =
     tie.close
     (tie.spec
-    sub-matches
-    part-matches-start
+    (λ c. search needs)
+    (λ c. search needs)
     part-matches-end
     sub-matches-2
     part-matches-start-2
-    part-matches-end-2
-    matches-requires
+    (λ c. search needs)
+    (λ c κs. search needs)
     returns
     returns-2)

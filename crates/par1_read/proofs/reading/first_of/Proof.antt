@@ -9,8 +9,5 @@ use Rattle.par1_read.proofs.reading.first_of.Tie as tie
 returns : tie.Need-returns
 returns c = sym (or-else _ _ (c .if1 .taken))
 
-returns-2 : tie.Need-returns-2
-returns-2 c = search needs
-
 pub first-of-spec : {M : Type 1} → statement M
-first-of-spec = tie.close (tie.spec returns returns-2)
+first-of-spec = tie.close (tie.spec returns (λ c. search needs))

@@ -47,34 +47,19 @@ passed-3 c = sym (version-test (c .before)) ∙ not-false (c .before .version-al
 passed-4 : (c : tie.Else4) → layoutAllowed (file-4 c) ≡ true
 passed-4 c = sym (c .before .layout-allowed .ensures) ∙ not-false (c .before .layout-allowed .result) (c .if4 .left)
 
-length-allowed-requires : tie.Need-length-allowed-requires
-length-allowed-requires c κs = search needs
-
 returns : tie.Need-returns
 unfolding headerRefusal
 returns c = simp (sym (c .before .length-allowed .ensures) ∙ not-true (c .before .length-allowed .result) (c .if1 .taken))
 
-read64-requires : tie.Need-read64-requires
-read64-requires c κs = search needs
-
 returns-2 : tie.Need-returns-2
 unfolding headerRefusal
 returns-2 c = simp (passed-1 (c .before .before), ne-eqb _ _ (λ e. c .if2 .taken (c .before .read64 .ensures ∙ e ∙ signature-is)))
-
-read32-requires : tie.Need-read32-requires
-read32-requires c κs = search needs
-
-version-allowed-requires : tie.Need-version-allowed-requires
-version-allowed-requires c κs = search needs
 
 returns-3 : tie.Need-returns-3
 unfolding headerRefusal
 returns-3 c =
     let two = c .before .before .before in
     simp (passed-1 (two .before .before), passed-2 two, sym (version-test (c .before)) ∙ not-true (c .before .version-allowed .result) (c .if3 .taken))
-
-layout-allowed-requires : tie.Need-layout-allowed-requires
-layout-allowed-requires c κs = search needs
 
 returns-4 : tie.Need-returns-4
 unfolding headerRefusal
@@ -94,13 +79,13 @@ pub header-refusal-spec : {M : Type 1} → statement M
 header-refusal-spec =
     tie.close
     (tie.spec
-    length-allowed-requires
+    (λ c κs. search needs)
     returns
-    read64-requires
+    (λ c κs. search needs)
     returns-2
-    read32-requires
-    version-allowed-requires
+    (λ c κs. search needs)
+    (λ c κs. search needs)
     returns-3
-    layout-allowed-requires
+    (λ c κs. search needs)
     returns-4
     returns-5)

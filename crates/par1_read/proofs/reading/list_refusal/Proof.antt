@@ -6,17 +6,8 @@ use borrow.Author.Needs.{needs}
 use Rattle.par1_read.proofs.reading.list_refusal.Statement.{statement}
 use Rattle.par1_read.proofs.reading.list_refusal.Tie as tie
 
-enum-known-walked : tie.Need-enum-known-walked
-enum-known-walked c = search needs
-
 totals-refusal-requires : tie.Need-totals-refusal-requires
 totals-refusal-requires c κs = c .before .before .before .before .before .pre
-
-enum-known-walked-2 : tie.Need-enum-known-walked-2
-enum-known-walked-2 c = search needs
-
-fault-number-requires : tie.Need-fault-number-requires
-fault-number-requires c κs = search needs
 
 returns : tie.Need-returns
 returns c = c .totals-refusal .ensures ∙ ap (listRefusal _) (sym (c .before .before .walked .given .1))
@@ -28,9 +19,9 @@ pub list-refusal-spec : {M : Type 1} → statement M
 list-refusal-spec =
     tie.close
     (tie.spec
-    enum-known-walked
+    (λ c. search needs)
     totals-refusal-requires
-    enum-known-walked-2
-    fault-number-requires
+    (λ c. search needs)
+    (λ c κs. search needs)
     returns
     returns-2)

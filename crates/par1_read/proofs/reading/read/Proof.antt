@@ -43,32 +43,17 @@ later-is c =
     ap₂ (λ (n m : ℕ). orElse n m) (c .before .control-refusal .ensures) (c .list-refusal .ensures ∙ ap (listRefusal (file-of w)) (walk-is w))
     ∙ sym (later-refusal (file-of w) (none-yet (w .before .before .before)))
 
-header-refusal-requires : tie.Need-header-refusal-requires
-header-refusal-requires c κs = search needs
-
 returns : tie.Need-returns
 returns c =
     let f : List ℕ = now (c .before .before .before .args .file) in
     let e = c .before .header-refusal .ensures in
     sym (read-refused f _ (e ∙ sym (header-refusal f (λ z. c .if1 .taken (e ∙ z)))) (c .if1 .taken))
 
-read64-requires : tie.Need-read64-requires
-read64-requires c κs = search needs
-
 add-list-end : tie.Need-add-list-end
 add-list-end c = let p = passed (c .before) in omega (arith, c .read64 .ensures, p .layout .data-start, p .layout .data-end, p .size .high)
 
-sub-list : tie.Need-sub-list
-sub-list c = search needs
-
-part-list-start : tie.Need-part-list-start
-part-list-start c = search needs
-
 part-list-end : tie.Need-part-list-end
 part-list-end c = let p = passed (c .before) in omega (arith, c .read64 .ensures, p .layout .data-start, p .layout .data-end, p .size .high)
-
-walk-requires : tie.Need-walk-requires
-walk-requires c κs = search needs
 
 control-refusal-requires : tie.Need-control-refusal-requires
 control-refusal-requires c κs = omega (arith, passed (c .before .before .before) .size .low)
@@ -77,31 +62,10 @@ list-refusal-requires : tie.Need-list-refusal-requires
 list-refusal-requires c κs =
     let w = c .before in (omega (arith, passed (w .before .before .before) .size .low), list-is w)
 
-first-of-requires : tie.Need-first-of-requires
-first-of-requires c κs = search needs
-
 returns-2 : tie.Need-returns-2
 returns-2 c =
     let l = c .before .before in
     sym (read-refused (file-of (l .before .before)) _ (c .before .first-of .ensures ∙ later-is l) (c .if2 .taken))
-
-read32-requires : tie.Need-read32-requires
-read32-requires c κs = search needs
-
-read64-requires-2 : tie.Need-read64-requires-2
-read64-requires-2 c κs = search needs
-
-read64-requires-3 : tie.Need-read64-requires-3
-read64-requires-3 c κs = search needs
-
-saved-in-requires : tie.Need-saved-in-requires
-saved-in-requires c κs = search needs
-
-read64-requires-4 : tie.Need-read64-requires-4
-read64-requires-4 c κs = search needs
-
-read64-requires-5 : tie.Need-read64-requires-5
-read64-requires-5 c κs = search needs
 
 returns-3 : tie.Need-returns-3
 returns-3 c =
@@ -117,22 +81,22 @@ pub read-spec : {M : Type 1} → statement M
 read-spec =
     tie.close
     (tie.spec
-    header-refusal-requires
+    (λ c κs. search needs)
     returns
-    read64-requires
+    (λ c κs. search needs)
     add-list-end
-    sub-list
-    part-list-start
+    (λ c. search needs)
+    (λ c. search needs)
     part-list-end
-    walk-requires
+    (λ c κs. search needs)
     control-refusal-requires
     list-refusal-requires
-    first-of-requires
+    (λ c κs. search needs)
     returns-2
-    read32-requires
-    read64-requires-2
-    read64-requires-3
-    saved-in-requires
-    read64-requires-4
-    read64-requires-5
+    (λ c κs. search needs)
+    (λ c κs. search needs)
+    (λ c κs. search needs)
+    (λ c κs. search needs)
+    (λ c κs. search needs)
+    (λ c κs. search needs)
     returns-3)

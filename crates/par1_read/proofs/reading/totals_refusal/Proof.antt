@@ -69,46 +69,22 @@ data-test c =
     c .data-allowed .ensures
     ∙ ap₂ (λ (n k : ℕ). dataAllowed n (totals-8 e .greatest) k) (e .before .before .before .before .before .read642 .ensures) (c .before .read643 .ensures)
 
-read64-requires : tie.Need-read64-requires
-read64-requires c κs = search needs
-
 returns : tie.Need-returns
 unfolding totalsRefusal
 returns c = simp (ne-eqb _ _ (λ e. c .if1 .taken (e ∙ sym (c .before .before .read64 .ensures))))
-
-read64-requires-2 : tie.Need-read64-requires-2
-read64-requires-2 c κs = search needs
-
-number-allowed-requires : tie.Need-number-allowed-requires
-number-allowed-requires c κs = search needs
 
 returns-2 : tie.Need-returns-2
 unfolding totalsRefusal
 returns-2 c = simp (passed-6 (c .before .before .before), sym (number-test (c .before)) ∙ not-true (c .before .number-allowed .result) (c .if2 .taken))
 
-sub-matches-set : tie.Need-sub-matches-set
-sub-matches-set c = search needs
-
-part-matches-set-start : tie.Need-part-matches-set-start
-part-matches-set-start c = search needs
-
 part-matches-set-end : tie.Need-part-matches-set-end
 part-matches-set-end c = omega (arith, c .before .before .before .before .before .before .before .before .pre .0)
-
-matches-set-requires : tie.Need-matches-set-requires
-matches-set-requires c κs = search needs
 
 returns-3 : tie.Need-returns-3
 unfolding totalsRefusal
 returns-3 c =
     let b = c .before .before .before in
     simp (passed-6 (b .before .before .before), passed-7 b, sym (set-test (c .before)) ∙ not-true (c .before .matches-set .result) (c .if3 .taken))
-
-read64-requires-3 : tie.Need-read64-requires-3
-read64-requires-3 c κs = search needs
-
-data-allowed-requires : tie.Need-data-allowed-requires
-data-allowed-requires c κs = search needs
 
 returns-4 : tie.Need-returns-4
 unfolding totalsRefusal
@@ -128,17 +104,17 @@ pub totals-refusal-spec : {M : Type 1} → statement M
 totals-refusal-spec =
     tie.close
     (tie.spec
-    read64-requires
+    (λ c κs. search needs)
     returns
-    read64-requires-2
-    number-allowed-requires
+    (λ c κs. search needs)
+    (λ c κs. search needs)
     returns-2
-    sub-matches-set
-    part-matches-set-start
+    (λ c. search needs)
+    (λ c. search needs)
     part-matches-set-end
-    matches-set-requires
+    (λ c κs. search needs)
     returns-3
-    read64-requires-3
-    data-allowed-requires
+    (λ c κs. search needs)
+    (λ c κs. search needs)
     returns-4
     returns-5)

@@ -7,17 +7,8 @@ use borrow.Author.Needs.{needs}
 use Rattle.par1_rules.proofs.hashes.matches.Statement.{statement}
 use Rattle.par1_rules.proofs.hashes.matches.Tie as tie
 
-digest-requires : tie.Need-digest-requires
-digest-requires c κs = search needs
-
-slice-aggregate-same : tie.Need-slice-aggregate-same
-slice-aggregate-same c = search needs
-
-same-requires : tie.Need-same-requires
-same-requires c κs = search needs
-
 returns : tie.Need-returns
 returns c = c .same .ensures ∙ ap (equal (now (c .before .before .before .before .before .args .hash))) (c .before .before .digest .ensures)
 
 pub matches-spec : {M : Type 1} → statement M
-matches-spec = tie.close (tie.spec digest-requires slice-aggregate-same same-requires returns)
+matches-spec = tie.close (tie.spec (λ c κs. search needs) (λ c. search needs) (λ c κs. search needs) returns)

@@ -5,12 +5,6 @@ use borrow.Author.Needs.{needs}
 use Rattle.par1_rules.proofs.hashes.with_entry.Statement.{statement}
 use Rattle.par1_rules.proofs.hashes.with_entry.Tie as tie
 
-is-saved-requires : tie.Need-is-saved-requires
-is-saved-requires c κs = search needs
-
-push-requires : tie.Need-push-requires
-push-requires c κs = search needs
-
 returns : tie.Need-returns
 returns c = c .push .ensures ∙ simp (sym (c .before .before .is-saved .ensures) ∙ c .before .if1 .taken)
 
@@ -18,4 +12,4 @@ returns-2 : tie.Need-returns-2
 returns-2 c = simp (sym (c .before .is-saved .ensures) ∙ c .if1 .left)
 
 pub with-entry-spec : {M : Type 1} → statement M
-with-entry-spec = tie.close (tie.spec is-saved-requires push-requires returns returns-2)
+with-entry-spec = tie.close (tie.spec (λ c κs. search needs) (λ c κs. search needs) returns returns-2)

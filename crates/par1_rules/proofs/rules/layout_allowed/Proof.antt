@@ -8,29 +8,17 @@ use borrow.Author.Needs.{needs}
 use Rattle.par1_rules.proofs.rules.layout_allowed.Statement.{statement}
 use Rattle.par1_rules.proofs.rules.layout_allowed.Tie as tie
 
-read64-requires : tie.Need-read64-requires
-read64-requires c κs = search needs
-
 returns : tie.Need-returns
 returns c = sym (not-laid (now (c .before .before .before .args .file)) (λ l. c .if1 .taken (c .before .read64 .ensures ∙ l .list-start)))
 
-read64-requires-2 : tie.Need-read64-requires-2
-read64-requires-2 c κs = search needs
-
 returns-2 : tie.Need-returns-2
 returns-2 c = sym (not-laid (now (c .before .before .before .before .before .args .file)) (λ l. omega (arith, l .data-start, c .before .read642 .ensures)))
-
-read64-requires-3 : tie.Need-read64-requires-3
-read64-requires-3 c κs = search needs
 
 returns-3 : tie.Need-returns-3
 returns-3 c = sym (not-laid (now (c .before .before .before .before .before .before .before .args .file)) (λ l. omega (arith, l .data-start, c .before .before .before .read642 .ensures, c .before .read643 .ensures)))
 
 returns-4 : tie.Need-returns-4
 returns-4 c = sym (not-laid (now (c .before .before .before .before .before .before .before .before .args .file)) (λ l. omega (arith, l .data-end, c .before .before .before .before .read642 .ensures)))
-
-read64-requires-4 : tie.Need-read64-requires-4
-read64-requires-4 c κs = search needs
 
 returns-5 : tie.Need-returns-5
 returns-5 c = sym (not-laid (now (c .before .before .before .before .before .before .before .before .before .before .args .file)) (λ l. omega (arith, l .data-end, c .before .before .before .before .before .before .read642 .ensures, c .before .read644 .ensures)))
@@ -49,13 +37,13 @@ pub layout-allowed-spec : {M : Type 1} → statement M
 layout-allowed-spec =
     tie.close
     (tie.spec
-    read64-requires
+    (λ c κs. search needs)
     returns
-    read64-requires-2
+    (λ c κs. search needs)
     returns-2
-    read64-requires-3
+    (λ c κs. search needs)
     returns-3
     returns-4
-    read64-requires-4
+    (λ c κs. search needs)
     returns-5
     returns-6)

@@ -20,9 +20,6 @@ returns-3 : tie.Need-returns-3
 unfolding numberAllowed
 returns-3 c = simp (ne-eqb _ _ (c .before .if2 .left), c .if3 .taken)
 
-sub-if4 : tie.Need-sub-if4
-sub-if4 c = search needs
-
 returns-4 : tie.Need-returns-4
 unfolding numberAllowed
 returns-4 c =
@@ -36,4 +33,4 @@ returns-5 c =
     simp (le-leb _ _ (c .before .before .before .if1 .left), ne-eqb _ _ (c .before .before .if2 .left), le-leb 1 (a .saved) (omega arith), le-leb (a .number + a .saved) 255 (omega arith))
 
 pub number-allowed-spec : {M : Type 1} → statement M
-number-allowed-spec = tie.close (tie.spec returns returns-2 returns-3 sub-if4 returns-4 returns-5)
+number-allowed-spec = tie.close (tie.spec returns returns-2 returns-3 (λ c. search needs) returns-4 returns-5)

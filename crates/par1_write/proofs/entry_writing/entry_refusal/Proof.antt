@@ -7,25 +7,13 @@ use borrow.Author.Needs.{needs}
 use Rattle.par1_write.proofs.entry_writing.entry_refusal.Statement.{statement}
 use Rattle.par1_write.proofs.entry_writing.entry_refusal.Tie as tie
 
-fault-number-requires : tie.Need-fault-number-requires
-fault-number-requires c κs = search needs
-
 returns : tie.Need-returns
 unfolding entryRefusal
 returns c = c .fault-number .ensures ∙ simp (lt-leb _ _ (c .before .if1 .taken))
 
-fault-number-requires-2 : tie.Need-fault-number-requires-2
-fault-number-requires-2 c κs = search needs
-
 returns-2 : tie.Need-returns-2
 unfolding entryRefusal
 returns-2 c = c .fault-number2 .ensures ∙ simp (le-leb _ _ (c .before .before .if1 .left), lt-leb _ _ (c .before .if2 .taken))
-
-name-bytes-allowed-requires : tie.Need-name-bytes-allowed-requires
-name-bytes-allowed-requires c κs = search needs
-
-fault-number-requires-3 : tie.Need-fault-number-requires-3
-fault-number-requires-3 c κs = search needs
 
 returns-3 : tie.Need-returns-3
 unfolding entryRefusal
@@ -45,11 +33,11 @@ pub entry-refusal-spec : {M : Type 1} → statement M
 entry-refusal-spec =
     tie.close
     (tie.spec
-    fault-number-requires
+    (λ c κs. search needs)
     returns
-    fault-number-requires-2
+    (λ c κs. search needs)
     returns-2
-    name-bytes-allowed-requires
-    fault-number-requires-3
+    (λ c κs. search needs)
+    (λ c κs. search needs)
     returns-3
     returns-4)

@@ -15,12 +15,9 @@ returns-2 : tie.Need-returns-2
 unfolding nameBytesAllowed
 returns-2 c = simp (le-leb _ _ (c .before .if1 .left), ne-eqb _ _ (c .if2 .taken))
 
-name-allowed-requires : tie.Need-name-allowed-requires
-name-allowed-requires c κs = search needs
-
 returns-3 : tie.Need-returns-3
 unfolding nameBytesAllowed
 returns-3 c = c .name-allowed .ensures ∙ simp (le-leb _ _ (c .before .before .if1 .left), eq-eqb _ _ (c .before .if2 .left))
 
 pub name-bytes-allowed-spec : {M : Type 1} → statement M
-name-bytes-allowed-spec = tie.close (tie.spec returns returns-2 name-allowed-requires returns-3)
+name-bytes-allowed-spec = tie.close (tie.spec returns returns-2 (λ c κs. search needs) returns-3)

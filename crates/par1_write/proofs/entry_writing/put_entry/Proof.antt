@@ -13,45 +13,6 @@ use borrow.Author.Needs.{needs}
 use Rattle.par1_write.proofs.entry_writing.put_entry.Statement.{statement}
 use Rattle.par1_write.proofs.entry_writing.put_entry.Tie as tie
 
-add-entry-size : tie.Need-add-entry-size
-add-entry-size c = search needs
-
-digest-requires : tie.Need-digest-requires
-digest-requires c κs = search needs
-
-first-part-requires : tie.Need-first-part-requires
-first-part-requires c κs = search needs
-
-digest-requires-2 : tie.Need-digest-requires-2
-digest-requires-2 c κs = search needs
-
-write64-requires : tie.Need-write64-requires
-write64-requires c κs = search needs
-
-write64-requires-2 : tie.Need-write64-requires-2
-write64-requires-2 c κs = search needs
-
-write64-requires-3 : tie.Need-write64-requires-3
-write64-requires-3 c κs = search needs
-
-slice-aggregate-put : tie.Need-slice-aggregate-put
-slice-aggregate-put c = search needs
-
-put-requires : tie.Need-put-requires
-put-requires c κs = search needs
-
-slice-aggregate-put-2 : tie.Need-slice-aggregate-put-2
-slice-aggregate-put-2 c = search needs
-
-put-requires-2 : tie.Need-put-requires-2
-put-requires-2 c κs = search needs
-
-put-requires-3 : tie.Need-put-requires-3
-put-requires-3 c κs = search needs
-
-same-length : tie.Need-same-length
-same-length c = search needs
-
 returns : tie.Need-returns
 unfolding entryBytes
 returns c =
@@ -76,17 +37,17 @@ pub put-entry-spec : {M : Type 1} → statement M
 put-entry-spec =
     tie.close
     (tie.spec
-    add-entry-size
-    digest-requires
-    first-part-requires
-    digest-requires-2
-    write64-requires
-    write64-requires-2
-    write64-requires-3
-    slice-aggregate-put
-    put-requires
-    slice-aggregate-put-2
-    put-requires-2
-    put-requires-3
-    same-length
+    (λ c. search needs)
+    (λ c κs. search needs)
+    (λ c κs. search needs)
+    (λ c κs. search needs)
+    (λ c κs. search needs)
+    (λ c κs. search needs)
+    (λ c κs. search needs)
+    (λ c. search needs)
+    (λ c κs. search needs)
+    (λ c. search needs)
+    (λ c κs. search needs)
+    (λ c κs. search needs)
+    (λ c. search needs)
     returns)

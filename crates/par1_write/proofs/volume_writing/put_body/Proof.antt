@@ -9,30 +9,6 @@ use borrow.Author.Needs.{needs}
 use Rattle.par1_write.proofs.volume_writing.put_body.Statement.{statement}
 use Rattle.par1_write.proofs.volume_writing.put_body.Tie as tie
 
-of-set-requires : tie.Need-of-set-requires
-of-set-requires c κs = search needs
-
-slice-aggregate-put : tie.Need-slice-aggregate-put
-slice-aggregate-put c = search needs
-
-put-requires : tie.Need-put-requires
-put-requires c κs = search needs
-
-put-numbers-requires : tie.Need-put-numbers-requires
-put-numbers-requires c κs = search needs
-
-put-requires-2 : tie.Need-put-requires-2
-put-requires-2 c κs = search needs
-
-add-put : tie.Need-add-put
-add-put c = search needs
-
-put-requires-3 : tie.Need-put-requires-3
-put-requires-3 c κs = search needs
-
-same-length : tie.Need-same-length
-same-length c = search needs
-
 returns : tie.Need-returns
 unfolding bodyBytes
 returns c =
@@ -49,12 +25,12 @@ pub put-body-spec : {M : Type 1} → statement M
 put-body-spec =
     tie.close
     (tie.spec
-    of-set-requires
-    slice-aggregate-put
-    put-requires
-    put-numbers-requires
-    put-requires-2
-    add-put
-    put-requires-3
-    same-length
+    (λ c κs. search needs)
+    (λ c. search needs)
+    (λ c κs. search needs)
+    (λ c κs. search needs)
+    (λ c κs. search needs)
+    (λ c. search needs)
+    (λ c κs. search needs)
+    (λ c. search needs)
     returns)

@@ -11,36 +11,6 @@ use borrow.Author.Needs.{needs}
 use Rattle.par1_write.proofs.volume_writing.put_head.Statement.{statement}
 use Rattle.par1_write.proofs.volume_writing.put_head.Tie as tie
 
-sub-digest : tie.Need-sub-digest
-sub-digest c = search needs
-
-part-digest-start : tie.Need-part-digest-start
-part-digest-start c = search needs
-
-part-digest-end : tie.Need-part-digest-end
-part-digest-end c = search needs
-
-digest-requires : tie.Need-digest-requires
-digest-requires c κs = search needs
-
-write64-requires : tie.Need-write64-requires
-write64-requires c κs = search needs
-
-write32-requires : tie.Need-write32-requires
-write32-requires c κs = search needs
-
-write32-requires-2 : tie.Need-write32-requires-2
-write32-requires-2 c κs = search needs
-
-slice-aggregate-put : tie.Need-slice-aggregate-put
-slice-aggregate-put c = search needs
-
-put-requires : tie.Need-put-requires
-put-requires c κs = search needs
-
-same-length : tie.Need-same-length
-same-length c = search needs
-
 returns : tie.Need-returns
 unfolding headBytes
 returns c =
@@ -58,14 +28,14 @@ pub put-head-spec : {M : Type 1} → statement M
 put-head-spec =
     tie.close
     (tie.spec
-    sub-digest
-    part-digest-start
-    part-digest-end
-    digest-requires
-    write64-requires
-    write32-requires
-    write32-requires-2
-    slice-aggregate-put
-    put-requires
-    same-length
+    (λ c. search needs)
+    (λ c. search needs)
+    (λ c. search needs)
+    (λ c κs. search needs)
+    (λ c κs. search needs)
+    (λ c κs. search needs)
+    (λ c κs. search needs)
+    (λ c. search needs)
+    (λ c κs. search needs)
+    (λ c. search needs)
     returns)

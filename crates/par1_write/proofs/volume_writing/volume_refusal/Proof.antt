@@ -20,24 +20,15 @@ number-passed c = sym (c .before .number-allowed .ensures) ∙ not-false (c .bef
 data-passed : (c : tie.Else2) → let a = c .before .before .before .before .args in dataAllowed (a .number) (a .totals .greatest) (a .area) ≡ true
 data-passed c = sym (c .before .data-allowed .ensures) ∙ not-false (c .before .data-allowed .result) (c .if2 .left)
 
-number-allowed-requires : tie.Need-number-allowed-requires
-number-allowed-requires c κs = search needs
-
 returns : tie.Need-returns
 unfolding volumeRefusal
 returns c = simp (sym (c .before .number-allowed .ensures) ∙ not-true (c .before .number-allowed .result) (c .if1 .taken))
-
-data-allowed-requires : tie.Need-data-allowed-requires
-data-allowed-requires c κs = search needs
 
 returns-2 : tie.Need-returns-2
 unfolding volumeRefusal
 returns-2 c =
     let failed = sym (c .before .data-allowed .ensures) ∙ not-true (c .before .data-allowed .result) (c .if2 .taken) in
     simp (number-passed (c .before .before), failed)
-
-sub-most : tie.Need-sub-most
-sub-most c = search needs
 
 returns-3 : tie.Need-returns-3
 unfolding volumeRefusal
@@ -62,11 +53,11 @@ pub volume-refusal-spec : {M : Type 1} → statement M
 volume-refusal-spec =
     tie.close
     (tie.spec
-    number-allowed-requires
+    (λ c κs. search needs)
     returns
-    data-allowed-requires
+    (λ c κs. search needs)
     returns-2
-    sub-most
+    (λ c. search needs)
     returns-3
     returns-4
     returns-5)

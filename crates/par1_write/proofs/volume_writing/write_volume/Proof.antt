@@ -26,20 +26,8 @@ short : (c : tie.Else1)
     Between (96 + length (now (a .list)) + length (now (a .«data»)))
 short c = volume-passed _ _ _ _ (sym (c .before .volume-refusal .ensures) ∙ c .if1 .left) .size
 
-walk-requires : tie.Need-walk-requires
-walk-requires c κs = search needs
-
-enum-known-totals : tie.Need-enum-known-totals
-enum-known-totals c = search needs
-
-volume-refusal-requires : tie.Need-volume-refusal-requires
-volume-refusal-requires c κs = search needs
-
 returns : tie.Need-returns
 returns c = volume-refused _ _ _ _ _ (walk-is (c .before .before .before)) (c .before .volume-refusal .ensures) (c .if1 .taken) refl
-
-add-total : tie.Need-add-total
-add-total c = search needs
 
 add-total-2 : tie.Need-add-total-2
 add-total-2 c = omega (arith, short c .high)
@@ -49,21 +37,9 @@ returns-2 c =
     let k = c .before in
     volume-short _ _ _ _ _ (walk-is (k .before .before .before)) (k .before .volume-refusal .ensures) (k .if1 .left) (c .if2 .taken)
 
-put-body-requires : tie.Need-put-body-requires
-put-body-requires c κs = search needs
-
 put-head-requires : tie.Need-put-head-requires
 put-head-requires c κs =
     (omega arith, omega (arith, simp length-sets at (ap length (c .before .before .before .put-body .ensures))))
-
-enum-known-fault : tie.Need-enum-known-fault
-enum-known-fault c = search needs
-
-fault-number-requires : tie.Need-fault-number-requires
-fault-number-requires c κs = search needs
-
-same-length : tie.Need-same-length
-same-length c = search needs
 
 returns-3 : tie.Need-returns-3
 returns-3 c =
@@ -83,17 +59,17 @@ pub write-volume-spec : {M : Type 1} → statement M
 write-volume-spec =
     tie.close
     (tie.spec
-    walk-requires
-    enum-known-totals
-    volume-refusal-requires
+    (λ c κs. search needs)
+    (λ c. search needs)
+    (λ c κs. search needs)
     returns
-    add-total
+    (λ c. search needs)
     add-total-2
     returns-2
-    put-body-requires
+    (λ c κs. search needs)
     put-head-requires
-    enum-known-fault
-    fault-number-requires
-    same-length
+    (λ c. search needs)
+    (λ c κs. search needs)
+    (λ c. search needs)
     returns-3
     returns-4)
