@@ -22,8 +22,8 @@ use borrow.Author.Tests.{eq-eqb, ne-eqb}
 use borrow.Rule.Slice.PartMut.{putMid, same-len-mid, take-put, drop-put}
 use Rattle.gf256.specs.Polynomial.{sumBelow}
 use Rattle.gf256.specs.Field.{product}
-use Rattle.parity.specs.MulAdd.{mulAdd}
-use Rattle.parity.proofs.MulAdds.{length-mulAdd, mulAdd-at}
+use Rattle.mul_add.specs.MulAdd.{mulAdd}
+use Rattle.mul_add.proofs.MulAdds.{length-mulAdd, mulAdd-at}
 use Rattle.elimination.specs.Reduction.{entry, withDiagonal, sweptEntry, Swept, IsPivot, IsSolvable, solvable, unsolvable}
 
 -- byte j of a row that is lent

@@ -6,7 +6,7 @@
 ghost use mathlib.Core.Path.{_≡_};
 ghost use Prim.Native.Nat.{ℕ, _+_, _<_, _≤_};
 ghost use lib.ListN.{length, getD};
-ghost use Rattle.parity.specs.MulAdd.{mulAdd};
+ghost use Rattle.mul_add.specs.MulAdd.{mulAdd};
 ghost use Rattle.elimination.specs.Reduction.{withDiagonal, rowProduct, IsPivot, Swept, RowAdded, IsSolvable, weightOf};
 use gf256::Answer;
 
@@ -114,7 +114,7 @@ fn add_multiple(weight: u8, fragment: &[u8], buffer: &mut [u8])
     ensures { λ _. ⌜ now (buffer .exit) ≡ mulAdd weight (now (fragment .entry)) (now (buffer .entry)) ⌝ }
 {
     if weight != 0 {
-        parity::mul_add(weight, fragment, buffer);
+        mul_add::mul_add(weight, fragment, buffer);
     }
 }
 

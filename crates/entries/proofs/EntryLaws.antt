@@ -14,8 +14,8 @@ use lib.Dec.{leb, eqb}
 use lib.ListN.{length, take, drop, length-drop}
 use lib.Seq.{length-take-le}
 use borrow.Author.Tests.{leb-true, eqb-true}
-use Rattle.finite.proofs.Tests.{and-both}
-use Rattle.pieces.proofs.CutLaws.{part-to-end}
+use Rattle.computed_tests.proofs.Tests.{and-both}
+use Rattle.lent_bytes.proofs.PartLaws.{part-to-end}
 use Rattle.entries.specs.Entry.{entrySize, statusOf, fileSizeOf, nameOf, unitsOf, nameAllowed, fileSizeAllowed, entrySizeAllowed, bodyAllowed, entryAllowed, lengthOf}
 use Rattle.entries.specs.Walk.{faultOf, itemOf, firstOf}
 use Rattle.entries.specs.declared.Fault.{Fault}

@@ -15,8 +15,8 @@ use mathlib.Core.List.{List, [], _∷_, map, foldr}
 use Prim.Native.Nat.{ℕ, _+_, _≤_, _<_, max}
 use native.Mathlib.Omega.{arith}
 use lib.ListN.{length, take, drop}
-use Rattle.pieces.specs.Pieces.{Cut, before}
-use Rattle.pieces.proofs.CutLaws.{cut-none, cut-stop, cut-more}
+use Rattle.cut_lists.specs.Pieces.{Cut, before}
+use Rattle.cut_lists.proofs.CutLaws.{cut-none, cut-stop, cut-more}
 use Rattle.entries.specs.Entry.{statusOf, fileSizeOf, isSaved, isCounted, lengthOf}
 use Rattle.entries.specs.Numbering.{keep, savedOf}
 use Rattle.entries.specs.Walk.{faultOf, entriesOf, totalsOf, addEntry, walkedTo, walkOf}

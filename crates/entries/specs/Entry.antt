@@ -17,6 +17,7 @@ use mathlib.Core.Bool.{Bool, true, cond, not, _&&_}
 use mathlib.Core.List.{List, [], _∷_}
 use lib.Dec.{leb, eqb}
 use lib.ListN.{length, take, drop}
+use Rattle.refusals.specs.Limits.{maxFileSize}
 use Rattle.little_endian.specs.Bytes.{leAt}
 
 -- ---- the fields: "64-bit entry size (itself included), 64-bit status, 64-bit file size, MD5 of the whole file, MD5 of its first
@@ -65,7 +66,7 @@ nameAllowed (u ∷ us) = unitAllowed u && nameAllowed us
 
 -- "A listed file: 0 to 16,777,216 bytes"
 abbrev pub fileSizeAllowed : ℕ → Bool
-fileSizeAllowed n = leb n 16777216
+fileSizeAllowed n = leb n maxFileSize
 
 -- "An entry size is even and at least 58, so a name has one unit or more", and the entry lies within the list
 unfoldable pub entrySizeAllowed : ℕ → ℕ → Bool

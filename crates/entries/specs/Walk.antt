@@ -15,7 +15,7 @@ use Prim.Native.Nat.{ℕ, _+_, max}
 use mathlib.Core.Bool.{cond}
 use mathlib.Core.List.{List, [], _∷_, map, foldr}
 use lib.ListN.{length, take}
-use Rattle.pieces.specs.Pieces.{Cut, cut}
+use Rattle.cut_lists.specs.Pieces.{Cut, cut}
 use Rattle.entries.specs.Entry.{entrySize, statusOf, fileSizeOf, isSaved, isCounted, entrySizeAllowed, fileSizeAllowed, entryAllowed, lengthOf}
 use Rattle.entries.specs.Numbering.{keep, savedOf}
 use Rattle.entries.specs.declared.Fault.{Fault}

@@ -5,9 +5,6 @@ ghost use Prim.Native.Nat.{_+_, _<_, _^_, max};
 ghost use Rattle.entries.specs.Entry.{unitAllowed, nameAllowed, unitsOf, entrySizeAllowed, isSaved, isCounted};
 ghost use Rattle.entries.specs.Walk.{faultNumber, firstOf, addEntry, walkOf};
 
-// The greatest size of a listed file, in bytes.
-pub const MAX_FILE_SIZE: u64 = 16777216;
-
 // The shortest entry: 56 bytes of fields, and a name of one unit.
 const MIN_ENTRY_SIZE: u64 = 58;
 
@@ -67,7 +64,7 @@ pub fn first(list: &[u8]) -> Item
     let length = entry_size as usize;
     let entry = &list[..length];
     let size = little_endian::read64(entry, FILE_SIZE_AT);
-    if size > MAX_FILE_SIZE {
+    if size > refusals::MAX_FILE_SIZE {
         return Item::Fault(Fault::FileSize);
     }
     if !name_allowed(&entry[NAME_AT..]) {
@@ -133,9 +130,9 @@ pub fn fault_number(fault: Fault) -> u32
     ensures { λ r. ⌜ r ≡ faultNumber fault ⌝ }
 {
     match fault {
-        Fault::Size => answers::ENTRY,
-        Fault::FileSize => answers::ENTRY,
-        Fault::Name => answers::ENTRY,
+        Fault::Size => refusals::ENTRY,
+        Fault::FileSize => refusals::ENTRY,
+        Fault::Name => refusals::ENTRY,
     }
 }
 

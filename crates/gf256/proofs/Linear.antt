@@ -15,7 +15,7 @@ use lib.Arith.{lt-one}
 use lib.Bits.{bitXor, xor-shifted, xor-self}
 use lib.Dec.{T}
 use lib.Pow.{pow-pos, split, shr-lt}
-use Rattle.finite.proofs.Tests.{bit-cases, Function, EqualBelow, testBelow, equal-below}
+use Rattle.computed_tests.proofs.Tests.{bit-cases, Function, EqualBelow, testBelow, equal-below}
 
 -- ---- a number is a sum of powers of two
 

@@ -19,7 +19,7 @@ use native.Mathlib.Omega.{arith}
 use lib.Bits.{bitXor, shifted-even, xor-shr, xor-mod, xor-self, xor-zero-r, xor-lt}
 use lib.Pow.{pow-pos, pow-mono, pow-add, shl-lt, shl-shr}
 use Rattle.gf256.specs.Polynomial.{coeff, sumBelow, polyProduct, remainder}
-use Rattle.finite.proofs.Tests.{bit-cases}
+use Rattle.computed_tests.proofs.Tests.{bit-cases}
 use Rattle.gf256.proofs.Xor.{xor-swap, xor-shift}
 
 -- ---- coefficients

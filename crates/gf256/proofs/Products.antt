@@ -13,7 +13,7 @@ use lib.Bits.{bitXor, xor-self}
 use lib.Dec.{lit<}
 use Rattle.gf256.specs.Polynomial.{coeff, sumBelow, polyProduct, remainder}
 use Rattle.gf256.specs.Field.{product}
-use Rattle.finite.proofs.Tests.{Function}
+use Rattle.computed_tests.proofs.Tests.{Function}
 use Rattle.gf256.proofs.Polynomials.{polyProduct-xor-l, polyProduct-xor-r, remainder-xor}
 use Rattle.gf256.proofs.Remainder.{product-is-remainder}
 use Rattle.gf256.proofs.Linear.{Linear, SameAtPowers, agree}

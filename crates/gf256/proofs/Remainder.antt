@@ -14,7 +14,7 @@ use lib.Dec.{lit<}
 use lib.Pow.{pow-pos, pow-mono, shl-lt, shr-lt, shl-shr, shr-shr}
 use Rattle.gf256.specs.Polynomial.{coeff, sumBelow, polyProduct, remainder}
 use Rattle.gf256.specs.Field.{product}
-use Rattle.finite.proofs.Tests.{equal-below}
+use Rattle.computed_tests.proofs.Tests.{equal-below}
 use Rattle.gf256.proofs.Xor.{xor-swap, xor-twice, xor-equal, xor-byte}
 use Rattle.gf256.proofs.Polynomials.{coeff-bit, polyProduct-xor-r, polyProduct-lt, polyProduct-term, polyProduct-wider}
 

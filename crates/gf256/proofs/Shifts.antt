@@ -13,7 +13,7 @@ use lib.Dec.{lit<}
 use lib.Pow.{pow-lt}
 use Rattle.gf256.specs.Polynomial.{coeff, sumBelow, polyProduct, remainder}
 use Rattle.gf256.specs.Field.{product}
-use Rattle.finite.proofs.Tests.{equal-below}
+use Rattle.computed_tests.proofs.Tests.{equal-below}
 use Rattle.gf256.proofs.Xor.{xor-assoc}
 use Rattle.gf256.proofs.Polynomials.{coeff-bit, sumBelow-same, linear-bit, linear-sum, polyProduct-term, polyProduct-wider, remainder-xor}
 use Rattle.gf256.proofs.Products.{product-xor-r, product-zero-r, product-one-r, product-comm, product-assoc}

@@ -15,7 +15,7 @@ use lib.Dec.{T, eqb, eqb-refl, T-not, lit<}
 use lib.Pow.{pow-lt}
 use Rattle.gf256.specs.Polynomial.{coeff, sumBelow, polyProduct, remainder}
 use Rattle.gf256.specs.Field.{product, power}
-use Rattle.finite.proofs.Tests.{all, all-at, equal-below}
+use Rattle.computed_tests.proofs.Tests.{all, all-at, equal-below}
 use Rattle.gf256.proofs.Xor.{xor-assoc, xor-twice, xor-byte}
 use Rattle.gf256.proofs.Linear.{sums}
 use Rattle.gf256.proofs.Products.{product-xor-l, product-xor-r, product-byte, product-comm, product-zero-r}

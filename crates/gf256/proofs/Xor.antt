@@ -11,7 +11,7 @@ use native.Mathlib.Nat.{mod-lt, zero-lt-suc, add-zero}
 use lib.Arith.{bin-ind, digits-div, digits-mod}
 use lib.Bits.{bitXor, differ, xor-step, xor-comm, xor-self, xor-zero-r, xor-block, xor-lt}
 use lib.Pow.{pow-pos}
-use Rattle.finite.proofs.Tests.{equal-below}
+use Rattle.computed_tests.proofs.Tests.{equal-below}
 
 -- ---- one bit
 

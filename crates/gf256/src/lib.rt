@@ -63,7 +63,7 @@ pub fn inverse(a: u8) -> Answer
     ensures { λ r. ⌜ r ≡ inverseAnswer a ⌝ }
 {
     if a == 0 {
-        return Answer::Refused(answers::OUT_OF_RANGE);
+        return Answer::Refused(refusals::OUT_OF_RANGE);
     }
     Answer::Byte(power(a, 254))
 }

@@ -14,7 +14,7 @@ use native.Mathlib.Omega.{arith}
 use lib.Dec.{eqb}
 use lib.ListN.{drop}
 use borrow.Author.Tests.{eq-eqb, eqb-true}
-use Rattle.finite.proofs.Tests.{and-both}
+use Rattle.computed_tests.proofs.Tests.{and-both}
 use Rattle.parity.specs.Parity.{isFile}
 use Rattle.inventory.specs.Recoverable.{State, isVolume}
 use Rattle.inventory.specs.Model.{Call, addFile, removeFile, addVolume, removeVolume, count, query, Reply, queried, opened, withFiles, withVolumes, insert, remove, next, after, Gives, GivesQuery, GivesMissing, undetermined, noRoom, recoverable, GivesAll}

@@ -10,7 +10,7 @@ use native.Mathlib.Omega.{arith}
 use native.Mathlib.Decide.{decLt}
 use lib.Dec.{leb}
 use borrow.Author.Tests.{le-leb, lt-leb}
-use Rattle.finite.proofs.Tests.{and-both}
+use Rattle.computed_tests.proofs.Tests.{and-both}
 use Rattle.parity.specs.Coefficient.{coefficient}
 use Rattle.parity.specs.Parity.{isFile}
 use Rattle.parity.proofs.Coefficients.{coefficient-byte}

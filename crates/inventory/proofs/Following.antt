@@ -15,17 +15,17 @@ use lib.Dec.{leb}
 use lib.ListN.{length, getD, replicate, length-replicate, getD-replicate, List·getD-eq-default}
 use lib.Seq.{ext-getD}
 use borrow.Author.Tests.{leb-false, leb-true, le-leb, lt-leb, eq-eqb, ne-eqb}
-use Rattle.finite.proofs.Tests.{and-both}
+use Rattle.computed_tests.proofs.Tests.{and-both}
 use Rattle.gf256.specs.Polynomial.{sumBelow}
 use Rattle.gf256.specs.Field.{product}
 use Rattle.gf256.proofs.Xor.{xor-assoc}
 use Rattle.gf256.proofs.Polynomials.{sumBelow-same}
 use Rattle.gf256.proofs.Products.{product-zero-l}
 use Rattle.parity.specs.Parity.{Contents, isFile}
-use Rattle.parity.specs.MulAdd.{mulAddAll}
-use Rattle.parity.specs.Once.{Once}
-use Rattle.parity.proofs.MulAdds.{length-mulAddAll}
-use Rattle.parity.proofs.AnyOrder.{mulAddAll-once}
+use Rattle.mul_add.specs.MulAdd.{mulAddAll}
+use Rattle.mul_add.specs.Once.{Once}
+use Rattle.mul_add.proofs.MulAdds.{length-mulAddAll}
+use Rattle.mul_add.proofs.AnyOrder.{mulAddAll-once}
 use Rattle.elimination.specs.Field.{Field, sum}
 use Rattle.elimination.proofs.Sums as S
 use Rattle.elimination.proofs.Solutions.{by-columns}

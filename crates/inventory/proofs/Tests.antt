@@ -17,7 +17,7 @@ use native.Mathlib.Omega.{arith}
 use native.Mathlib.Decide.{ℕ-discrete, decLe}
 use lib.Dec.{leb, eqb}
 use borrow.Author.Tests.{le-leb, lt-leb, leb-true, eq-eqb, ne-eqb}
-use Rattle.finite.proofs.Tests.{and-both}
+use Rattle.computed_tests.proofs.Tests.{and-both}
 use Rattle.parity.specs.Parity.{isFile}
 use Rattle.inventory.specs.Recoverable.{isVolume}
 use Rattle.inventory.specs.Steps.{allBelow}

@@ -24,8 +24,8 @@ use Prim.Native.Nat.{ℕ, _≤_, _-_}
 use lib.Dec.{eqb}
 use lib.ListN.{length, getD, replicate, take}
 use Rattle.parity.specs.Coefficient.{coefficient}
-use Rattle.parity.specs.MulAdd.{mulAddAll}
-use Rattle.parity.specs.Once.{Once}
+use Rattle.mul_add.specs.MulAdd.{mulAddAll}
+use Rattle.mul_add.specs.Once.{Once}
 use Rattle.parity.specs.Parity.{Contents, isFile}
 use Rattle.number_sets.specs.Sets.{Words}
 use Rattle.inventory.specs.Recoverable.{State, IsContents, Recoverable, place, present, ComeFrom}

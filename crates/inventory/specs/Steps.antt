@@ -22,6 +22,7 @@ use Prim.Native.Nat.{ℕ, zero, suc, _-_}
 use lib.Dec.{leb, eqb}
 use lib.ListN.{length, getD, replicate}
 use Rattle.parity.specs.Parity.{isFile}
+use Rattle.refusals.specs.Limits.{maxFileSize, maxFiles}
 use Rattle.number_sets.specs.Sets.{member, inserted, removed, sizeBelow}
 use Rattle.inventory.specs.Recoverable.{isVolume}
 use Rattle.inventory.specs.declared.Inventory.{Inventory}
@@ -47,7 +48,7 @@ within m ws = allBelow 256 (λ k. not (member ws k) || oneTo m k)
 -- proofs/Reachable.antt shows that this is exact: `given-valid`, `valid-given`
 unfoldable pub isInventory : Inventory → Bool
 isInventory s =
-    oneTo 254 (s .n) && (within (s .n) (s .files) && (within (s .n) (s .nonempty) && within (255 - s .n) (s .volumes)))
+    oneTo maxFiles (s .n) && (within (s .n) (s .files) && (within (s .n) (s .nonempty) && within (255 - s .n) (s .volumes)))
 
 -- ---- opening
 
@@ -72,8 +73,8 @@ refusedOpening number = outcome zeros number
 -- "A sheet needs n from 1 to 254 and one size each (10), each at most 16,777,216 (1)."
 unfoldable pub openStep : ℕ → List ℕ → Outcome
 openStep n sizes =
-    cond (oneTo 254 n && eqb (length sizes) n)
-    (cond (allBelow n (λ i. leb (getD sizes i 0) 16777216)) (outcome (fresh n sizes) 0) (refusedOpening 1))
+    cond (oneTo maxFiles n && eqb (length sizes) n)
+    (cond (allBelow n (λ i. leb (getD sizes i 0) maxFileSize)) (outcome (fresh n sizes) 0) (refusedOpening 1))
     (refusedOpening 10)
 
 -- ---- adding and removing

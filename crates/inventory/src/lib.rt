@@ -5,9 +5,6 @@ ghost use Rattle.inventory.specs.Steps.{openStep, refusedOpening, change
 mod query;
 mod ranges;
 
-use answers::ALREADY;
-use answers::OUT_OF_RANGE;
-use answers::SIZE;
 use number_sets::has;
 use number_sets::insert;
 use number_sets::remove;
@@ -15,9 +12,11 @@ use number_sets::size;
 use ranges::is_inventory;
 use ranges::is_volume;
 use ranges::one_to;
-
-// The greatest size of a listed file, in bytes.
-const MAX_FILE_BYTES: u64 = 16777216;
+use refusals::ALREADY;
+use refusals::MAX_FILE_SIZE;
+use refusals::MAX_FILES;
+use refusals::OUT_OF_RANGE;
+use refusals::SIZE;
 
 // The number of files, and three sets of numbers, one bit each: the files present, the volumes present, and the files of
 // size 1 or more. Number k is bit k mod 64 of word k div 64.
@@ -55,7 +54,7 @@ impl Inventory {
     pub fn open(n: u64, sizes: &[u64]) -> Outcome
         ensures { λ r. ⌜ r ≡ openStep n (now (sizes .entry)) ⌝ }
     {
-        if !one_to(254, n) {
+        if !one_to(MAX_FILES, n) {
             return refused_opening(OUT_OF_RANGE);
         }
         if sizes.len() as u64 != n {
@@ -64,7 +63,7 @@ impl Inventory {
         let mut nonempty = [0u64; 4];
         let mut k: usize = 0;
         while k < sizes.len() {
-            if MAX_FILE_BYTES < sizes[k] {
+            if MAX_FILE_SIZE < sizes[k] {
                 return refused_opening(SIZE);
             }
             if 0 < sizes[k] {

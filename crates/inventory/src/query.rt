@@ -9,9 +9,9 @@ use crate::Answer;
 use crate::Inventory;
 use crate::ranges::is_inventory;
 use crate::ranges::one_to;
-use answers::NO_ROOM;
-use answers::OUT_OF_RANGE;
 use number_sets::has;
+use refusals::NO_ROOM;
+use refusals::OUT_OF_RANGE;
 use volume_weights::Solution;
 use volume_weights::file_weights;
 

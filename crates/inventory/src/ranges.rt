@@ -4,13 +4,14 @@ ghost use Rattle.inventory.specs.Recoverable.{isVolume};
 ghost use Rattle.inventory.specs.Steps.{oneTo, within, isInventory};
 use crate::Inventory;
 use number_sets::has;
+use refusals::MAX_FILES;
 
 // Whether opening and accepted calls could have given this inventory.
 pub fn is_inventory(s: Inventory) -> bool
     ensures { λ r. ⌜ r ≡ isInventory s ⌝ }
 {
     let n = s.n;
-    if !one_to(254, n) {
+    if !one_to(MAX_FILES, n) {
         return false;
     }
     let files = s.files;

@@ -11,12 +11,13 @@ use mathlib.Core.List.{List, [], _∷_, _++_}
 use Prim.Native.Nat.{ℕ, _*_}
 use lib.Dec.{leb, eqb}
 use lib.ListN.{length}
-use Rattle.answers.specs.Writing.{refused, written, writtenUnless, numbered}
+use Rattle.lent_bytes.specs.Writing.{refused, written, writtenUnless, withNumber}
 use Rattle.inventory.specs.Steps.{openStep, refusedOpening}
 use Rattle.inventory.specs.declared.Counted.{Counted}
 use Rattle.inventory.specs.declared.Counted.the-variants as counted
 use Rattle.inventory.specs.declared.Inventory.{Inventory}
 use Rattle.inventory.specs.declared.Outcome.{Outcome}
+use Rattle.refusals.specs.Limits.{maxFiles}
 use Rattle.little_endian.specs.Bytes.{leAt, numbers, numbersAt}
 
 unfoldable pub inventoryOf : List ℕ → Inventory
@@ -27,11 +28,11 @@ inventoryBytes s = numbers (s .n ∷ s .files ++ s .volumes ++ s .nonempty)
 
 -- the sizes are n numbers; else 10
 unfoldable pub openedBy : ℕ → List ℕ → Outcome
-openedBy n s = cond (leb n 254 && eqb (length s) (8 * n)) (openStep n (numbersAt n s 0)) (refusedOpening 10)
+openedBy n s = cond (leb n maxFiles && eqb (length s) (8 * n)) (openStep n (numbersAt n s 0)) (refusedOpening 10)
 
 unfoldable pub storedBy : Outcome → List ℕ → ℕ × List ℕ
-storedBy o out = numbered (writtenUnless (o .number) (inventoryBytes (o .next)) out)
+storedBy o out = withNumber (writtenUnless (o .number) (inventoryBytes (o .next)) out)
 
 abbrev pub countedInto : Counted → List ℕ → ℕ × List ℕ
-countedInto (counted.Counts files volumes) out = numbered (written (numbers (files ∷ volumes ∷ [])) out)
-countedInto (counted.Refused number) out = numbered (refused number out)
+countedInto (counted.Counts files volumes) out = withNumber (written (numbers (files ∷ volumes ∷ [])) out)
+countedInto (counted.Refused number) out = withNumber (refused number out)

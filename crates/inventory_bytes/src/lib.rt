@@ -5,16 +5,16 @@ ghost use lib.ListN.{length};
 ghost use Rattle.inventory.specs.Steps.{openStep, refusedOpening, answerNumber};
 ghost use Rattle.little_endian.specs.Bytes.{numbers as numbersOf, numbersAt};
 ghost use Rattle.inventory_bytes.specs.Inventories.{inventoryOf, inventoryBytes, openedBy, storedBy, countedInto};
-use answers::PRESENT;
-use answers::UNDETERMINED;
-use answers::write;
 use inventory::Answer;
 use inventory::Counted;
 use inventory::Inventory;
 use inventory::Outcome;
+use lent_bytes::write;
 use little_endian::read_numbers;
 use little_endian::read64;
 use little_endian::write_numbers;
+use refusals::PRESENT;
+use refusals::UNDETERMINED;
 
 // The length of an inventory, in bytes.
 pub const LENGTH: usize = 104;

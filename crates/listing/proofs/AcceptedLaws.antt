@@ -6,7 +6,7 @@ use mathlib.Core.Path.{_≡_, refl, sym, subst}
 use mathlib.Core.List.{List}
 use Prim.Native.Nat.{ℕ, zero, suc}
 use native.Mathlib.Omega.{arith}
-use Rattle.par1_rules.proofs.RuleLaws.{or-none}
+use Rattle.refusals.proofs.TestLaws.{or-none}
 use Rattle.par1_read.specs.Reading.{headerRefusal, refusalOf, readOf}
 use Rattle.par1_read.specs.declared.reading.Reading.{Reading}
 use Rattle.par1_read.proofs.ReadingLaws.{HeaderPassed, header-passed, read-accepted, read-refused}

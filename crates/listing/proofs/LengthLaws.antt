@@ -16,11 +16,11 @@ use lib.Dec.{leb, eqb}
 use lib.ListN.{length, take, drop, length-append, length-take, length-drop, length-map}
 use lib.Seq.{length-take-le}
 use borrow.Author.Tests.{leb-true, eqb-true}
-use Rattle.finite.proofs.Tests.{and-both}
-use Rattle.answers.specs.Writing.{written}
-use Rattle.answers.specs.declared.Writing.the-variants.{Written}
-use Rattle.answers.proofs.WritingLaws.{written-fits}
-use Rattle.pieces.proofs.CutLaws.{All, all-none, all-more, cut-all, cut-count, cut-length}
+use Rattle.computed_tests.proofs.Tests.{and-both}
+use Rattle.lent_bytes.specs.Writing.{written}
+use Rattle.lent_bytes.specs.declared.Writing.the-variants.{Written}
+use Rattle.lent_bytes.proofs.WritingLaws.{written-fits}
+use Rattle.cut_lists.proofs.CutLaws.{All, all-none, all-more, cut-all, cut-count, cut-length}
 use Rattle.entries.specs.Entry.{entrySize, statusOf, fileSizeOf, nameOf, unitsOf, isSaved, entrySizeAllowed, fileSizeAllowed, bodyAllowed, entryAllowed, lengthOf}
 use Rattle.entries.specs.Walk.{faultNumber, walkOf}
 use Rattle.entries.specs.declared.Fault.{Fault}
@@ -33,8 +33,10 @@ use Rattle.text.specs.Ascii.{ascii}
 use Rattle.text.specs.Decimal.{decimal}
 use Rattle.text.proofs.DecimalLaws.{decimal-length}
 use Rattle.par1_rules.specs.Layout.{signature, signatureOf, versionOf, controlHashOf, setHashOf, numberOf, countOf, listSizeOf, dataSizeOf, listOf}
-use Rattle.par1_rules.specs.Hashes.{equal, setHash, controlHash}
-use Rattle.par1_rules.specs.Rules.{test, orElse, lengthAllowed, versionAllowed, layoutAllowed, numberAllowed, dataAllowed}
+use Rattle.lent_bytes.specs.Equal.{equal}
+use Rattle.par1_rules.specs.Hashes.{setHash, controlHash}
+use Rattle.refusals.specs.Tests.{test, orElse}
+use Rattle.par1_rules.specs.Rules.{lengthAllowed, versionAllowed, layoutAllowed, numberAllowed, dataAllowed}
 use Rattle.par1_read.specs.Reading.{headerRefusal, controlRefusal, totalsRefusal, listRefusal, refusalOf, entriesIn, partsOf, readOf}
 use Rattle.par1_read.specs.declared.reading.Parts.{Parts}
 use Rattle.par1_read.specs.declared.reading.Reading.{Reading}

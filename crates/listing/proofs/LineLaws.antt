@@ -15,8 +15,8 @@ use native.Mathlib.Nat.{zero-add, add-zero}
 use native.Mathlib.Omega.{arith}
 use lib.ListN.{length, take, drop, getD}
 use lib.Seq.{getD-append-seam, take-append-seam}
-use Rattle.pieces.specs.Pieces.{Cut}
-use Rattle.pieces.proofs.CutLaws.{cut-none, cut-stop}
+use Rattle.cut_lists.specs.Pieces.{Cut}
+use Rattle.cut_lists.proofs.CutLaws.{cut-none, cut-stop}
 use Rattle.entries.specs.Entry.{statusOf, fileSizeOf, lengthOf, nameOf, unitsOf, isSaved}
 use Rattle.entries.specs.Numbering.{savedOf, fileNumber}
 use Rattle.entries.specs.Walk.{entriesOf}

@@ -13,6 +13,7 @@ use mathlib.Core.Bool.{cond}
 use mathlib.Core.List.{List, _++_}
 use lib.Dec.{leb}
 use lib.ListN.{length}
+use Rattle.refusals.specs.Limits.{maxListedLength}
 use Rattle.par1_rules.specs.Layout.{listSizeOf}
 use Rattle.par1_read.specs.Reading.{entriesIn, readOf}
 use Rattle.par1_read.specs.declared.reading.Reading.{Reading}
@@ -32,7 +33,7 @@ listingOf f = listingBy (readOf f) f
 
 -- "The listing program takes at most 65,536 bytes; more is refused with 1."
 unfoldable pub inputListing : List ℕ → List ℕ
-inputListing s = cond (leb (length s) 65536) (listingOf s) (refusedLine 1)
+inputListing s = cond (leb (length s) maxListedLength) (listingOf s) (refusedLine 1)
 
 abbrev pub ListIn : Reading → List ℕ → Type 0
 ListIn (Accepted p) f = (p .«list_size» ≡ listSizeOf f) × (96 + listSizeOf f ≤ length f)

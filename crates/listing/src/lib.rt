@@ -1,17 +1,14 @@
 // The listing of an index file or volume, as text into a lent buffer (document 01, "What comes back").
 ghost use mathlib.Core.Path.{_≡_};
-ghost use Rattle.answers.specs.Writing.{written};
+ghost use Rattle.lent_bytes.specs.Writing.{written};
 ghost use Rattle.text.specs.Buffer.{buffer, put as putOf};
 ghost use Rattle.listing.specs.Listing.{refusal as refusalOf, listingBy, listingOf, inputListing, ListIn};
 
 mod lines;
 
-use answers::Writing;
+use lent_bytes::Writing;
 use par1::Reading;
 use par1_rules::layout::HEADER_LENGTH;
-
-// The longest input that the program takes, in bytes.
-const MAX_INPUT: usize = 65536;
 
 // The listing of `file` over the first bytes of `out`, and its length; or 14, and nothing written, where it does not fit.
 pub fn list(file: &[u8], out: &mut [u8]) -> Writing
@@ -24,10 +21,10 @@ pub fn list(file: &[u8], out: &mut [u8]) -> Writing
 pub fn list_input(input: &[u8], out: &mut [u8]) -> Writing
     ensures { λ r. ⌜ (r, now (out .exit)) ≡ written (inputListing (now (input .entry))) (now (out .entry)) ⌝ }
 {
-    if input.len() <= MAX_INPUT {
+    if input.len() <= refusals::MAX_LISTED_LENGTH {
         return list(input, out);
     }
-    list_as(input, Reading::Refused(answers::SIZE), out)
+    list_as(input, Reading::Refused(refusals::SIZE), out)
 }
 
 // The listing of a file that reads as `reading`: measured, and written where it fits.
@@ -40,7 +37,7 @@ fn list_as<'a, 'b>(file: &'a [u8], reading: Reading, out: &'b mut [u8]) -> Writi
         put_listing(out, file, reading);
         return Writing::Written(length);
     }
-    Writing::Refused(answers::NO_ROOM)
+    Writing::Refused(refusals::NO_ROOM)
 }
 
 // The listing of a file that reads as `reading`, from position 0 on.

@@ -1,6 +1,5 @@
 -- A running hash gives the digest of the whole message, however it was cut.
 --
---   part-to-end    the part of a list from a position to its end, as code takes it
 --   push-state     a push after the message m
 --   run-state      any run of pushes
 --   finish-state   the end after the message m
@@ -61,10 +60,6 @@ pub digest-whole : (m : List ℕ) {none all : Md5} → none ≡ stateOf [] → a
 digest-whole m e f = ap finished (f ∙ ap (λ (h : Md5). pushed h m) e ∙ push-state [] m) ∙ finish-state m
 
 -- ---- a push, as the code works it out
-
--- a part that runs to the end
-pub part-to-end : (k : ℕ) (l : List ℕ) → take (length l - k) (drop k l) ≡ drop k l
-part-to-end k l = take-all (length l - k) (drop k l) (le-of-eq (length-drop k l))
 
 module _ (h : Md5) (bs : List ℕ) (tailed : length (h .tail) ≡ 64) {clean : List ℕ} {n : ℕ}
     (cleaned : clean ≡ paste (replicate 64 0) 0 (waiting h) (length (waiting h))) (counted : n ≡ (h .total + length bs) % 2 ^ 64) where

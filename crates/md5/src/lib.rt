@@ -22,7 +22,7 @@ pub fn digest_into(bytes: &[u8], out: &mut [u8]) -> u32
     ensures { λ r. ⌜ (r, now (out .exit)) ≡ digestInto (now (bytes .entry)) (now (out .entry)) ⌝ }
 {
     let found = digest(bytes);
-    answers::write(out, &found)
+    lent_bytes::write(out, &found)
 }
 
 // A running hash: the words after the whole blocks so far; the bytes that wait for their block to be full, of which there are

@@ -11,7 +11,7 @@ use mathlib.Core.Path.{_≡_, refl}
 use mathlib.Core.Bool.{cond}
 use Prim.Native.Nat.{ℕ, zero, suc, _+_, _-_, _*_, _/_, _%_, _^_, _<_}
 use lib.Dec.{ltb, ltb→lt}
-use Rattle.finite.proofs.Tests.{all-at, equal-below}
+use Rattle.computed_tests.proofs.Tests.{all-at, equal-below}
 use Rattle.md5_blocks.specs.Rounds.{auxI, aux, rows, row}
 
 abbrev pub wordOf : ℕ → ℕ

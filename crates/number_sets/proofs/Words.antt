@@ -27,7 +27,7 @@ use lib.Bits.{bitAnd, bitOr, or-shr, or-step, and-shr, and-step, and-mask, and-l
 use lib.Count.{ones, ones-step}
 use lib.Dec.{eqb}
 use borrow.Author.Tests.{eq-eqb, ne-eqb}
-use Rattle.finite.proofs.Tests.{bit-cases}
+use Rattle.computed_tests.proofs.Tests.{bit-cases}
 use Rattle.number_sets.specs.Sets.{member, inserted, removed, sizeBelow, Words}
 
 -- ---- one bit of a word

@@ -12,9 +12,9 @@ use lib.Dec.{leb, eqb}
 use lib.ListN.{length, take, drop, length-append}
 use lib.Seq.{take-append-seam, drop-append-seam}
 use borrow.Author.Tests.{leb-true, eqb-true, eq-eqb, le-leb}
-use Rattle.answers.proofs.WritingLaws.{unless-tells, unless-none, written-fits}
-use Rattle.finite.proofs.Tests.{and-both}
-use Rattle.pieces.specs.Pieces.{before}
+use Rattle.lent_bytes.proofs.WritingLaws.{unless-tells, unless-none, written-fits}
+use Rattle.computed_tests.proofs.Tests.{and-both}
+use Rattle.cut_lists.specs.Pieces.{before}
 use Rattle.little_endian.specs.Bytes.{toLe}
 use Rattle.little_endian.proofs.Numbers.{length-toLe}
 use Rattle.little_endian.proofs.Reading.{leAt-append}
@@ -30,9 +30,9 @@ use Rattle.par1.specs.Checking.{itemRefusal, loneRefusal, checkOf}
 use Rattle.par1_write.specs.EntryWriting.{entryBytes, nameBytesAllowed, entryRefusal, writeEntryOf}
 use Rattle.par1.proofs.CheckingLaws.{check-lone}
 use Rattle.par1_write.proofs.EntryWritingLaws.{length-entry, entry-passed}
-use Rattle.par1_rules.proofs.EqualLaws.{equal-same}
+use Rattle.lent_bytes.proofs.EqualLaws.{equal-same}
 use Rattle.par1_rules.proofs.HashLaws.{length-md5}
-use Rattle.par1_rules.proofs.PartLaws.{At, at-part, at-next, at-number, at-last}
+use Rattle.lent_bytes.proofs.PartLaws.{At, at-part, at-next, at-number, at-last}
 
 -- ---- the fields of the bytes of an entry, and of what follows
 

@@ -11,8 +11,8 @@ use mathlib.Core.List.{List, _++_}
 use Prim.Native.Nat.{ℕ, _+_, _^_, _<_, _≤_}
 use native.Mathlib.Omega.{arith}
 use lib.ListN.{length, take, drop}
-use Rattle.answers.proofs.WritingLaws.{unless-tells, unless-none, written-fits}
-use Rattle.pieces.proofs.CutLaws.{cut-count}
+use Rattle.lent_bytes.proofs.WritingLaws.{unless-tells, unless-none, written-fits}
+use Rattle.cut_lists.proofs.CutLaws.{cut-count}
 use Rattle.entries.specs.Entry.{lengthOf}
 use Rattle.entries.specs.Walk.{entriesOf, walkOf}
 use Rattle.entries.specs.declared.Totals.{Totals}

@@ -9,8 +9,8 @@ use Prim.Native.Nat.{ℕ, _+_, _≤_}
 use native.Mathlib.Omega.{arith}
 use lib.ListN.{length, take, drop, length-drop}
 use lib.Seq.{length-take-le, take-all}
-use Rattle.answers.specs.declared.Writing.the-variants.{Written}
-use Rattle.answers.proofs.WritingLaws.{written-fits, unless-none}
+use Rattle.lent_bytes.specs.declared.Writing.the-variants.{Written}
+use Rattle.lent_bytes.proofs.WritingLaws.{written-fits, unless-none}
 use Rattle.little_endian.specs.Bytes.{Bytes, toLe, numbers}
 use Rattle.entries.specs.declared.Totals.{Totals}
 use Rattle.entries.specs.declared.Walked.{Walked}
@@ -23,7 +23,7 @@ use Rattle.par1_read.specs.Reading.{entriesIn}
 use Rattle.par1_write.specs.VolumeWriting.{bodyBytes, headBytes, volumeBytes, walkRefusal, writeVolumeOf}
 use Rattle.par1_read.specs.declared.reading.Parts.{Parts}
 use Rattle.par1.specs.Claim.{WrittenRead}
-use Rattle.par1_rules.proofs.PartLaws.{split, split-number}
+use Rattle.lent_bytes.proofs.PartLaws.{split, split-number}
 use Rattle.par1_read.proofs.ReadingLaws.{Passed, read-tells}
 use Rattle.par1_rules.proofs.RuleLaws.{Between}
 use Rattle.par1_write.proofs.VolumeWritingLaws.{volume-none}

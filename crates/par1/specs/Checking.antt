@@ -15,8 +15,9 @@ use Rattle.entries.specs.Walk.{faultNumber, firstOf}
 use Rattle.entries.specs.declared.Fault.the-variants as fault
 use Rattle.entries.specs.declared.Item.{Item}
 use Rattle.entries.specs.declared.Item.the-variants as item
-use Rattle.par1_rules.specs.Hashes.{equal, md5First}
-use Rattle.par1_rules.specs.Rules.{test, orElse}
+use Rattle.lent_bytes.specs.Equal.{equal}
+use Rattle.par1_rules.specs.Hashes.{md5First}
+use Rattle.refusals.specs.Tests.{test, orElse}
 
 -- an entry that is shorter than its slice, and no entry, have a wrong entry size
 abbrev pub itemRefusal : ℕ → Item → ℕ

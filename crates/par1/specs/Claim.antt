@@ -16,8 +16,9 @@ use mathlib.Core.Bool.{true}
 use mathlib.Core.List.{List, _++_}
 use Prim.Native.Nat.{ℕ, _+_, _^_, _<_, _≤_}
 use lib.ListN.{length, take, drop}
-use Rattle.answers.specs.declared.Writing.the-variants.{Written}
-use Rattle.pieces.specs.Pieces.{before}
+use Rattle.lent_bytes.specs.declared.Writing.the-variants.{Written}
+use Rattle.refusals.specs.Limits.{maxVolumeLength}
+use Rattle.cut_lists.specs.Pieces.{before}
 use Rattle.little_endian.specs.Bytes.{Bytes}
 use Rattle.entries.specs.Entry.{md5Of, md5Of16k, nameOf, fileSizeAllowed}
 use Rattle.entries.specs.Numbering.{savedOf}
@@ -43,7 +44,7 @@ abbrev pub VolumeAccepted : Type 0
 VolumeAccepted =
     (program number : ℕ) (list area out : List ℕ) (t : Totals) → walkOf list ≡ walked.Entries t
     → numberAllowed number (t .saved) ≡ true → dataAllowed number (t .greatest) (length area) ≡ true
-    → 96 + length list + length area ≤ 33554432 → 96 + length list + length area ≤ length out
+    → 96 + length list + length area ≤ maxVolumeLength → 96 + length list + length area ≤ length out
     → (n : ℕ) × (room : List ℕ) × (writeVolumeOf program number list area out ≡ (Written n, room))
 
 -- ---- "A volume written is, byte by byte, the one that Par 1.0, RFC 1321 and document 01 define."

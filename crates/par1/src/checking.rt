@@ -14,16 +14,16 @@ pub fn check(entry: &[u8], contents: &[u8]) -> u32
         return refusal;
     }
     if little_endian::read64(entry, entries::FILE_SIZE_AT) != contents.len() as u64 {
-        return answers::DIFFERENT;
+        return refusals::DIFFERENT;
     }
     if !hashes::matches(&entry[entries::MD5_AT..entries::MD5_16K_AT], contents) {
-        return answers::DIFFERENT;
+        return refusals::DIFFERENT;
     }
     if !hashes::matches(
         &entry[entries::MD5_16K_AT..entries::NAME_AT],
         hashes::first_part(contents),
     ) {
-        return answers::DIFFERENT;
+        return refusals::DIFFERENT;
     }
     0
 }

@@ -2,8 +2,8 @@
 // (document 01, "What comes back").
 mod checking;
 
-pub use answers::Writing;
 pub use checking::check;
+pub use lent_bytes::Writing;
 pub use par1_read::Parts;
 pub use par1_read::Reading;
 pub use par1_read::read;

@@ -11,7 +11,7 @@ use mathlib.Core.List.{List}
 use Prim.Native.Nat.{ℕ}
 use lib.Dec.{eqb}
 use lib.ListN.{length}
-use Rattle.answers.specs.Writing.{refused, numbered}
+use Rattle.lent_bytes.specs.Writing.{refused, withNumber}
 use Rattle.inventory.specs.Steps.{countStep, answerNumber}
 use Rattle.inventory.specs.Query.{Queried}
 use Rattle.inventory.specs.declared.Answer.{Answer}
@@ -24,10 +24,10 @@ openInto n s out = storedBy (openedBy n s) out
 
 -- an inventory of another length is 10
 unfoldable pub changedBy : (Inventory → ℕ → Outcome) → ℕ → List ℕ → ℕ × List ℕ
-changedBy step k b = cond (eqb (length b) 104) (storedBy (step (inventoryOf b) k) b) (numbered (refused 10 b))
+changedBy step k b = cond (eqb (length b) 104) (storedBy (step (inventoryOf b) k) b) (withNumber (refused 10 b))
 
 unfoldable pub countInto : List ℕ → List ℕ → ℕ × List ℕ
-countInto b out = cond (eqb (length b) 104) (countedInto (countStep (inventoryOf b)) out) (numbered (refused 10 out))
+countInto b out = cond (eqb (length b) 104) (countedInto (countStep (inventoryOf b)) out) (withNumber (refused 10 out))
 
 -- as the query of the inventory answers
 pub data QueryInto (b : List ℕ) (f : ℕ) (out : List ℕ) (r : ℕ) (out′ : List ℕ) : Type 0 where

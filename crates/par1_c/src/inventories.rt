@@ -2,13 +2,13 @@
 ghost use mathlib.Core.Path.{_≡_};
 ghost use Rattle.inventory.specs.Steps.{addFileStep, removeFileStep, addVolumeStep, removeVolumeStep};
 ghost use Rattle.par1_c.specs.Inventories.{openInto, changedBy, countInto, QueryInto};
-use answers::OUT_OF_RANGE;
 use inventory_bytes::LENGTH;
 use inventory_bytes::answer_number;
 use inventory_bytes::loaded;
 use inventory_bytes::opened;
 use inventory_bytes::store;
 use inventory_bytes::store_count;
+use refusals::OUT_OF_RANGE;
 
 // Opens an inventory of n files, whose sizes are n numbers, over the first 104 bytes of `out`.
 #[no_mangle]

@@ -4,19 +4,19 @@ ghost use mathlib.Core.Path.{_≡_};
 ghost use Rattle.gf256.specs.Answer.{inverseAnswer};
 ghost use Rattle.md5.specs.Digest.{digestInto};
 ghost use Rattle.parity.specs.Coefficient.{coefficientAnswer};
-ghost use Rattle.parity.specs.MulAdd.{mulAdd};
+ghost use Rattle.mul_add.specs.MulAdd.{mulAdd};
 ghost use Rattle.par1.specs.Checking.{checkOf};
 ghost use Rattle.par1_write.specs.EntryWriting.{writeEntryOf};
 ghost use Rattle.par1_read.specs.Reading.{readOf};
 ghost use Rattle.par1_write.specs.VolumeWriting.{writeVolumeOf};
-ghost use Rattle.result_bytes.specs.Results.{byteInto, readInto};
-ghost use Rattle.answers.specs.Writing.{numbered};
+ghost use Rattle.answer_bytes.specs.Results.{byteInto, readInto};
+ghost use Rattle.lent_bytes.specs.Writing.{withNumber};
 
 mod inventories;
 
-use answers::number_of;
-use result_bytes::put_answer;
-use result_bytes::put_reading;
+use answer_bytes::put_answer;
+use answer_bytes::put_reading;
+use lent_bytes::number_of;
 
 // The MD5 of `bytes` over the first 16 bytes of `out`.
 #[no_mangle]
@@ -47,7 +47,7 @@ pub extern "C" fn par1_coefficient(file: u64, volume: u64, out: &mut [u8]) -> u3
 pub extern "C" fn par1_mul_add(weight: u8, fragment: &[u8], buffer: &mut [u8])
     ensures { λ _. ⌜ now (buffer .exit) ≡ mulAdd weight (now (fragment .entry)) (now (buffer .entry)) ⌝ }
 {
-    parity::mul_add(weight, fragment, buffer)
+    mul_add::mul_add(weight, fragment, buffer)
 }
 
 // The parts of an index file or volume over the first 56 bytes of `out`.
@@ -61,7 +61,7 @@ pub extern "C" fn par1_read(file: &[u8], out: &mut [u8]) -> u32
 // Writes the entry of a file with these contents, status and name over the first bytes of `out`.
 #[no_mangle]
 pub extern "C" fn par1_write_entry(contents: &[u8], status: u64, name: &[u8], out: &mut [u8]) -> u32
-    ensures { λ r. ⌜ (r, now (out .exit)) ≡ numbered (writeEntryOf (now (contents .entry)) status (now (name .entry)) (now (out .entry))) ⌝ }
+    ensures { λ r. ⌜ (r, now (out .exit)) ≡ withNumber (writeEntryOf (now (contents .entry)) status (now (name .entry)) (now (out .entry))) ⌝ }
 {
     number_of(par1::write_entry(contents, status, name, out))
 }
@@ -75,7 +75,7 @@ pub extern "C" fn par1_write_volume(
     data: &[u8],
     out: &mut [u8],
 ) -> u32
-    ensures { λ r. ⌜ (r, now (out .exit)) ≡ numbered (writeVolumeOf program number (now (list .entry)) (now («data» .entry)) (now (out .entry))) ⌝ }
+    ensures { λ r. ⌜ (r, now (out .exit)) ≡ withNumber (writeVolumeOf program number (now (list .entry)) (now («data» .entry)) (now (out .entry))) ⌝ }
 {
     number_of(par1::write_volume(program, number, list, data, out))
 }

@@ -18,7 +18,7 @@ use native.Mathlib.Omega.{arith}
 use lib.Dec.{eqb}
 use lib.ListN.{length}
 use borrow.Author.Tests.{eqb-true, eq-eqb}
-use Rattle.pieces.specs.Pieces.{ifZero}
+use Rattle.cut_lists.specs.Pieces.{ifZero}
 use Rattle.entries.specs.Numbering.{savedOf}
 use Rattle.entries.specs.Walk.{walkOf}
 use Rattle.entries.specs.declared.Fault.{Fault}
@@ -27,13 +27,16 @@ use Rattle.entries.specs.declared.Walked.{Walked}
 use Rattle.entries.specs.declared.Walked.the-variants as walked
 use Rattle.entries.proofs.WalkLaws.{walk-saved}
 use Rattle.par1_rules.specs.Layout.{signature, version, signatureOf, versionOf, controlHashOf, setHashOf, numberOf, countOf, dataSizeOf, listOf}
-use Rattle.par1_rules.specs.Hashes.{equal, setHash, controlHash}
-use Rattle.par1_rules.specs.Rules.{orElse, lengthAllowed, versionAllowed, layoutAllowed, numberAllowed, dataAllowed}
+use Rattle.lent_bytes.specs.Equal.{equal}
+use Rattle.par1_rules.specs.Hashes.{setHash, controlHash}
+use Rattle.refusals.specs.Tests.{orElse}
+use Rattle.par1_rules.specs.Rules.{lengthAllowed, versionAllowed, layoutAllowed, numberAllowed, dataAllowed}
 use Rattle.par1_read.specs.Reading.{entriesIn, headerRefusal, controlRefusal, totalsRefusal, listRefusal, refusalOf, savedIn, partsOf, readOf}
 use Rattle.par1_read.specs.declared.reading.Parts.{Parts}
 use Rattle.par1_read.specs.declared.reading.Reading.the-variants.{Accepted, Refused}
-use Rattle.par1_rules.proofs.EqualLaws.{equal-true, equal-same}
-use Rattle.par1_rules.proofs.RuleLaws.{test-passed, or-else, or-none, fault-some, Between, between, long-enough, Laid, laid, laid-out}
+use Rattle.lent_bytes.proofs.EqualLaws.{equal-true, equal-same}
+use Rattle.refusals.proofs.TestLaws.{test-passed, or-else, or-none}
+use Rattle.par1_rules.proofs.RuleLaws.{fault-some, Between, between, long-enough, Laid, laid, laid-out}
 
 -- ---- the header
 

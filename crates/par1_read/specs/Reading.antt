@@ -14,15 +14,17 @@ use Prim.Native.Nat.{ℕ}
 use mathlib.Core.List.{List}
 use lib.Dec.{eqb}
 use lib.ListN.{length}
-use Rattle.pieces.specs.Pieces.{ifZero}
+use Rattle.cut_lists.specs.Pieces.{ifZero}
 use Rattle.entries.specs.Numbering.{savedOf}
 use Rattle.entries.specs.Walk.{faultNumber, entriesOf, walkOf}
 use Rattle.entries.specs.declared.Totals.{Totals}
 use Rattle.entries.specs.declared.Walked.{Walked}
 use Rattle.entries.specs.declared.Walked.the-variants as walked
 use Rattle.par1_rules.specs.Layout.{signature, signatureOf, versionOf, programOf, controlHashOf, setHashOf, numberOf, countOf, listSizeOf, dataStartOf, dataSizeOf, listOf}
-use Rattle.par1_rules.specs.Hashes.{equal, setHash, controlHash}
-use Rattle.par1_rules.specs.Rules.{test, orElse, lengthAllowed, versionAllowed, layoutAllowed, numberAllowed, dataAllowed}
+use Rattle.lent_bytes.specs.Equal.{equal}
+use Rattle.par1_rules.specs.Hashes.{setHash, controlHash}
+use Rattle.refusals.specs.Tests.{test, orElse}
+use Rattle.par1_rules.specs.Rules.{lengthAllowed, versionAllowed, layoutAllowed, numberAllowed, dataAllowed}
 use Rattle.par1_read.specs.declared.reading.Parts.{Parts}
 use Rattle.par1_read.specs.declared.reading.Reading.{Reading}
 use Rattle.par1_read.specs.declared.reading.Reading.the-variants.{Accepted, Refused}

@@ -3,7 +3,7 @@ ghost use mathlib.Core.Path.{_≡_};
 ghost use Prim.Native.Nat.{_≤_};
 ghost use lib.ListN.{length};
 ghost use Rattle.par1_rules.specs.Layout.{listOf};
-ghost use Rattle.par1_rules.specs.Rules.{orElse};
+ghost use Rattle.refusals.specs.Tests.{orElse};
 ghost use Rattle.par1_read.specs.Reading.{headerRefusal, controlRefusal, totalsRefusal, listRefusal, savedIn, readOf};
 use entries::Totals;
 use entries::Walked;
@@ -63,16 +63,16 @@ fn header_refusal(file: &[u8]) -> u32
     ensures { λ r. ⌜ r ≡ headerRefusal (now (file .entry)) ⌝ }
 {
     if !rules::length_allowed(file.len()) {
-        return answers::SIZE;
+        return refusals::SIZE;
     }
     if little_endian::read64(file, 0) != layout::SIGNATURE {
-        return answers::SIGNATURE;
+        return refusals::SIGNATURE;
     }
     if !rules::version_allowed(little_endian::read32(file, layout::VERSION_AT)) {
-        return answers::VERSION;
+        return refusals::VERSION;
     }
     if !rules::layout_allowed(file) {
-        return answers::LAYOUT;
+        return refusals::LAYOUT;
     }
     0
 }
@@ -86,7 +86,7 @@ fn control_refusal(file: &[u8]) -> u32
         &file[layout::CONTROL_HASH_AT..layout::SET_HASH_AT],
         &file[layout::SET_HASH_AT..],
     ) {
-        return answers::CONTROL_HASH;
+        return refusals::CONTROL_HASH;
     }
     0
 }
@@ -108,21 +108,21 @@ fn totals_refusal(file: &[u8], list: &[u8], totals: Totals) -> u32
     ensures { λ r. ⌜ r ≡ totalsRefusal (now (file .entry)) totals ⌝ }
 {
     if totals.entries != little_endian::read64(file, layout::COUNT_AT) {
-        return answers::ENTRY;
+        return refusals::ENTRY;
     }
     let number = little_endian::read64(file, layout::NUMBER_AT);
     if !rules::number_allowed(number, totals.saved) {
-        return answers::VOLUME_NUMBER;
+        return refusals::VOLUME_NUMBER;
     }
     if !hashes::matches_set(&file[layout::SET_HASH_AT..layout::NUMBER_AT], list) {
-        return answers::SET_HASH;
+        return refusals::SET_HASH;
     }
     if !rules::data_allowed(
         number,
         totals.greatest,
         little_endian::read64(file, layout::DATA_SIZE_AT),
     ) {
-        return answers::DATA_SIZE;
+        return refusals::DATA_SIZE;
     }
     0
 }

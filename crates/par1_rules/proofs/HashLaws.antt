@@ -18,7 +18,7 @@ use Rattle.md5.specs.Digest.{md5}
 use Rattle.md5.specs.Running.{stateOf, pushed, finished}
 use Rattle.md5.proofs.Output.{length-output}
 use Rattle.md5.proofs.Running.{push-state, finish-state}
-use Rattle.pieces.proofs.CutLaws.{cut-stop, cut-none}
+use Rattle.cut_lists.proofs.CutLaws.{cut-stop, cut-none}
 use Rattle.entries.specs.declared.Fault.{Fault}
 use Rattle.entries.specs.Entry.{statusOf, isSaved, md5Of, lengthOf}
 use Rattle.entries.specs.Numbering.{savedOf}
@@ -26,7 +26,7 @@ use Rattle.entries.specs.Walk.{entriesOf}
 use Rattle.entries.proofs.EntryLaws.{IsEntry, IsFault}
 use Rattle.entries.proofs.WalkLaws.{entries-more}
 use Rattle.par1_rules.specs.Hashes.{setHash}
-use Rattle.par1_rules.proofs.PartLaws.{part-take}
+use Rattle.lent_bytes.proofs.PartLaws.{part-take}
 
 pub length-md5 : (m : List ℕ) → length (md5 m) ≡ 16
 unfolding md5

@@ -1,4 +1,2 @@
-pub mod EqualLaws
 pub mod HashLaws
-pub mod PartLaws
 pub mod RuleLaws

@@ -1,6 +1,5 @@
 -- The rules that reading and writing share: what a test tells where it passed, and when it passes.
 --
---   test-passed, or-else, or-none     a test that passed, a refusal that stands, and none of two refusals
 --   fault-some               every fault has a refusal
 --   signature-is             the signature, as a number
 --   Between, between, long-enough, too-long     a right length, in numbers
@@ -10,37 +9,25 @@
 use mathlib.Core.Path.{_≡_, refl, sym}
 use mathlib.Core.Bool.{Bool, true, false, _&&_}
 use mathlib.Core.List.{List}
-use Prim.Native.Nat.{ℕ, zero, suc, _+_, _≤_, _<_}
+use Prim.Native.Nat.{ℕ, _+_, _≤_, _<_}
 use native.Mathlib.Omega.{arith}
 use lib.Dec.{leb, eqb}
 use lib.ListN.{length}
 use borrow.Author.Tests.{leb-true, eqb-true, eq-eqb, le-leb, lt-leb}
-use Rattle.finite.proofs.Tests.{and-both}
+use Rattle.computed_tests.proofs.Tests.{and-both}
 use Rattle.entries.specs.Walk.{faultNumber}
 use Rattle.entries.specs.declared.Fault.{Fault}
 use Rattle.entries.specs.declared.Fault.the-variants.{Size, FileSize, Name}
 use Rattle.little_endian.specs.Bytes.{fromLe}
 use Rattle.par1_rules.specs.Layout.{signature, listStartOf, listSizeOf, dataStartOf, dataSizeOf}
-use Rattle.par1_rules.specs.Rules.{test, orElse, lengthAllowed, layoutAllowed}
+use Rattle.par1_rules.specs.Rules.{lengthAllowed, layoutAllowed}
 
--- ---- tests
-
-pub test-passed : (n : ℕ) (ok : Bool) (m : ℕ) → 0 < n → test n ok m ≡ 0 → (ok ≡ true) × (m ≡ 0)
-test-passed n true m h e = (refl, e)
-test-passed n false m h e = absurd (omega arith)
+-- ---- faults
 
 pub fault-some : (f : Fault) → 0 < faultNumber f
 fault-some Size = omega arith
 fault-some FileSize = omega arith
 fault-some Name = omega arith
-
-pub or-else : (n m : ℕ) → (n ≡ 0 → ⊥) → orElse n m ≡ n
-or-else zero m h = absurd (h refl)
-or-else (suc n) m h = refl
-
-pub or-none : (n m : ℕ) → orElse n m ≡ 0 → (n ≡ 0) × (m ≡ 0)
-or-none zero m e = (refl, e)
-or-none (suc n) m e = absurd (omega arith)
 
 -- ---- the signature and the length
 

@@ -1,25 +1,16 @@
 -- The hashes of a Par 1.0 file (document 01, "Byte layout").
 --
---   equal s t        whether the lists s and t are equal
 --   setHash es       the set hash of the entries es
 --   controlHash f    the control hash of the file f
 --   md5First m       the MD5 of the first 16,384 bytes of the contents m, of all of them where they are fewer
 -- Assumes nothing.
 use Prim.Native.Nat.{ℕ}
-use mathlib.Core.Bool.{Bool, true, false, _&&_}
-use mathlib.Core.List.{List, [], _∷_, map, flatten}
-use lib.Dec.{eqb}
+use mathlib.Core.List.{List, map, flatten}
 use lib.ListN.{take}
 use Rattle.md5.specs.Digest.{md5}
 use Rattle.entries.specs.Entry.{md5Of}
 use Rattle.entries.specs.Numbering.{savedOf}
 use Rattle.par1_rules.specs.Layout.{hashedOf}
-
-unfoldable pub equal : List ℕ → List ℕ → Bool
-equal [] [] = true
-equal [] (b ∷ t) = false
-equal (a ∷ s) [] = false
-equal (a ∷ s) (b ∷ t) = eqb a b && equal s t
 
 -- "The set hash is the MD5 of the saved entries' whole-file MD5s, joined in list order."
 unfoldable pub setHash : List (List ℕ) → List ℕ

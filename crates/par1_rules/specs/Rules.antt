@@ -1,7 +1,5 @@
 -- The rules of a Par 1.0 file (document 01, "Sizes", "Byte layout", "What comes back").
 --
---   test n ok m             the refusal n unless ok holds; else m, which the further tests give. 0 is no refusal
---   orElse n m              the refusal n where it is one, else m
 --   lengthAllowed n         whether a file may have n bytes
 --   versionAllowed v        whether files of version v are read
 --   layoutAllowed f         whether list and data of the file f lie where they must
@@ -13,18 +11,12 @@ use mathlib.Core.Bool.{Bool, cond, _&&_, _||_}
 use mathlib.Core.List.{List}
 use lib.Dec.{leb, eqb}
 use lib.ListN.{length}
-use Rattle.pieces.specs.Pieces.{ifZero}
+use Rattle.refusals.specs.Limits.{maxVolumeLength, maxFiles}
 use Rattle.par1_rules.specs.Layout.{version, listStartOf, listSizeOf, dataStartOf, dataSizeOf}
-
-abbrev pub test : ℕ → Bool → ℕ → ℕ
-test n ok m = cond ok m n
-
-abbrev pub orElse : ℕ → ℕ → ℕ
-orElse n m = ifZero n m n
 
 -- "A volume or index file: 96 to 33,554,432 bytes."
 unfoldable pub lengthAllowed : ℕ → Bool
-lengthAllowed n = leb 96 n && leb n 33554432
+lengthAllowed n = leb 96 n && leb n maxVolumeLength
 
 -- "3: version is not 65,536"
 unfoldable pub versionAllowed : ℕ → Bool
@@ -36,7 +28,7 @@ layoutAllowed f = eqb (listStartOf f) 96 && eqb (dataStartOf f) (96 + listSizeOf
 
 -- "7: n above 254; or volume number 1 or more with n = 0 or number + n above 255"
 unfoldable pub numberAllowed : ℕ → ℕ → Bool
-numberAllowed v n = leb n 254 && (eqb v 0 || (leb 1 n && leb (v + n) 255))
+numberAllowed v n = leb n maxFiles && (eqb v 0 || (leb 1 n && leb (v + n) 255))
 
 -- "In the index the data area is a comment in 16-bit units, so its size is even. In a volume its size is the greatest file size in the
 -- list."

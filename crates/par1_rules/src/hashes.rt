@@ -6,8 +6,8 @@ ghost use Rattle.entries.specs.Entry.{isSaved};
 ghost use Rattle.entries.specs.Walk.{entriesOf};
 ghost use Rattle.md5.specs.Digest.{md5};
 ghost use Rattle.md5.specs.Running.{pushed};
-ghost use Rattle.par1_rules.specs.Hashes.{equal, setHash};
-use crate::comparing;
+ghost use Rattle.lent_bytes.specs.Equal.{equal};
+ghost use Rattle.par1_rules.specs.Hashes.{setHash};
 use entries::Item;
 use md5::Md5;
 
@@ -19,7 +19,7 @@ pub fn matches(hash: &[u8], bytes: &[u8]) -> bool
     ensures { λ r. ⌜ r ≡ equal (now (hash .entry)) (md5 (now (bytes .entry))) ⌝ }
 {
     let found = md5::digest(bytes);
-    comparing::same(hash, &found)
+    lent_bytes::same(hash, &found)
 }
 
 // Whether `hash` is the set hash of the entries of `list`.
@@ -27,7 +27,7 @@ pub fn matches_set(hash: &[u8], list: &[u8]) -> bool
     ensures { λ r. ⌜ r ≡ equal (now (hash .entry)) (setHash (entriesOf (now (list .entry)) .pieces)) ⌝ }
 {
     let found = of_set(list);
-    comparing::same(hash, &found)
+    lent_bytes::same(hash, &found)
 }
 
 // The part of a file's contents that the second hash of its entry covers.

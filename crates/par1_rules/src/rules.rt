@@ -2,12 +2,8 @@
 ghost use mathlib.Core.Path.{_≡_};
 ghost use Rattle.par1_rules.specs.Rules.{lengthAllowed, versionAllowed, layoutAllowed, numberAllowed, dataAllowed};
 use crate::layout;
-
-// The greatest length of a file.
-pub const MAX_LENGTH: usize = 33554432;
-
-// The greatest number of saved files.
-const MAX_SAVED: u64 = 254;
+use refusals::MAX_FILES;
+use refusals::MAX_VOLUME_LENGTH;
 
 // Whether a file may have `length` bytes.
 pub fn length_allowed(length: usize) -> bool
@@ -16,7 +12,7 @@ pub fn length_allowed(length: usize) -> bool
     if length < layout::HEADER_LENGTH {
         return false;
     }
-    length <= MAX_LENGTH
+    length <= MAX_VOLUME_LENGTH
 }
 
 // Whether files of this version are read.
@@ -54,7 +50,7 @@ pub fn layout_allowed(file: &[u8]) -> bool
 pub fn number_allowed(number: u64, saved: u64) -> bool
     ensures { λ r. ⌜ r ≡ numberAllowed number saved ⌝ }
 {
-    if saved > MAX_SAVED {
+    if saved > MAX_FILES {
         return false;
     }
     if number == 0 {

@@ -12,14 +12,14 @@ use Prim.Native.Nat.{ℕ, _+_, _≤_, _<_}
 use native.Mathlib.Omega.{arith}
 use lib.ListN.{length, length-append}
 use lib.Seq.{sets}
-use Rattle.answers.specs.Writing.{refused}
-use Rattle.answers.specs.declared.Writing.the-variants.{Written, Refused}
-use Rattle.answers.proofs.WritingLaws.{sets-over, written-fits, written-short, unless-none, unless-refused}
+use Rattle.lent_bytes.specs.Writing.{refused}
+use Rattle.lent_bytes.specs.declared.Writing.the-variants.{Written, Refused}
+use Rattle.lent_bytes.proofs.WritingLaws.{sets-over, written-fits, written-short, unless-none, unless-refused}
 use Rattle.little_endian.proofs.Numbers.{length-toLe}
 use Rattle.entries.specs.Entry.{fileSizeAllowed}
 use Rattle.par1_write.specs.EntryWriting.{entryBytes, statusAllowed, nameBytesAllowed, entryRefusal, writeEntryOf}
 use Rattle.par1_rules.proofs.HashLaws.{length-md5}
-use Rattle.par1_rules.proofs.RuleLaws.{test-passed}
+use Rattle.refusals.proofs.TestLaws.{test-passed}
 
 pub length-entry : (m : List ℕ) (status : ℕ) (name : List ℕ) → length (entryBytes m status name) ≡ 56 + length name
 unfolding entryBytes flatten

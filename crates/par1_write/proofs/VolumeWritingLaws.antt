@@ -13,9 +13,9 @@ use Prim.Native.Nat.{ℕ, _+_, _-_, _≤_, _<_}
 use native.Mathlib.Omega.{arith}
 use lib.ListN.{length, take, drop, length-append}
 use lib.Seq.{sets, sets-eq, length-sets, drop-at, length-take-le}
-use Rattle.answers.specs.Writing.{refused}
-use Rattle.answers.specs.declared.Writing.the-variants.{Written, Refused}
-use Rattle.answers.proofs.WritingLaws.{sets-over, written-fits, written-short, unless-none, unless-refused}
+use Rattle.lent_bytes.specs.Writing.{refused}
+use Rattle.lent_bytes.specs.declared.Writing.the-variants.{Written, Refused}
+use Rattle.lent_bytes.proofs.WritingLaws.{sets-over, written-fits, written-short, unless-none, unless-refused}
 use Rattle.little_endian.proofs.Numbers.{length-toLe}
 use Rattle.little_endian.proofs.NumberLists.{length-numbers}
 use Rattle.little_endian.proofs.Stores.{part-sets}
@@ -25,7 +25,8 @@ use Rattle.entries.specs.declared.Walked.{Walked}
 use Rattle.par1_rules.specs.Rules.{lengthAllowed, numberAllowed, dataAllowed}
 use Rattle.par1_write.specs.VolumeWriting.{bodyBytes, headBytes, volumeBytes, volumeRefusal, walkRefusal, writeVolumeOf}
 use Rattle.par1_rules.proofs.HashLaws.{length-md5, length-set-hash}
-use Rattle.par1_rules.proofs.RuleLaws.{test-passed, Between, between, long-enough}
+use Rattle.refusals.proofs.TestLaws.{test-passed}
+use Rattle.par1_rules.proofs.RuleLaws.{Between, between, long-enough}
 
 -- ---- lengths
 

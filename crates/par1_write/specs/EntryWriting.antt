@@ -12,15 +12,15 @@ use mathlib.Core.Bool.{Bool, _&&_}
 use mathlib.Core.List.{List, [], _∷_, flatten}
 use lib.Dec.{leb, eqb}
 use lib.ListN.{length}
-use Rattle.answers.specs.Writing.{writtenUnless}
-use Rattle.answers.specs.declared.Writing.{Writing}
+use Rattle.lent_bytes.specs.Writing.{writtenUnless}
+use Rattle.lent_bytes.specs.declared.Writing.{Writing}
 use Rattle.little_endian.specs.Bytes.{toLe}
 use Rattle.md5.specs.Digest.{md5}
 use Rattle.entries.specs.Entry.{unitsOf, nameAllowed, fileSizeAllowed}
 use Rattle.entries.specs.Walk.{faultNumber}
 use Rattle.entries.specs.declared.Fault.the-variants as fault
 use Rattle.par1_rules.specs.Hashes.{md5First}
-use Rattle.par1_rules.specs.Rules.{test}
+use Rattle.refusals.specs.Tests.{test}
 
 -- "64-bit entry size (itself included), 64-bit status, 64-bit file size, MD5 of the whole file, MD5 of its first 16,384 bytes (of all
 -- of it when shorter), then the name"

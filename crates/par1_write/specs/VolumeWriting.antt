@@ -13,8 +13,8 @@
 use Prim.Native.Nat.{ℕ, _+_}
 use mathlib.Core.List.{List, [], _∷_, _++_, flatten}
 use lib.ListN.{length}
-use Rattle.answers.specs.Writing.{writtenUnless}
-use Rattle.answers.specs.declared.Writing.{Writing}
+use Rattle.lent_bytes.specs.Writing.{writtenUnless}
+use Rattle.lent_bytes.specs.declared.Writing.{Writing}
 use Rattle.little_endian.specs.Bytes.{toLe, numbers}
 use Rattle.md5.specs.Digest.{md5}
 use Rattle.entries.specs.Walk.{faultNumber, entriesOf, walkOf}
@@ -23,7 +23,8 @@ use Rattle.entries.specs.declared.Walked.{Walked}
 use Rattle.entries.specs.declared.Walked.the-variants as walked
 use Rattle.par1_rules.specs.Layout.{signature, version}
 use Rattle.par1_rules.specs.Hashes.{setHash}
-use Rattle.par1_rules.specs.Rules.{test, lengthAllowed, numberAllowed, dataAllowed}
+use Rattle.refusals.specs.Tests.{test}
+use Rattle.par1_rules.specs.Rules.{lengthAllowed, numberAllowed, dataAllowed}
 
 -- "Then six 64-bit numbers: at 48 volume number (0 for the index), at 56 number of entries, at 64 list start, at 72 list size, at 80 data
 -- start, at 88 data size"

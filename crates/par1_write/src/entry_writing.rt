@@ -4,8 +4,8 @@ ghost use Prim.Native.Nat.{_+_, _≤_};
 ghost use lib.ListN.{length};
 ghost use lib.Seq.{sets};
 ghost use Rattle.par1_write.specs.EntryWriting.{entryBytes, nameBytesAllowed, entryRefusal, writeEntryOf};
-use answers::Writing;
 use entries::Fault;
+use lent_bytes::Writing;
 use par1_rules::hashes;
 
 // The greatest status that an entry is written with.
@@ -20,10 +20,10 @@ pub fn write_entry(contents: &[u8], status: u64, name: &[u8], out: &mut [u8]) ->
         return Writing::Refused(refusal);
     }
     if out.len() < entries::NAME_AT {
-        return Writing::Refused(answers::NO_ROOM);
+        return Writing::Refused(refusals::NO_ROOM);
     }
     if out.len() - entries::NAME_AT < name.len() {
-        return Writing::Refused(answers::NO_ROOM);
+        return Writing::Refused(refusals::NO_ROOM);
     }
     put_entry(out, contents, status, name);
     Writing::Written(entries::NAME_AT + name.len())
@@ -33,7 +33,7 @@ pub fn write_entry(contents: &[u8], status: u64, name: &[u8], out: &mut [u8]) ->
 fn entry_refusal(size: usize, status: u64, name: &[u8]) -> u32
     ensures { λ r. ⌜ r ≡ entryRefusal size status (now (name .entry)) ⌝ }
 {
-    if size as u64 > entries::MAX_FILE_SIZE {
+    if size as u64 > refusals::MAX_FILE_SIZE {
         return entries::fault_number(Fault::FileSize);
     }
     if status > MAX_STATUS {
@@ -69,7 +69,7 @@ fn put_entry(out: &mut [u8], contents: &[u8], status: u64, name: &[u8])
     little_endian::write64(out, 0, entry_size as u64);
     little_endian::write64(out, entries::STATUS_AT, status);
     little_endian::write64(out, entries::FILE_SIZE_AT, contents.len() as u64);
-    answers::put(out, entries::MD5_AT, &whole);
-    answers::put(out, entries::MD5_16K_AT, &first);
-    answers::put(out, entries::NAME_AT, name);
+    lent_bytes::put(out, entries::MD5_AT, &whole);
+    lent_bytes::put(out, entries::MD5_16K_AT, &first);
+    lent_bytes::put(out, entries::NAME_AT, name);
 }

@@ -2,6 +2,6 @@
 mod entry_writing;
 mod volume_writing;
 
-pub use answers::Writing;
 pub use entry_writing::write_entry;
+pub use lent_bytes::Writing;
 pub use volume_writing::write_volume;

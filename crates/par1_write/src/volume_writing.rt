@@ -4,9 +4,9 @@ ghost use Prim.Native.Nat.{_+_, _-_, _^_, _<_, _≤_};
 ghost use lib.ListN.{length, take, drop};
 ghost use lib.Seq.{sets};
 ghost use Rattle.par1_write.specs.VolumeWriting.{numberBytes, bodyBytes, headBytes, volumeRefusal, writeVolumeOf};
-use answers::Writing;
 use entries::Totals;
 use entries::Walked;
+use lent_bytes::Writing;
 use par1_rules::hashes;
 use par1_rules::layout;
 use par1_rules::rules;
@@ -23,7 +23,7 @@ pub fn write_volume(program: u32, number: u64, list: &[u8], data: &[u8], out: &m
             }
             let total = layout::HEADER_LENGTH + list.len() + data.len();
             if out.len() < total {
-                return Writing::Refused(answers::NO_ROOM);
+                return Writing::Refused(refusals::NO_ROOM);
             }
             put_body(out, number, totals.entries, list, data);
             put_head(out, program, total);
@@ -38,17 +38,17 @@ fn volume_refusal(number: u64, totals: Totals, list: usize, area: usize) -> u32
     ensures { λ r. ⌜ r ≡ volumeRefusal number totals list area ⌝ }
 {
     if !rules::number_allowed(number, totals.saved) {
-        return answers::VOLUME_NUMBER;
+        return refusals::VOLUME_NUMBER;
     }
     if !rules::data_allowed(number, totals.greatest, area as u64) {
-        return answers::DATA_SIZE;
+        return refusals::DATA_SIZE;
     }
-    let most = rules::MAX_LENGTH - layout::HEADER_LENGTH;
+    let most = refusals::MAX_VOLUME_LENGTH - layout::HEADER_LENGTH;
     if list > most {
-        return answers::SIZE;
+        return refusals::SIZE;
     }
     if area > most - list {
-        return answers::SIZE;
+        return refusals::SIZE;
     }
     0
 }
@@ -59,10 +59,10 @@ fn put_body(out: &mut [u8], number: u64, entries: u64, list: &[u8], data: &[u8])
     ensures { λ _. ⌜ now (out .exit) ≡ sets (now (out .entry)) 32 (bodyBytes entries number (now (list .entry)) (now («data» .entry))) ⌝ }
 {
     let set_hash = hashes::of_set(list);
-    answers::put(out, layout::SET_HASH_AT, &set_hash);
+    lent_bytes::put(out, layout::SET_HASH_AT, &set_hash);
     put_numbers(out, number, entries, list.len(), data.len());
-    answers::put(out, layout::HEADER_LENGTH, list);
-    answers::put(out, layout::HEADER_LENGTH + list.len(), data);
+    lent_bytes::put(out, layout::HEADER_LENGTH, list);
+    lent_bytes::put(out, layout::HEADER_LENGTH + list.len(), data);
 }
 
 // Writes the six numbers of the header of a file with `list` bytes of list and `area` bytes of data.
@@ -91,5 +91,5 @@ fn put_head(out: &mut [u8], program: u32, total: usize)
     little_endian::write64(out, 0, layout::SIGNATURE);
     little_endian::write32(out, layout::VERSION_AT, layout::VERSION);
     little_endian::write32(out, layout::PROGRAM_AT, program);
-    answers::put(out, layout::CONTROL_HASH_AT, &control_hash);
+    lent_bytes::put(out, layout::CONTROL_HASH_AT, &control_hash);
 }

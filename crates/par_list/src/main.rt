@@ -1,5 +1,5 @@
 // Lists the index file or volume on standard input (document 01, "What comes back"): thin over the crate `listing`.
-use answers::Writing;
+use lent_bytes::Writing;
 use libc::STDIN_FILENO;
 use libc::STDOUT_FILENO;
 

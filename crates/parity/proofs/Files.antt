@@ -13,10 +13,10 @@ use native.Mathlib.Nat.{eq-or-lt-of-le}
 use native.Mathlib.Omega.{arith}
 use lib.Dec.{leb}
 use borrow.Author.Tests.{le-leb, leb-true}
-use Rattle.finite.proofs.Tests.{and-both}
-use Rattle.parity.specs.Once.{count, Once}
+use Rattle.computed_tests.proofs.Tests.{and-both}
+use Rattle.mul_add.specs.Once.{count, Once}
 use Rattle.parity.specs.Parity.{isFile}
-use Rattle.parity.proofs.Counts.{count-same, count-other}
+use Rattle.mul_add.proofs.Counts.{count-same, count-other}
 
 -- ---- which numbers they are
 

@@ -16,12 +16,12 @@ use Rattle.gf256.specs.Field.{product}
 use Rattle.gf256.proofs.Polynomials.{sumBelow-same}
 use Rattle.parity.specs.Claim.{VolumeData}
 use Rattle.parity.specs.Coefficient.{coefficient}
-use Rattle.parity.specs.MulAdd.{mulAddAll}
-use Rattle.parity.specs.Once.{Once}
+use Rattle.mul_add.specs.MulAdd.{mulAddAll}
+use Rattle.mul_add.specs.Once.{Once}
 use Rattle.parity.specs.Parity.{Contents, isFile, parityByte, parity}
-use Rattle.parity.proofs.MulAdds.{sumBytes, length-mulAddAll, mulAddAll-shares}
+use Rattle.mul_add.proofs.MulAdds.{sumBytes, length-mulAddAll, mulAddAll-shares}
 use Rattle.parity.proofs.Files.{isFile-in, isFile-inside}
-use Rattle.parity.proofs.AnyOrder.{mulAddAll-once}
+use Rattle.mul_add.proofs.AnyOrder.{mulAddAll-once}
 use Rattle.parity.proofs.Parities.{length-parity, parity-at}
 
 module _ (rule : ℕ → ℕ → ℕ) (n : ℕ) (X : Contents) (v m : ℕ) where

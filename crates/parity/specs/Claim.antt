@@ -7,8 +7,8 @@ use mathlib.Core.List.{List}
 use Prim.Native.Nat.{ℕ}
 use lib.ListN.{replicate}
 use Rattle.parity.specs.Coefficient.{coefficient}
-use Rattle.parity.specs.MulAdd.{mulAddAll}
-use Rattle.parity.specs.Once.{Once}
+use Rattle.mul_add.specs.MulAdd.{mulAddAll}
+use Rattle.mul_add.specs.Once.{Once}
 use Rattle.parity.specs.Parity.{Contents, isFile, parity}
 
 -- "Every saved file folded with its factor into zeros of the data size gives a volume's data."; proved: proofs/Volumes.antt, `volume-data`

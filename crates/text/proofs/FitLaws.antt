@@ -10,9 +10,9 @@ use mathlib.Core.List.{List, [], _++_}
 use Prim.Native.Nat.{ℕ, _≤_, _<_, min}
 use native.Mathlib.Omega.{arith}
 use lib.ListN.{length}
-use Rattle.answers.specs.Writing.{refused, written}
-use Rattle.answers.specs.declared.Writing.the-variants.{Written}
-use Rattle.answers.proofs.WritingLaws.{written-fits, written-short}
+use Rattle.lent_bytes.specs.Writing.{refused, written}
+use Rattle.lent_bytes.specs.declared.Writing.the-variants.{Written}
+use Rattle.lent_bytes.proofs.WritingLaws.{written-fits, written-short}
 use Rattle.text.specs.Buffer.{Buffer, buffer, usizeMax, put}
 use Rattle.text.proofs.BufferLaws.{put-measure, put-whole}
 

@@ -19,8 +19,8 @@ use Rattle.gf256.specs.Polynomial.{sumBelow}
 use Rattle.gf256.specs.Field.{product}
 use Rattle.gf256.proofs.Products.{product-zero-r}
 use Rattle.parity.specs.Coefficient.{coefficient}
-use Rattle.parity.specs.MulAdd.{mulAdd}
-use Rattle.parity.proofs.MulAdds.{mulAdd-at}
+use Rattle.mul_add.specs.MulAdd.{mulAdd}
+use Rattle.mul_add.proofs.MulAdds.{mulAdd-at}
 use Rattle.elimination.specs.Reduction.{RowAdded, IsSolvable, weightOf}
 use Rattle.elimination.proofs.Reductions.{entries, ownerOf, ReducedBytes, skip-reduced, add-reduced, weight-value, weight-late, weight-none, solvable-solution, unsolvable-kernel}
 use Rattle.elimination.proofs.Elimination.{rowWeight}

@@ -123,7 +123,7 @@ pub fn file_weights(files: [u64; 4], rows: u8, weights: &[u8; 256]) -> [u8; 256]
     let mut sums = [0u8; 256];
     let mut v: usize = 0;
     while v < rows {
-        parity::mul_add(weights[v + 1], &row, &mut sums);
+        mul_add::mul_add(weights[v + 1], &row, &mut sums);
         let next = advance(row);
         row = next;
         v += 1;

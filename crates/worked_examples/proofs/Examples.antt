@@ -11,7 +11,7 @@ use Prim.Native.Nat.{ℕ, zero, suc}
 use lib.Dec.{eqb}
 use lib.ListN.{getD}
 use borrow.Author.Tests.{eqb-true}
-use Rattle.finite.proofs.Tests.{and-both}
+use Rattle.computed_tests.proofs.Tests.{and-both}
 use Rattle.gf256.specs.Polynomial.{coeff, sumBelow, polyProduct, remainder}
 use Rattle.gf256.specs.Field.{product, power}
 use Rattle.parity.specs.Coefficient.{coefficient}

@@ -14,7 +14,7 @@ use native.Mathlib.Decide.{decLt}
 use lib.Dec.{eqb, ltb, leb}
 use lib.ListN.{length, getD, List·getD-eq-default}
 use borrow.Author.Tests.{eqb-true, ltb-true, leb-true, not-true, not-false, le-leb}
-use Rattle.finite.proofs.Tests.{and-both}
+use Rattle.computed_tests.proofs.Tests.{and-both}
 use Rattle.gf256.specs.Polynomial.{sumBelow}
 use Rattle.gf256.specs.Field.{product}
 use Rattle.parity.specs.Coefficient.{coefficient}

@@ -2,8 +2,8 @@
 -- Assumes nothing.
 use mathlib.Core.Path.{sym, ap, _∙_}
 use Prim.Native.Nat.{ℕ}
-use Rattle.parity.specs.MulAdd.{mulAdd}
-use Rattle.parity.proofs.MulAdds.{mulAdd-zero}
+use Rattle.mul_add.specs.MulAdd.{mulAdd}
+use Rattle.mul_add.proofs.MulAdds.{mulAdd-zero}
 use borrow.Author.Needs.{needs}
 use Rattle.elimination.proofs.add_multiple.Statement.{statement}
 use Rattle.elimination.proofs.add_multiple.Tie as tie

@@ -9,8 +9,8 @@ use Rattle.gf256.specs.Field.{product}
 use Rattle.elimination.specs.Reduction.{entry, rowProduct}
 use Rattle.elimination.proofs.Steps.{product-more}
 use mathlib.Core.List.{List}
-use Rattle.parity.specs.MulAdd.{mulAdd}
-use Rattle.parity.proofs.MulAdds.{length-mulAdd}
+use Rattle.mul_add.specs.MulAdd.{mulAdd}
+use Rattle.mul_add.proofs.MulAdds.{length-mulAdd}
 use borrow.Author.Needs.{needs}
 use Rattle.elimination.proofs.row_times.Statement.{statement}
 use Rattle.elimination.proofs.row_times.Tie as tie

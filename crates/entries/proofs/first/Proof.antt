@@ -10,7 +10,7 @@ use denote.Ref.{now}
 use Rattle.entries.specs.Entry.{fileSizeAllowed, entrySizeAllowed, nameAllowed, unitsOf}
 use Rattle.entries.proofs.EntryLaws.{Sized, sized, first-end, first-size, first-file-size, first-name, first-entry}
 use borrow.Author.Tests.{not-true, not-false, le-leb, lt-leb}
-use Rattle.pieces.proofs.CutLaws.{part-to-end}
+use Rattle.lent_bytes.proofs.PartLaws.{part-to-end}
 use lib.Seq.{length-take-le}
 use borrow.Author.Needs.{needs}
 use Rattle.entries.proofs.first.Statement.{statement}

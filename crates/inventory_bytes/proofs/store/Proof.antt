@@ -4,8 +4,8 @@ use mathlib.Core.Path.{refl, ap, _∙_}
 use Prim.Native.Nat.{ℕ}
 use denote.Ref.{now}
 use mathlib.Core.List.{List}
-use Rattle.answers.specs.Writing.{written, numbered}
-use Rattle.answers.proofs.WritingLaws.{unless-none, unless-refused, numbered-as}
+use Rattle.lent_bytes.specs.Writing.{written, withNumber}
+use Rattle.lent_bytes.proofs.WritingLaws.{unless-none, unless-refused, numbered-as}
 use Rattle.inventory_bytes.specs.Inventories.{inventoryBytes, storedBy}
 use borrow.Author.Needs.{needs}
 use Rattle.inventory_bytes.proofs.store.Statement.{statement}
@@ -22,8 +22,8 @@ returns-2 c =
     let b = w .before .before .before in
     let a = b .before .before .before .before .before .args in
     let out : List ℕ = now (a .out) in
-    w .write .ensures ∙ ap (λ (l : List ℕ). numbered (written l out)) (b .bytes-of .ensures)
-    ∙ ap numbered (unless-none (inventoryBytes (a .outcome .next)) out refl (b .before .before .if1 .left) refl)
+    w .write .ensures ∙ ap (λ (l : List ℕ). withNumber (written l out)) (b .bytes-of .ensures)
+    ∙ ap withNumber (unless-none (inventoryBytes (a .outcome .next)) out refl (b .before .before .if1 .left) refl)
 
 pub store-spec : {M : Type 1} → statement M
 store-spec =

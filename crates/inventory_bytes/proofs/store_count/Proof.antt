@@ -4,7 +4,7 @@ use mathlib.Core.Path.{ap, _∙_}
 use Prim.Native.Nat.{ℕ}
 use denote.Ref.{now}
 use mathlib.Core.List.{List}
-use Rattle.answers.specs.Writing.{written, numbered}
+use Rattle.lent_bytes.specs.Writing.{written, withNumber}
 use borrow.Author.Needs.{needs}
 use Rattle.inventory_bytes.proofs.store_count.Statement.{statement}
 use Rattle.inventory_bytes.proofs.store_count.Tie as tie
@@ -18,7 +18,7 @@ returns-2 c =
     let b = w .before .before .before in
     let out : List ℕ = now (b .before .before .before .before .before .args .out) in
     rw (b .before .before .counted2 .given .1)
-    (w .write .ensures ∙ ap (λ (l : List ℕ). numbered (written l out)) (b .bytes-of-count .ensures))
+    (w .write .ensures ∙ ap (λ (l : List ℕ). withNumber (written l out)) (b .bytes-of-count .ensures))
 
 pub store-count-spec : {M : Type 1} → statement M
 store-count-spec =

@@ -3,7 +3,7 @@
 use mathlib.Core.Path.{ap, _∙_}
 use denote.Ref.{now}
 use Rattle.par1_read.specs.declared.reading.Reading.{Reading}
-use Rattle.answers.specs.Writing.{written}
+use Rattle.lent_bytes.specs.Writing.{written}
 use Rattle.listing.specs.Listing.{listingBy, listingOf}
 use Rattle.listing.proofs.AcceptedLaws.{list-in}
 use borrow.Author.Needs.{needs}

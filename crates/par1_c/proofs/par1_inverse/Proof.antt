@@ -3,7 +3,7 @@
 use mathlib.Core.Path.{ap, _∙_}
 use denote.Ref.{now}
 use Rattle.gf256.specs.declared.Answer.{Answer}
-use Rattle.result_bytes.specs.Results.{byteInto}
+use Rattle.answer_bytes.specs.Results.{byteInto}
 use borrow.Author.Needs.{needs}
 use Rattle.par1_c.proofs.par1_inverse.Statement.{statement}
 use Rattle.par1_c.proofs.par1_inverse.Tie as tie

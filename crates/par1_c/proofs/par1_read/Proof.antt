@@ -3,7 +3,7 @@
 use mathlib.Core.Path.{ap, _∙_}
 use denote.Ref.{now}
 use Rattle.par1_read.specs.declared.reading.Reading.{Reading}
-use Rattle.result_bytes.specs.Results.{readInto}
+use Rattle.answer_bytes.specs.Results.{readInto}
 use borrow.Author.Needs.{needs}
 use Rattle.par1_c.proofs.par1_read.Statement.{statement}
 use Rattle.par1_c.proofs.par1_read.Tie as tie

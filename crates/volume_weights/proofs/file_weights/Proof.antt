@@ -10,7 +10,7 @@ use Rattle.volume_weights.specs.Weights.{MaskedRow, FileWeights, fileWei
 use Rattle.number_sets.specs.Sets.{member}
 use mathlib.Core.List.{List}
 use native.Mathlib.Numerals.{add-one}
-use Rattle.parity.proofs.MulAdds.{length-mulAdd}
+use Rattle.mul_add.proofs.MulAdds.{length-mulAdd}
 use Rattle.gf256.specs.Polynomial.{sumBelow}
 use borrow.Author.Needs.{needs}
 use Rattle.volume_weights.proofs.file_weights.Statement.{statement}

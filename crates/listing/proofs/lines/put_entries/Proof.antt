@@ -7,7 +7,7 @@ use lib.ListN.{length, take, drop, length-take, length-drop}
 use mathlib.Core.List.{List, _++_}
 use denote.Ref.{now}
 use lib.Seq.{drop-drop}
-use Rattle.pieces.proofs.CutLaws.{part-to-end}
+use Rattle.lent_bytes.proofs.PartLaws.{part-to-end}
 use Rattle.entries.specs.Walk.{firstOf, entriesOf}
 use Rattle.entries.proofs.EntryLaws.{IsEntry, is-end, is-entry, is-fault}
 use Rattle.text.specs.Buffer.{buffer, usizeMax, put}

@@ -6,7 +6,8 @@ use native.Mathlib.Omega.{arith}
 use lib.ListN.{length, take, drop, length-take}
 use mathlib.Core.List.{List}
 use denote.Ref.{now}
-use Rattle.md5.proofs.Running.{push-short, push-long, part-to-end}
+use Rattle.lent_bytes.proofs.PartLaws.{part-to-end}
+use Rattle.md5.proofs.Running.{push-short, push-long}
 use borrow.Author.Needs.{needs}
 use Rattle.md5.proofs.Md5.push.Statement.{statement}
 use Rattle.md5.proofs.Md5.push.Tie as tie
@@ -43,7 +44,7 @@ returns-2 c =
     let more : List ℕ = take (length bs - k) (drop k bs) in
     let m : ℕ = length more / 64 * 64 in
     push-long (s .args .self) bs (tailed s) (c .before .before .before .before .before .before .before .before .fill .ensures) (c .before .before .before .before .before .before .before .before .before .before .wrapping-add-u64 .ensures) more (take (length more - m) (drop m more))
-    (c .before .before .before .before .before .before .before .if1 .left) (c .before .before .before .before .before .fill3 .ensures) (part-to-end k bs) (part-to-end m more) (c .before .before .fill4 .ensures) (c .after-blocks .ensures)
+    (c .before .before .before .before .before .before .before .if1 .left) (c .before .before .before .before .before .fill3 .ensures) (part-to-end bs k) (part-to-end more m) (c .before .before .fill4 .ensures) (c .after-blocks .ensures)
 
 pub push-spec : {M : Type 1} → statement M
 push-spec =

@@ -11,7 +11,8 @@ use mathlib.Core.Bool.{true}
 use lib.Dec.{eqb}
 use Rattle.md5.specs.Digest.{md5}
 use Rattle.entries.specs.Entry.{fileSizeOf, md5Of, md5Of16k}
-use Rattle.par1_rules.specs.Hashes.{equal, md5First}
+use Rattle.lent_bytes.specs.Equal.{equal}
+use Rattle.par1_rules.specs.Hashes.{md5First}
 use Rattle.par1.specs.Checking.{loneRefusal}
 use Rattle.par1.proofs.CheckingLaws.{lone-passed, check-refused, check-lone}
 use borrow.Author.Needs.{needs}

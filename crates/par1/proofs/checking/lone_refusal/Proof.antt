@@ -4,7 +4,7 @@ use mathlib.Core.Path.{_≡_, sym, ap, _∙_}
 use lib.ListN.{length}
 use denote.Ref.{now}
 use borrow.Author.Tests.{ne-eqb, eq-eqb}
-use Rattle.par1_rules.specs.Rules.{test}
+use Rattle.refusals.specs.Tests.{test}
 use lib.Dec.{eqb}
 use Rattle.par1.specs.Checking.{itemRefusal, loneRefusal}
 use borrow.Author.Needs.{needs}

@@ -6,10 +6,11 @@ use native.Mathlib.Omega.{arith}
 use mathlib.Core.List.{List}
 use denote.Ref.{now}
 use borrow.Author.Tests.{not-true, not-false}
-use Rattle.pieces.proofs.CutLaws.{part-to-end}
+use Rattle.lent_bytes.proofs.PartLaws.{part-to-end}
 use Rattle.md5.specs.Digest.{md5}
 use Rattle.par1_rules.specs.Layout.{controlHashOf}
-use Rattle.par1_rules.specs.Hashes.{equal, controlHash}
+use Rattle.lent_bytes.specs.Equal.{equal}
+use Rattle.par1_rules.specs.Hashes.{controlHash}
 use Rattle.par1_read.specs.Reading.{controlRefusal}
 use borrow.Author.Needs.{needs}
 use Rattle.par1_read.proofs.reading.control_refusal.Statement.{statement}

@@ -1,7 +1,7 @@
 -- `par1_read::reading::first_of` meets its contract.
 -- Assumes nothing.
 use mathlib.Core.Path.{sym}
-use Rattle.par1_rules.proofs.RuleLaws.{or-else}
+use Rattle.refusals.proofs.TestLaws.{or-else}
 use borrow.Author.Needs.{needs}
 use Rattle.par1_read.proofs.reading.first_of.Statement.{statement}
 use Rattle.par1_read.proofs.reading.first_of.Tie as tie

@@ -7,7 +7,7 @@ use lib.ListN.{take, drop}
 use mathlib.Core.List.{List}
 use denote.Ref.{now}
 use Rattle.par1_read.proofs.ReadingLaws.{HeaderPassed, header-passed, header-refusal, later-refusal, saved-passed, read-refused, read-accepted}
-use Rattle.par1_rules.specs.Rules.{orElse}
+use Rattle.refusals.specs.Tests.{orElse}
 use Rattle.entries.specs.Walk.{walkOf}
 use Rattle.entries.specs.declared.Walked.{Walked}
 use Rattle.par1_rules.specs.Layout.{listSizeOf, listOf}

@@ -9,7 +9,8 @@ use borrow.Author.Tests.{not-true, not-false, ne-eqb, eq-eqb}
 use mathlib.Core.Bool.{true}
 use lib.Dec.{eqb}
 use Rattle.par1_rules.specs.Layout.{setHashOf, numberOf, countOf, dataSizeOf}
-use Rattle.par1_rules.specs.Hashes.{equal, setHash}
+use Rattle.lent_bytes.specs.Equal.{equal}
+use Rattle.par1_rules.specs.Hashes.{setHash}
 use Rattle.par1_rules.specs.Rules.{numberAllowed, dataAllowed}
 use Rattle.par1_read.specs.Reading.{entriesIn, totalsRefusal}
 use Rattle.entries.specs.declared.Totals.{Totals}

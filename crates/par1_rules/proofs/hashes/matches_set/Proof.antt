@@ -2,7 +2,7 @@
 -- Assumes nothing.
 use mathlib.Core.Path.{ap, _∙_}
 use denote.Ref.{now}
-use Rattle.par1_rules.specs.Hashes.{equal}
+use Rattle.lent_bytes.specs.Equal.{equal}
 use borrow.Author.Needs.{needs}
 use Rattle.par1_rules.proofs.hashes.matches_set.Statement.{statement}
 use Rattle.par1_rules.proofs.hashes.matches_set.Tie as tie

@@ -1,0 +1,36 @@
+-- What calls that answer a byte or the parts of a file give, as C sees them.
+--
+--   byteInto r out   the number of the answer r, or 14, and what `out` then holds: the byte over its first
+--   partsBytes p     the parts of an accepted file: seven numbers
+--   readInto r out   the number of the reading r, or 14, and what `out` then holds: the parts over its first bytes
+-- Assumes nothing.
+use mathlib.Core.List.{List, [], _∷_}
+use Prim.Native.Nat.{ℕ}
+use Rattle.lent_bytes.specs.Writing.{refused, written, withNumber}
+use Rattle.gf256.specs.declared.Answer.{Answer}
+use Rattle.gf256.specs.declared.Answer.the-variants as answer
+use Rattle.little_endian.specs.Bytes.{numbers}
+use Rattle.par1_read.specs.declared.reading.Parts.{Parts}
+use Rattle.par1_read.specs.declared.reading.Reading.{Reading}
+use Rattle.par1_read.specs.declared.reading.Reading.the-variants as reading
+
+unfoldable pub byteInto : Answer → List ℕ → ℕ × List ℕ
+byteInto (answer.Refused n) out = withNumber (refused n out)
+byteInto (answer.Byte b) out = withNumber (written (b ∷ []) out)
+
+-- program identifier, volume number, entries, saved entries, list size, data start, data size
+unfoldable pub partsBytes : Parts → List ℕ
+partsBytes p =
+    numbers
+    (p .program
+    ∷ p .number
+    ∷ p .entries
+    ∷ p .saved
+    ∷ p .«list_size»
+    ∷ p .«data_start»
+    ∷ p .«data_size»
+    ∷ [])
+
+unfoldable pub readInto : Reading → List ℕ → ℕ × List ℕ
+readInto (reading.Refused n) out = withNumber (refused n out)
+readInto (reading.Accepted p) out = withNumber (written (partsBytes p) out)

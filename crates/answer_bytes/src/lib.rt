@@ -1,0 +1,59 @@
+// Results in lent bytes: the byte of an answer, and the parts of a file.
+ghost use mathlib.Core.Path.{_≡_};
+ghost use Rattle.answer_bytes.specs.Results.{byteInto, partsBytes, readInto};
+use gf256::Answer;
+use lent_bytes::write;
+use little_endian::write_numbers;
+use par1_read::Parts;
+use par1_read::Reading;
+
+// The length of the parts of a file, in bytes.
+const PARTS_LENGTH: usize = 56;
+
+// The byte that an answer is, over the first byte of `out`.
+pub fn put_answer(answer: Answer, out: &mut [u8]) -> u32
+    ensures { λ r. ⌜ (r, now (out .exit)) ≡ byteInto answer (now (out .entry)) ⌝ }
+{
+    match answer {
+        Answer::Refused(number) => {
+            return number;
+        }
+        Answer::Byte(byte) => {
+            let bytes = [byte];
+            return write(out, &bytes);
+        }
+    }
+}
+
+// The parts that a reading gives, over the first bytes of `out`.
+pub fn put_reading(reading: Reading, out: &mut [u8]) -> u32
+    ensures { λ r. ⌜ (r, now (out .exit)) ≡ readInto reading (now (out .entry)) ⌝ }
+{
+    match reading {
+        Reading::Refused(number) => {
+            return number;
+        }
+        Reading::Accepted(parts) => {
+            let bytes = bytes_of_parts(parts);
+            return write(out, &bytes);
+        }
+    }
+}
+
+// The parts as numbers, one after another.
+fn bytes_of_parts(parts: Parts) -> [u8; PARTS_LENGTH]
+    ensures { λ r. ⌜ r ≡ partsBytes parts ⌝ }
+{
+    let numbers = [
+        parts.program as u64,
+        parts.number,
+        parts.entries,
+        parts.saved,
+        parts.list_size,
+        parts.data_start,
+        parts.data_size,
+    ];
+    let mut bytes = [0u8; PARTS_LENGTH];
+    write_numbers(&mut bytes, 0, &numbers);
+    bytes
+}

@@ -1,0 +1,3 @@
+pub mod EqualLaws
+pub mod PartLaws
+pub mod WritingLaws

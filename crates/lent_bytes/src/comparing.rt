@@ -1,0 +1,20 @@
+// Comparing bytes.
+ghost use mathlib.Core.Path.{_≡_};
+ghost use Rattle.lent_bytes.specs.Equal.{equal};
+
+// Whether `a` and `b` are the same bytes.
+pub fn same(a: &[u8], b: &[u8]) -> bool
+    ensures { λ r. ⌜ r ≡ equal (now (a .entry)) (now (b .entry)) ⌝ }
+{
+    if a.len() != b.len() {
+        return false;
+    }
+    let mut i: usize = 0;
+    while i < a.len() {
+        if a[i] != b[i] {
+            return false;
+        }
+        i += 1;
+    }
+    true
+}

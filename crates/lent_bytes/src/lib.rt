@@ -1,0 +1,62 @@
+// Stores into lent bytes, what a call answers that writes there (document 01, "What comes back"), and the comparing of bytes.
+ghost use mathlib.Core.Path.{_≡_};
+ghost use Prim.Native.Nat.{_-_, min};
+ghost use lib.Seq.{sets};
+ghost use Rattle.lent_bytes.specs.Writing.{written, writingNumber, withNumber};
+
+mod comparing;
+
+pub use comparing::same;
+use refusals::NO_ROOM;
+
+// What a call that writes answers: the length written, or the number of its refusal.
+pub enum Writing {
+    Written(usize),
+    Refused(u32),
+}
+
+// The number of an answer, 0 where it is accepted.
+pub fn number_of(writing: Writing) -> u32
+    ensures { λ r. ⌜ r ≡ writingNumber writing ⌝ }
+{
+    match writing {
+        Writing::Written(_) => 0,
+        Writing::Refused(number) => number,
+    }
+}
+
+// Writes `bytes` over the first bytes of `out`, and answers 0; or answers 14, and writes nothing, where it is shorter.
+pub fn write<'a, 'b>(out: &'a mut [u8], bytes: &'b [u8]) -> u32
+    ensures { λ r. ⌜ (r, now (out .exit)) ≡ withNumber (written (now (bytes .entry)) (now (out .entry))) ⌝ }
+{
+    if out.len() < bytes.len() {
+        return NO_ROOM;
+    }
+    put(out, 0, bytes);
+    0
+}
+
+// Writes `bytes` from `at` on; what lies past the end of `out` is dropped.
+pub fn put<'a, 'b>(out: &'a mut [u8], at: usize, bytes: &'b [u8])
+    ensures { λ _. ⌜ now (out .exit) ≡ sets (now (out .entry)) at (now (bytes .entry)) ⌝ }
+{
+    let n = fitting(out.len(), at, bytes.len());
+    let mut i: usize = 0;
+    while i < n {
+        out[at + i] = bytes[i];
+        i += 1;
+    }
+}
+
+// How many of `count` bytes have room from `at` on in `length` bytes.
+fn fitting(length: usize, at: usize, count: usize) -> usize
+    ensures { λ r. ⌜ r ≡ min count (length - at) ⌝ }
+{
+    if length <= at {
+        return 0;
+    }
+    if count <= length - at {
+        return count;
+    }
+    length - at
+}

@@ -1,0 +1,79 @@
+-- `parity::combine` meets its contract. The invariant: the sum has the multiples at the first `i` bits.
+-- The measure is what is left of the eight.
+-- Assumes nothing.
+use mathlib.Core.Path.{_≡_, refl, sym, ap, ap₂, _∙_}
+use Prim.Native.Nat.{ℕ, _≤_, _-_, _*_}
+use native.Mathlib.Numerals.{add-one}
+use native.Mathlib.Omega.{arith}
+use lib.Bits.{bitXor}
+use lib.ListN.{getD}
+use borrow.Author.Needs.{needs}
+use Rattle.gf256.specs.Polynomial.{coeff, sumBelow}
+use Rattle.mul_add.proofs.Bits.{coeff-shifted}
+use Rattle.mul_add.proofs.combine.Statement.{statement}
+use Rattle.mul_add.proofs.combine.Tie as tie
+
+abbrev Inv-loop : tie.InvT-loop
+Inv-loop x multiples sum₀ i₀ sum i = (i ≤ 8) × (sum ≡ sumBelow i (λ k. coeff x k * getD multiples k 0))
+
+abbrev μ-loop : tie.MeasureT-loop
+μ-loop x multiples sum₀ i₀ sum i = 8 - i
+
+loop-holds : tie.Need-loop-holds Inv-loop μ-loop
+unfolding sumBelow
+loop-holds c = (omega arith, refl)
+
+sub-if-high : tie.Need-sub-if-high Inv-loop μ-loop
+sub-if-high c = omega arith
+
+cast-if-high : tie.Need-cast-if-high Inv-loop μ-loop
+cast-if-high c = omega arith
+
+shl-if-high : tie.Need-shl-if-high Inv-loop μ-loop
+shl-if-high c = omega arith
+
+array-read-if-high : tie.Need-array-read-if-high Inv-loop μ-loop
+array-read-if-high c = omega arith
+
+if-high-requires : tie.Need-if-high-requires Inv-loop μ-loop
+if-high-requires c κs = search needs
+
+add-i : tie.Need-add-i Inv-loop μ-loop
+add-i c = omega arith
+
+loop-less : tie.Need-loop-less Inv-loop μ-loop
+loop-less c = omega arith
+
+loop-again : tie.Need-loop-again Inv-loop μ-loop
+unfolding sumBelow
+loop-again c =
+    let a = c .before .before .before .args in
+    let l = c .before .before .loop in
+    let bit = coeff-shifted (a .x) (l .i) (c .before .loop-test .taken) in (
+      omega arith,
+      ap₂ bitXor (l .inv .1) (c .if-high .ensures ∙ ap (λ (d : ℕ). d * getD (a .t1) (l .i) 0) bit)
+          ∙ ap (λ (n : ℕ). sumBelow n (λ k. coeff (a .x) k * getD (a .t1) k 0)) (sym (add-one (l .i))),
+    )
+
+returns : tie.Need-returns Inv-loop μ-loop
+returns c =
+    let a = c .before .before .args in
+    let l = c .before .loop in
+    l .inv .1 ∙ ap (λ (n : ℕ). sumBelow n (λ k. coeff (a .x) k * getD (a .t1) k 0)) (omega arith)
+
+pub combine-spec : {M : Type 1} → statement M
+combine-spec =
+    tie.close
+    (tie.spec
+    Inv-loop
+    μ-loop
+    loop-holds
+    sub-if-high
+    cast-if-high
+    shl-if-high
+    array-read-if-high
+    if-high-requires
+    add-i
+    loop-less
+    loop-again
+    returns)

@@ -1,0 +1,2 @@
+pub mod MulAdd
+pub mod Once

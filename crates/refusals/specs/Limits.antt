@@ -1,0 +1,24 @@
+-- The limits of document 01, "Sizes".
+--
+--   maxFileSize        the greatest size of a listed file
+--   maxVolumeLength    the greatest length of a volume or index file
+--   maxFiles           the greatest number of saved files
+--   maxListedLength    the greatest length of what the listing program takes
+-- Assumes nothing.
+use Prim.Native.Nat.{ℕ}
+
+-- "A listed file: 0 to 16,777,216 bytes."
+abbrev pub maxFileSize : ℕ
+maxFileSize = 16777216
+
+-- "A volume or index file: 96 to 33,554,432 bytes."
+abbrev pub maxVolumeLength : ℕ
+maxVolumeLength = 33554432
+
+-- "Saved files n: at most 254"
+abbrev pub maxFiles : ℕ
+maxFiles = 254
+
+-- "The listing program takes at most 65,536 bytes"
+abbrev pub maxListedLength : ℕ
+maxListedLength = 65536

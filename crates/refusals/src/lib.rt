@@ -1,0 +1,75 @@
+// Refusals (document 01, "What comes back"): the numbers of its table, the limits that they test (document 01, "Sizes"), and tests one
+// after another.
+ghost use mathlib.Core.Path.{_≡_};
+ghost use Rattle.refusals.specs.Tests.{test, orElse};
+
+// The greatest size of a listed file, in bytes.
+pub const MAX_FILE_SIZE: u64 = 16777216;
+
+// The greatest length of a volume or index file, in bytes.
+pub const MAX_VOLUME_LENGTH: usize = 33554432;
+
+// The greatest number of saved files.
+pub const MAX_FILES: u64 = 254;
+
+// The greatest length of what the listing program takes, in bytes.
+pub const MAX_LISTED_LENGTH: usize = 65536;
+
+// The length of a volume or index file, or the size of a listed file, is outside its limits.
+pub const SIZE: u32 = 1;
+
+// The first eight bytes differ.
+pub const SIGNATURE: u32 = 2;
+
+// The version is not one that is read.
+pub const VERSION: u32 = 3;
+
+// List or data does not lie where it must.
+pub const LAYOUT: u32 = 4;
+
+// The control hash differs.
+pub const CONTROL_HASH: u32 = 5;
+
+// An entry or the list breaks a rule, or the count of entries differs.
+pub const ENTRY: u32 = 6;
+
+// Too many saved files, or the volume number does not go with them.
+pub const VOLUME_NUMBER: u32 = 7;
+
+// The set hash differs.
+pub const SET_HASH: u32 = 8;
+
+// The size of the data breaks its rule.
+pub const DATA_SIZE: u32 = 9;
+
+// A number is outside its range, no calls give the inventory, or 0 has no inverse.
+pub const OUT_OF_RANGE: u32 = 10;
+
+// What is added is present already, or what is removed is not.
+pub const ALREADY: u32 = 11;
+
+// What is present does not determine the file.
+pub const UNDETERMINED: u32 = 12;
+
+// The file is present.
+pub const PRESENT: u32 = 13;
+
+// The lent bytes are too few for the result.
+pub const NO_ROOM: u32 = 14;
+
+// Length, MD5 or 16k MD5 differ from the entry.
+pub const DIFFERENT: u32 = 15;
+
+// The refusal `number` unless `ok` holds; else `later`, which the further tests give. 0 is no refusal.
+pub fn test(number: u32, ok: bool, later: u32) -> u32
+    ensures { λ r. ⌜ r ≡ test number ok later ⌝ }
+{
+    if ok { later } else { number }
+}
+
+// The refusal `first` where it is one, else `second`.
+pub fn or_else(first: u32, second: u32) -> u32
+    ensures { λ r. ⌜ r ≡ orElse first second ⌝ }
+{
+    if first == 0 { second } else { first }
+}
