@@ -7,14 +7,14 @@
 use mathlib.Core.List.{List, [], _∷_}
 use Prim.Native.Nat.{ℕ}
 use Rattle.lent_bytes.specs.Writing.{refused, written, withNumber}
-use Rattle.gf256.specs.declared.Answer.{Answer}
-use Rattle.gf256.specs.declared.Answer.the-variants as answer
+use Rattle.gf256.specs.declared.ByteAnswer.{ByteAnswer}
+use Rattle.gf256.specs.declared.ByteAnswer.the-variants as answer
 use Rattle.little_endian.specs.Bytes.{numbers}
 use Rattle.par1_read.specs.declared.reading.Parts.{Parts}
 use Rattle.par1_read.specs.declared.reading.Reading.{Reading}
 use Rattle.par1_read.specs.declared.reading.Reading.the-variants as reading
 
-unfoldable pub byteInto : Answer → List ℕ → ℕ × List ℕ
+unfoldable pub byteInto : ByteAnswer → List ℕ → ℕ × List ℕ
 byteInto (answer.Refused n) out = withNumber (refused n out)
 byteInto (answer.Byte b) out = withNumber (written (b ∷ []) out)
 

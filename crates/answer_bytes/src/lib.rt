@@ -1,7 +1,7 @@
 // Results in lent bytes: the byte of an answer, and the parts of a file.
 ghost use mathlib.Core.Path.{_≡_};
 ghost use Rattle.answer_bytes.specs.Results.{byteInto, partsBytes, readInto};
-use gf256::Answer;
+use gf256::ByteAnswer;
 use lent_bytes::write;
 use little_endian::write_numbers;
 use par1_read::Parts;
@@ -11,14 +11,14 @@ use par1_read::Reading;
 const PARTS_LENGTH: usize = 56;
 
 // The byte that an answer is, over the first byte of `out`.
-pub fn put_answer(answer: Answer, out: &mut [u8]) -> u32
+pub fn put_answer(answer: ByteAnswer, out: &mut [u8]) -> u32
     ensures { λ r. ⌜ (r, now (out .exit)) ≡ byteInto answer (now (out .entry)) ⌝ }
 {
     match answer {
-        Answer::Refused(number) => {
+        ByteAnswer::Refused(number) => {
             return number;
         }
-        Answer::Byte(byte) => {
+        ByteAnswer::Byte(byte) => {
             let bytes = [byte];
             return write(out, &bytes);
         }

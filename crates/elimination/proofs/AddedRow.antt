@@ -17,8 +17,8 @@ use lib.ListN.{length, getD, set}
 use lib.Seq.{getD-set-same, getD-set-other}
 use borrow.Author.Tests.{eq-eqb, ne-eqb}
 use Rattle.gf256.specs.Answer.{inverseAnswer}
-use Rattle.gf256.specs.declared.Answer.{Answer}
-use Rattle.gf256.specs.declared.Answer.the-variants.{Byte, Refused}
+use Rattle.gf256.specs.declared.ByteAnswer.{ByteAnswer}
+use Rattle.gf256.specs.declared.ByteAnswer.the-variants.{Byte, Refused}
 use Rattle.gf256.specs.Field.{product, inverse}
 use Rattle.elimination.specs.Reduction.{entry, rowProduct, IsPivot, sweptEntry, Swept, RowAdded, dependent, independent}
 
@@ -31,7 +31,7 @@ answered a s e =
       | no z ↦ same (sym (ap choice (ne-eqb a 0 z)) ∙ e)
     ]
   where
-    choice : Bool → Answer
+    choice : Bool → ByteAnswer
     choice b = cond b (Refused 10) (Byte (inverse a))
 
     differ : Refused 10 ≡ Byte s → ⊥

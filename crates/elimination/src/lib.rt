@@ -8,7 +8,7 @@ ghost use Prim.Native.Nat.{ℕ, _+_, _<_, _≤_};
 ghost use lib.ListN.{length, getD};
 ghost use Rattle.mul_add.specs.MulAdd.{mulAdd};
 ghost use Rattle.elimination.specs.Reduction.{withDiagonal, rowProduct, IsPivot, Swept, RowAdded, IsSolvable, weightOf};
-use gf256::Answer;
+use gf256::ByteAnswer;
 
 // Sets the diagonal to 1: makes the identity of a matrix of zeros.
 pub fn set_diagonal(matrix: &mut [u8; 65536])
@@ -29,7 +29,7 @@ pub fn add_row(matrix: &mut [u8; 65536], owners: &mut [u8; 256], row: &[u8; 256]
     let mut y = row_times(row, matrix);
     let k = pivot(&y, 0, owners);
     if k < 256 {
-        let Answer::Byte(scale) = gf256::inverse(y[k]) else {
+        let ByteAnswer::Byte(scale) = gf256::inverse(y[k]) else {
             return;
         };
         y[k] = y[k] ^ 1;

@@ -6,9 +6,9 @@ use Prim.Native.Nat.{ℕ}
 use mathlib.Core.Bool.{cond}
 use lib.Dec.{eqb}
 use Rattle.gf256.specs.Field.{inverse}
-use Rattle.gf256.specs.declared.Answer.{Answer}
-use Rattle.gf256.specs.declared.Answer.the-variants.{Byte, Refused}
+use Rattle.gf256.specs.declared.ByteAnswer.{ByteAnswer}
+use Rattle.gf256.specs.declared.ByteAnswer.the-variants.{Byte, Refused}
 
 -- "10 .. inverse of 0"
-unfoldable pub inverseAnswer : ℕ → Answer
+unfoldable pub inverseAnswer : ℕ → ByteAnswer
 inverseAnswer a = cond (eqb a 0) (Refused 10) (Byte (inverse a))

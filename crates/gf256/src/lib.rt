@@ -8,7 +8,7 @@ ghost use Rattle.gf256.specs.Field.{product, power};
 const REDUCTION: u8 = 29;
 
 // A byte, or the document's number of a refusal.
-pub enum Answer {
+pub enum ByteAnswer {
     Byte(u8),
     Refused(u32),
 }
@@ -59,11 +59,11 @@ pub fn power(a: u8, n: u8) -> u8
 }
 
 // The inverse of a, refused with 10 for 0. Each other byte to the power 255 is 1, so its inverse is its power 254.
-pub fn inverse(a: u8) -> Answer
+pub fn inverse(a: u8) -> ByteAnswer
     ensures { λ r. ⌜ r ≡ inverseAnswer a ⌝ }
 {
     if a == 0 {
-        return Answer::Refused(refusals::OUT_OF_RANGE);
+        return ByteAnswer::Refused(refusals::OUT_OF_RANGE);
     }
-    Answer::Byte(power(a, 254))
+    ByteAnswer::Byte(power(a, 254))
 }

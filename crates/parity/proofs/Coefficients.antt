@@ -10,7 +10,7 @@ use mathlib.Core.Bool.{or-true}
 use Prim.Native.Nat.{ℕ, _+_, _-_, _<_, _≤_}
 use native.Mathlib.Omega.{arith}
 use borrow.Author.Tests.{eq-eqb, ne-eqb, lt-ltb, le-ltb}
-use Rattle.gf256.specs.declared.Answer.the-variants.{Byte, Refused}
+use Rattle.gf256.specs.declared.ByteAnswer.the-variants.{Byte, Refused}
 use Rattle.gf256.proofs.Powers.{power-byte}
 use Rattle.parity.specs.Coefficient.{coefficient, coefficientAnswer}
 

@@ -7,13 +7,13 @@ use Prim.Native.Nat.{ℕ, _+_, _-_}
 use mathlib.Core.Bool.{cond, _||_}
 use lib.Dec.{eqb, ltb}
 use Rattle.gf256.specs.Field.{power}
-use Rattle.gf256.specs.declared.Answer.{Answer}
-use Rattle.gf256.specs.declared.Answer.the-variants.{Byte, Refused}
+use Rattle.gf256.specs.declared.ByteAnswer.{ByteAnswer}
+use Rattle.gf256.specs.declared.ByteAnswer.the-variants.{Byte, Refused}
 
 -- "The factor of file f in volume v is f to the power v - 1"
 unfoldable pub coefficient : ℕ → ℕ → ℕ
 coefficient f v = power f (v - 1)
 
 -- "Asking for a factor refuses with 10 if f or v is 0 or f + v is above 255"
-unfoldable pub coefficientAnswer : ℕ → ℕ → Answer
+unfoldable pub coefficientAnswer : ℕ → ℕ → ByteAnswer
 coefficientAnswer f v = cond (eqb f 0 || (eqb v 0 || ltb 255 (f + v))) (Refused 10) (Byte (coefficient f v))

@@ -5,7 +5,7 @@ use native.Mathlib.Omega.{arith}
 use borrow.Author.Tests.{eq-eqb, ne-eqb}
 use borrow.Author.Needs.{needs}
 use Rattle.gf256.specs.Answer.{inverseAnswer}
-use Rattle.gf256.specs.declared.Answer.the-variants.{Byte}
+use Rattle.gf256.specs.declared.ByteAnswer.the-variants.{Byte}
 use Rattle.gf256.proofs.Inverses.{inverse-power}
 use Rattle.gf256.proofs.inverse.Statement.{statement}
 use Rattle.gf256.proofs.inverse.Tie as tie

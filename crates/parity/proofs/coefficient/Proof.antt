@@ -3,7 +3,7 @@
 use mathlib.Core.Path.{sym, ap, _∙_}
 use native.Mathlib.Omega.{arith}
 use borrow.Author.Needs.{needs}
-use Rattle.gf256.specs.declared.Answer.the-variants.{Byte}
+use Rattle.gf256.specs.declared.ByteAnswer.the-variants.{Byte}
 use Rattle.parity.specs.Coefficient.{coefficient}
 use Rattle.parity.proofs.Coefficients.{answer-in-range, answer-file-zero, answer-volume-zero, answer-sum-above}
 use Rattle.parity.proofs.coefficient.Statement.{statement}
