@@ -1,20 +1,24 @@
-/* A set of 24 files in memory: writes its index and four volumes, removes files 7 and 24, asks which come back, rebuilds and checks them. */
+/* A set of 24 files in memory: writes its index and four volumes, loses files 7 and 24, walks the list of a volume for the sizes of the files,
+ * asks which files come back, rebuilds them and holds them against their entries. */
 #include "../include/par1.h"
 #include <stdio.h>
 #include <stdlib.h>
 #include <string.h>
 
-enum { FILES = 24, VOLUMES = 4, SIZE = 1000, ENTRY = 66, LIST = FILES * ENTRY, FILE_MAX = 96 + LIST + SIZE };
+enum { FILES = 24, VOLUMES = 4, SIZE = 1000, NAME = 10, ENTRY = PAR1_NAME_AT + NAME, LIST = FILES * ENTRY, LENGTH = PAR1_LIST_AT + LIST + SIZE };
 
-static uint8_t files[FILES + 1][SIZE];
-static size_t sizes[FILES + 1];
-static uint8_t list[LIST];
-static uint8_t volumes[VOLUMES + 1][FILE_MAX];
+/* By number, from 1. A file that is lost and a volume that is not there have the length 0. */
+static struct { uint8_t bytes[SIZE]; size_t length; } files[FILES + 1];
+static struct { uint8_t bytes[LENGTH]; size_t length; } volumes[VOLUMES + 1];
+
+/* What the list says of each file. */
+static struct { const uint8_t *entry; size_t length, size; } listed[FILES + 1];
+
 static uint8_t inventory[PAR1_INVENTORY_BYTES];
 
 /* Every call below must be accepted. */
 static void accepted(const char *call, uint32_t number) {
-    if (number != 0) {
+    if (number != PAR1_ACCEPTED) {
         printf("%s refused with %u\n", call, number);
         exit(1);
     }
@@ -26,65 +30,98 @@ static uint64_t number_at(const uint8_t *p) {
     return x;
 }
 
+static void put_number(uint8_t *p, uint64_t x) {
+    for (int i = 0; i < 8; i++) p[i] = (uint8_t)(x >> 8 * i);
+}
+
 /* Files of unequal sizes, their entries, and the volumes' data: each file, times its coefficient, added to zeros. */
 static void make_set(void) {
+    uint8_t list[LIST], index[PAR1_LIST_AT + LIST];
     for (int f = 1; f <= FILES; f++) {
-        sizes[f] = (size_t)(SIZE - 30 * f);
-        for (size_t p = 0; p < sizes[f]; p++) files[f][p] = (uint8_t)(f * 31 + p * p);
-        uint8_t name[10] = {'F', 0, 'I', 0, 'L', 0, (uint8_t)('0' + f / 10), 0, (uint8_t)('0' + f % 10), 0};
-        accepted("write_entry", par1_write_entry(files[f], sizes[f], 1, name, 10, list + (f - 1) * ENTRY, ENTRY));
+        files[f].length = (size_t)(SIZE - 30 * (f - 1));
+        for (size_t p = 0; p < files[f].length; p++) files[f].bytes[p] = (uint8_t)(f * 31 + p * p);
+        uint8_t name[NAME] = {'F', 0, 'I', 0, 'L', 0, (uint8_t)('0' + f / 10), 0, (uint8_t)('0' + f % 10), 0};
+        accepted("write_entry", par1_write_entry(files[f].bytes, files[f].length, 1, name, NAME, list + (f - 1) * ENTRY, ENTRY));
     }
-    uint8_t index[96 + LIST];
     accepted("write_volume", par1_write_volume(1, 0, list, LIST, list, 0, index, sizeof index));
     for (uint64_t v = 1; v <= VOLUMES; v++) {
         uint8_t data[SIZE] = {0};
         for (uint64_t f = 1; f <= FILES; f++) {
             uint8_t weight;
             accepted("coefficient", par1_coefficient(f, v, &weight, 1));
-            par1_mul_add(weight, files[f], sizes[f], data, sizes[1]);
+            par1_mul_add(weight, files[f].bytes, files[f].length, data, SIZE);
         }
-        accepted("write_volume", par1_write_volume(1, v, list, LIST, data, sizes[1], volumes[v], FILE_MAX));
+        accepted("write_volume", par1_write_volume(1, v, list, LIST, data, SIZE, volumes[v].bytes, LENGTH));
     }
     printf("%d files, an index and %d volumes written\n", FILES, VOLUMES);
+}
+
+/* Walks the list of a volume, entry by entry. Files are numbered over the saved entries only. */
+static int walk(const uint8_t *volume) {
+    uint8_t parts[PAR1_PARTS_BYTES], entry[PAR1_ENTRY_BYTES];
+    accepted("read", par1_read(volume, LENGTH, parts, sizeof parts));
+    const uint8_t *list = volume + PAR1_LIST_AT, *end = list + number_at(parts + PAR1_PARTS_LIST_SIZE);
+    for (int n = 0;; list += number_at(entry + PAR1_ENTRY_LENGTH)) {
+        accepted("entry", par1_entry(list, (size_t)(end - list), entry, sizeof entry));
+        if (number_at(entry + PAR1_ENTRY_LENGTH) == 0) return n;
+        if (number_at(entry + PAR1_ENTRY_STATUS) % 2 == 0) continue;
+        n++;
+        listed[n].entry = list;
+        listed[n].length = number_at(entry + PAR1_ENTRY_LENGTH);
+        listed[n].size = number_at(entry + PAR1_ENTRY_FILE_SIZE);
+    }
+}
+
+static void add_volume(uint64_t v) {
+    volumes[v].length = LENGTH;
+    accepted("add_volume", par1_add_volume(inventory, sizeof inventory, v));
+}
+
+/* An inventory of the files that the list names, with those present and two volumes. */
+static void take_inventory(int n) {
+    uint8_t sizes[8 * FILES];
+    for (int f = 1; f <= n; f++) put_number(sizes + 8 * (f - 1), listed[f].size);
+    accepted("open", par1_open((uint64_t)n, sizes, 8 * (size_t)n, inventory, sizeof inventory));
+    for (int f = 1; f <= n; f++)
+        if (files[f].length != 0) accepted("add_file", par1_add_file(inventory, sizeof inventory, (uint64_t)f));
+    add_volume(1);
+    add_volume(4);
 }
 
 static void query(uint64_t file) {
     uint8_t weights[PAR1_WEIGHTS];
     uint32_t number = par1_query(inventory, sizeof inventory, file, weights, sizeof weights);
-    printf("  file %2d: %s\n", (int)file, number == 0 ? "recoverable" : number == 12 ? "undetermined" : number == 13 ? "present" : "refused");
+    const char *answer = number == PAR1_ACCEPTED ? "recoverable" : number == PAR1_UNDETERMINED ? "undetermined" : "refused or present";
+    printf("  file %2d: %s\n", (int)file, answer);
 }
 
 /* Follows the weights over what is present, and holds the result against the file's entry. */
 static void rebuild(uint64_t file) {
     uint8_t weights[PAR1_WEIGHTS], buffer[SIZE] = {0}, parts[PAR1_PARTS_BYTES];
+    size_t size = listed[file].size;
     accepted("query", par1_query(inventory, sizeof inventory, file, weights, sizeof weights));
-    for (int f = 1; f <= FILES; f++)
-        if (f != 7 && f != 24) par1_mul_add(weights[f - 1], files[f], sizes[f], buffer, sizes[file]);
+    for (int f = 1; f <= FILES; f++) par1_mul_add(weights[f - 1], files[f].bytes, files[f].length, buffer, size);
     for (int v = 1; v <= VOLUMES; v++) {
-        if (v == 3) continue;
-        accepted("read", par1_read(volumes[v], 96 + LIST + sizes[1], parts, sizeof parts));
-        par1_mul_add(weights[FILES + v - 1], volumes[v] + number_at(parts + 40), number_at(parts + 48), buffer, sizes[file]);
+        if (volumes[v].length == 0) continue;
+        accepted("read", par1_read(volumes[v].bytes, volumes[v].length, parts, sizeof parts));
+        const uint8_t *data = volumes[v].bytes + number_at(parts + PAR1_PARTS_DATA_START);
+        par1_mul_add(weights[FILES + v - 1], data, number_at(parts + PAR1_PARTS_DATA_SIZE), buffer, size);
     }
-    accepted("check", par1_check(list + (file - 1) * ENTRY, ENTRY, buffer, sizes[file]));
-    printf("  file %2d: rebuilt, %d bytes, and checked\n", (int)file, (int)sizes[file]);
+    accepted("check", par1_check(listed[file].entry, listed[file].length, buffer, size));
+    printf("  file %2d: rebuilt, %d bytes, and checked\n", (int)file, (int)size);
 }
 
 int main(void) {
     make_set();
-    uint8_t size_bytes[8 * FILES] = {0};
-    for (int f = 1; f <= FILES; f++) {
-        size_bytes[8 * f - 8] = (uint8_t)sizes[f];
-        size_bytes[8 * f - 7] = (uint8_t)(sizes[f] >> 8);
-    }
-    accepted("open", par1_open(FILES, size_bytes, sizeof size_bytes, inventory, sizeof inventory));
-    for (uint64_t f = 1; f <= FILES; f++)
-        if (f != 7 && f != 24) accepted("add_file", par1_add_file(inventory, sizeof inventory, f));
-    accepted("add_volume", par1_add_volume(inventory, sizeof inventory, 1));
-    accepted("add_volume", par1_add_volume(inventory, sizeof inventory, 4));
+    memset(&files[7], 0, sizeof files[7]);
+    memset(&files[24], 0, sizeof files[24]);
+    int n = walk(volumes[1].bytes);
+    printf("the list of volume 1 walked: %d saved files, the first of %d bytes\n", n, (int)listed[1].size);
+    take_inventory(n);
     puts("files 7 and 24 missing, volumes 1 and 4 present:");
     query(7);
     query(24);
-    accepted("add_volume", par1_add_volume(inventory, sizeof inventory, 2));
+    add_volume(2);
     puts("volume 2 too:");
     rebuild(7);
     rebuild(24);

@@ -1,18 +1,16 @@
-/* Proved parity volumes: the calls of the static library libpar1_c.a (rt staticlib par1_c).
+/* Proved parity volumes: the calls of the static library libpar1_c.a, for C99 and later and for C++.
+ *
+ * To link:  rt staticlib par1_c;  gcc -Iinclude program.c target/staticlib/libpar1_c.a
+ * The library is for x86-64. It wants memcpy and memset of the C library and nothing else; it allocates nothing and keeps nothing between
+ * calls, so calls on different bytes may run at the same time.
  *
  * Each call that can refuse answers 0 where it is accepted, else the number of its refusal; a refused call changes no byte. A call
- * reads and writes only the bytes it is lent, each a pointer that is not NULL and a length; bytes of `out` past those written stay as
- * they were. Bytes that a call writes must not overlap others that it is lent.
+ * reads and writes only the bytes it is lent, each a pointer and a length; bytes of `out` past those written stay as they were. The pointer
+ * is not NULL, also where the length is 0: lend the address of any byte. Bytes that a call writes must not overlap others that it is lent.
+ * Numbers in lent bytes are 64 bits wide, lowest byte first.
  *
- * The numbers:
- *    1  the length of a file or volume, or a size, is out of range     9  the size of the data breaks its rule
- *    2  the first eight bytes differ                                  10  a number is out of range, or no calls give the inventory
- *    3  the version is not 65,536                                     11  present already, or not present
- *    4  list or data does not lie where it must                       12  undetermined
- *    5  the control hash differs                                      13  present
- *    6  an entry or the list breaks a rule, or the count differs      14  the bytes lent for the result are too few
- *    7  too many files, or the volume number does not go with them    15  length, MD5 or 16k MD5 differ from the entry
- *    8  the set hash differs
+ * Stack: par1_query takes 66 KiB; par1_md5, par1_read, par1_write_entry, par1_write_volume, par1_check and par1_open less than 3 KiB; the
+ * others less than 1 KiB (measured, docs/BENCHMARKS.md).
  */
 #ifndef PAR1_H
 #define PAR1_H
@@ -24,8 +22,57 @@
 extern "C" {
 #endif
 
-/* How many bytes the results take. */
-enum { PAR1_MD5_BYTES = 16, PAR1_PARTS_BYTES = 56, PAR1_INVENTORY_BYTES = 104, PAR1_COUNT_BYTES = 16, PAR1_WEIGHTS = 255 };
+/* What calls answer. */
+enum {
+    PAR1_ACCEPTED = 0,
+    PAR1_SIZE = 1,          /* the length of a file or volume, or a size, is out of range */
+    PAR1_SIGNATURE = 2,     /* the first eight bytes differ */
+    PAR1_VERSION = 3,       /* the version is not 65,536 */
+    PAR1_LAYOUT = 4,        /* list or data does not lie where it must */
+    PAR1_CONTROL_HASH = 5,  /* the control hash differs */
+    PAR1_ENTRY = 6,         /* an entry or the list breaks a rule, or the count differs */
+    PAR1_VOLUME_NUMBER = 7, /* too many files, or the volume number does not go with them */
+    PAR1_SET_HASH = 8,      /* the set hash differs */
+    PAR1_DATA_SIZE = 9,     /* the size of the data breaks its rule */
+    PAR1_OUT_OF_RANGE = 10, /* a number is out of range, no calls give the inventory, or 0 has no inverse */
+    PAR1_ALREADY = 11,      /* present already, or not present */
+    PAR1_UNDETERMINED = 12, /* what is present does not determine the file */
+    PAR1_PRESENT = 13,      /* the file is present */
+    PAR1_NO_ROOM = 14,      /* the bytes lent for the result are too few */
+    PAR1_DIFFERENT = 15     /* length, MD5 or 16k MD5 differ from the entry */
+};
+
+/* How many bytes the results take. A weight is a byte. */
+enum {
+    PAR1_MD5_BYTES = 16,
+    PAR1_PARTS_BYTES = 56,
+    PAR1_ENTRY_BYTES = 24,
+    PAR1_INVENTORY_BYTES = 104,
+    PAR1_COUNT_BYTES = 16,
+    PAR1_WEIGHTS = 255,
+    PAR1_WEIGHTS_BYTES = PAR1_WEIGHTS
+};
+
+/* Limits: the size of a listed file, the length of an index file or volume, the number of saved files. */
+enum { PAR1_MAX_FILE_SIZE = 16777216, PAR1_MAX_VOLUME_LENGTH = 33554432, PAR1_MAX_FILES = 254 };
+
+/* Where the numbers stand that par1_read writes. */
+enum {
+    PAR1_PARTS_PROGRAM = 0,
+    PAR1_PARTS_NUMBER = 8, /* 0 for an index */
+    PAR1_PARTS_ENTRIES = 16,
+    PAR1_PARTS_SAVED = 24,
+    PAR1_PARTS_LIST_SIZE = 32,
+    PAR1_PARTS_DATA_START = 40,
+    PAR1_PARTS_DATA_SIZE = 48
+};
+
+/* Where the numbers stand that par1_entry writes, and those that par1_count writes. */
+enum { PAR1_ENTRY_LENGTH = 0, PAR1_ENTRY_STATUS = 8, PAR1_ENTRY_FILE_SIZE = 16 };
+enum { PAR1_COUNT_FILES = 0, PAR1_COUNT_VOLUMES = 8 };
+
+/* Where the list starts in an index file or volume; where an entry has its MD5s and its name, which goes to its end. */
+enum { PAR1_LIST_AT = 96, PAR1_MD5_AT = 24, PAR1_MD5_16K_AT = 40, PAR1_NAME_AT = 56 };
 
 /* The MD5 (RFC 1321) of `bytes` into the first 16 bytes of `out`. Refuses with 14 where `out` is shorter. */
 uint32_t par1_md5(const uint8_t *bytes, size_t bytes_len, uint8_t *out, size_t out_len);
@@ -41,10 +88,16 @@ uint32_t par1_coefficient(uint64_t file, uint64_t volume, uint8_t *out, size_t o
 /* Adds weight times the fragment to the buffer, byte by byte, for as many bytes as both have. Refuses nothing. */
 void par1_mul_add(uint8_t weight, const uint8_t *fragment, size_t fragment_len, uint8_t *buffer, size_t buffer_len);
 
-/* What an index file or volume holds, into the first 56 bytes of `out`: seven numbers of 64 bits, lowest byte first: program identifier,
- * volume number (0 for an index), entries, saved entries, list size, data start, data size. The list starts at byte 96. Refuses with the
- * first of the numbers 1 to 9 above that holds (1: the length is not 96 to 33,554,432), then with 14 where `out` is shorter. */
+/* What an index file or volume holds, into the first 56 bytes of `out`: seven numbers, at PAR1_PARTS_..: program identifier, volume number
+ * (0 for an index), entries, saved entries, list size, data start, data size. The list starts at byte 96. Refuses with the first of the
+ * numbers 1 to 9 above that holds (1: the length is not 96 to 33,554,432), then with 14 where `out` is shorter. */
 uint32_t par1_read(const uint8_t *file, size_t file_len, uint8_t *out, size_t out_len);
+
+/* What the first entry of a list, or of what is left of one, says, into the first 24 bytes of `out`: three numbers, at PAR1_ENTRY_..: its
+ * length, its status (bit 0: saved in the parity), its file's size; three zeros where the list is over (list_len is 0), for no entry has the
+ * length 0. The entry is the first `length` bytes, and the next one comes after it. Refuses with 6 where the entry breaks a rule, then with
+ * 14 where `out` is shorter. */
+uint32_t par1_entry(const uint8_t *list, size_t list_len, uint8_t *out, size_t out_len);
 
 /* Writes the entry of a file with these contents, status and name (in 16-bit units, two bytes each) over the first 56 + name_len bytes of
  * `out`. Refuses with 6 where the contents are above 16,777,216 bytes, the status is above 3, or the name is not one or more whole units
@@ -64,13 +117,12 @@ uint32_t par1_write_volume(uint32_t program, uint64_t number, const uint8_t *lis
  * bytes, then with 15 where length, MD5 or 16k MD5 differ. */
 uint32_t par1_check(const uint8_t *entry, size_t entry_len, const uint8_t *contents, size_t contents_len);
 
-/* An inventory says what of a set of n files and their volumes is present. It is 104 bytes: 13 numbers of 64 bits, lowest byte first: n;
- * the files present, the volumes present, the files of size 1 or more, four words each, number k being bit k mod 64 of word k div 64.
- * Every call on one refuses with 10, first of all, bytes of another length or that no calls give. */
+/* An inventory says what of a set of n files and their volumes is present. It is 104 bytes, 13 numbers: n; the files present, the volumes
+ * present, the files of size 1 or more, four words each, number k being bit k mod 64 of word k div 64. Every call on one refuses with 10,
+ * first of all, bytes of another length or that no calls give. */
 
-/* Opens an inventory of n files, whose sizes are n numbers of 64 bits, nothing present, into the first 104 bytes of `inventory`. Refuses
- * with 10 where n is not 1 to 254 or the sizes are not n numbers, with 1 where a size is above 16,777,216, then with 14 where `inventory`
- * is shorter. */
+/* Opens an inventory of n files, whose sizes are n numbers, nothing present, into the first 104 bytes of `inventory`. Refuses with 10 where n
+ * is not 1 to 254 or the sizes are not n numbers, with 1 where a size is above 16,777,216, then with 14 where `inventory` is shorter. */
 uint32_t par1_open(uint64_t n, const uint8_t *sizes, size_t sizes_len, uint8_t *inventory, size_t inventory_len);
 
 /* Adds a file or a volume to what is present, or removes it: changes the 104 bytes in place. Refuses with 10 where the number is out of
@@ -80,14 +132,14 @@ uint32_t par1_remove_file(uint8_t *inventory, size_t inventory_len, uint64_t fil
 uint32_t par1_add_volume(uint8_t *inventory, size_t inventory_len, uint64_t volume);
 uint32_t par1_remove_volume(uint8_t *inventory, size_t inventory_len, uint64_t volume);
 
-/* How many files and how many volumes are present: two numbers of 64 bits, into the first 16 bytes of `out`. Refuses with 14
- * where `out` is shorter. */
+/* How many files and how many volumes are present, into the first 16 bytes of `out`: two numbers, at PAR1_COUNT_... Refuses with 14 where
+ * `out` is shorter. */
 uint32_t par1_count(const uint8_t *inventory, size_t inventory_len, uint8_t *out, size_t out_len);
 
 /* Whether a file comes back from what is present. 0: it does, and its 255 weights are the first 255 bytes of `out`, file f's at f - 1,
  * volume v's at n + v - 1: par1_mul_add of each fragment present with its weight, in any order, into zeros of the file's size gives the
- * file. 13: it is present. 12: it is undetermined, what is present does not determine it. Refuses with 10 where the file is not 1 to n, and with
- * 14, after 13 and 12, where `out` is shorter. Takes some 70 KiB of stack. */
+ * file. 13: it is present. 12: it is undetermined, what is present does not determine it. Refuses with 10 where the file is not 1 to n, and
+ * with 14, after 13 and 12, where `out` is shorter. Takes 66 KiB of stack. */
 uint32_t par1_query(const uint8_t *inventory, size_t inventory_len, uint64_t file, uint8_t *out, size_t out_len);
 
 #ifdef __cplusplus

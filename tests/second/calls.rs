@@ -7,6 +7,7 @@ extern "C" {
     fn par1_inverse(x: u8, out: *mut u8, out_len: usize) -> u32;
     fn par1_coefficient(file: u64, volume: u64, out: *mut u8, out_len: usize) -> u32;
     fn par1_read(file: *const u8, file_len: usize, out: *mut u8, out_len: usize) -> u32;
+    fn par1_entry(list: *const u8, list_len: usize, out: *mut u8, out_len: usize) -> u32;
     fn par1_write_entry(contents: *const u8, contents_len: usize, status: u64, name: *const u8, name_len: usize, out: *mut u8, out_len: usize) -> u32;
     fn par1_write_volume(program: u32, number: u64, list: *const u8, list_len: usize, data: *const u8, data_len: usize, out: *mut u8, out_len: usize) -> u32;
     fn par1_check(entry: *const u8, entry_len: usize, contents: *const u8, contents_len: usize) -> u32;
@@ -65,6 +66,10 @@ pub fn mul_add(weight: u8, fragment: &[u8], buffer: &mut [u8]) {
 
 pub fn read(file: &[u8], room: &[u8]) -> (u32, Vec<u8>) {
     lent(room, |out, len| unsafe { par1_read(file.as_ptr(), file.len(), out, len) })
+}
+
+pub fn entry(list: &[u8], room: &[u8]) -> (u32, Vec<u8>) {
+    lent(room, |out, len| unsafe { par1_entry(list.as_ptr(), list.len(), out, len) })
 }
 
 pub fn check(entry: &[u8], contents: &[u8]) -> u32 {

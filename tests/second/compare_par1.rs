@@ -23,7 +23,8 @@ fn contents(random: &mut Random) -> Vec<u8> {
     random.bytes(n)
 }
 
-fn list(random: &mut Random) -> Vec<u8> {
+/// A list of up to four entries.
+pub fn list(random: &mut Random) -> Vec<u8> {
     let mut list = vec![];
     for _ in 0..random.below(5) {
         let (m, status) = (contents(random), random.below(4) as u64);

@@ -25,8 +25,23 @@ pub fn coefficient(f: u64, v: u64, room: &[u8]) -> (u32, Vec<u8>) {
     written(if out_of_range { Err(10) } else { Ok(vec![field::coefficient(f as u8, v as u8)]) }, room)
 }
 
+/// Numbers of 64 bits, lowest byte first, one after another.
+fn bytes(numbers: &[u64]) -> Vec<u8> {
+    numbers.iter().flat_map(|x| x.to_le_bytes()).collect()
+}
+
 pub fn read(file: &[u8], room: &[u8]) -> (u32, Vec<u8>) {
-    written(par1::read(file).map(|parts| parts.iter().flat_map(|x| x.to_le_bytes()).collect()), room)
+    written(par1::read(file).map(|parts| bytes(&parts)), room)
+}
+
+/// Length, status and file size of the first entry; three zeros where the list is over.
+pub fn entry(list: &[u8], room: &[u8]) -> (u32, Vec<u8>) {
+    let numbers = if list.is_empty() {
+        Ok([0; 3])
+    } else {
+        par1::entry(list).map(|(e, length)| [length as u64, e.status, e.size]).ok_or(6)
+    };
+    written(numbers.map(|n| bytes(&n)), room)
 }
 
 pub fn write_entry(contents: &[u8], status: u64, name: &[u8], room: &[u8]) -> (u32, Vec<u8>) {
@@ -52,7 +67,7 @@ pub fn change(inventory: &[u8], volume: bool, add: bool, number: u64) -> (u32, V
 
 pub fn count(inventory: &[u8], room: &[u8]) -> (u32, Vec<u8>) {
     let counts = Inventory::parse(inventory).map(|i| i.count()).ok_or(10);
-    written(counts.map(|(files, volumes)| [files.to_le_bytes(), volumes.to_le_bytes()].concat()), room)
+    written(counts.map(|(files, volumes)| bytes(&[files, volumes])), room)
 }
 
 pub fn query(inventory: &[u8], file: u64, room: &[u8]) -> (u32, Vec<u8>) {

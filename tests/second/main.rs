@@ -4,6 +4,7 @@
 //! library's calls, on lent bytes with guards on both sides; `compare_*` are the comparisons.
 
 mod calls;
+mod compare_entries;
 mod compare_field;
 mod compare_inventory;
 mod compare_md5;
@@ -60,11 +61,12 @@ impl Random {
 fn main() {
     let mut counts = Counts { passed: 0, failed: 0 };
     let mut random = Random(2026);
-    let parts: [(&str, fn(&mut Counts, &mut Random)); 5] = [
+    let parts: [(&str, fn(&mut Counts, &mut Random)); 6] = [
         ("md5", compare_md5::run),
         ("field", compare_field::run),
         ("parity", compare_parity::run),
         ("par1", compare_par1::run),
+        ("entries", compare_entries::run),
         ("inventory", compare_inventory::run),
     ];
     for (name, run) in parts {

@@ -26,7 +26,7 @@ fn name_allowed(name: &[u8]) -> bool {
 }
 
 /// The first entry of a list and its length, or nothing where it breaks a rule.
-fn entry(list: &[u8]) -> Option<(Entry, usize)> {
+pub fn entry(list: &[u8]) -> Option<(Entry, usize)> {
     if list.len() < 8 {
         return None;
     }

@@ -1,12 +1,17 @@
--- What calls that answer a byte or the parts of a file give, as C sees them.
+-- What calls that answer a byte, the parts of a file or the first entry of a list give, as C sees them.
 --
---   byteInto r out   the number of the answer r, or 14, and what `out` then holds: the byte over its first
---   partsBytes p     the parts of an accepted file: seven numbers
---   readInto r out   the number of the reading r, or 14, and what `out` then holds: the parts over its first bytes
+--   byteInto r out       the number of the answer r, or 14, and what `out` then holds: the byte over its first
+--   partsBytes p         the parts of an accepted file: seven numbers
+--   readInto r out       the number of the reading r, or 14, and what `out` then holds: the parts over its first bytes
+--   entryBytes l st n    an entry's length, status and file size: three numbers
+--   entryInto i out      the number of a fault, or 14, and what `out` then holds: the numbers of the entry over its first bytes
 -- Assumes nothing.
 use mathlib.Core.List.{List, [], _∷_}
 use Prim.Native.Nat.{ℕ}
 use Rattle.lent_bytes.specs.Writing.{refused, written, withNumber}
+use Rattle.entries.specs.Walk.{faultNumber}
+use Rattle.entries.specs.declared.Item.{Item}
+use Rattle.entries.specs.declared.Item.the-variants as item
 use Rattle.gf256.specs.declared.ByteAnswer.{ByteAnswer}
 use Rattle.gf256.specs.declared.ByteAnswer.the-variants as answer
 use Rattle.little_endian.specs.Bytes.{numbers}
@@ -34,3 +39,12 @@ partsBytes p =
 unfoldable pub readInto : Reading → List ℕ → ℕ × List ℕ
 readInto (reading.Refused n) out = withNumber (refused n out)
 readInto (reading.Accepted p) out = withNumber (written (partsBytes p) out)
+
+unfoldable pub entryBytes : ℕ → ℕ → ℕ → List ℕ
+entryBytes l status size = numbers (l ∷ status ∷ size ∷ [])
+
+-- an entry has 58 bytes or more, so three zeros say that the list is over
+unfoldable pub entryInto : Item → List ℕ → ℕ × List ℕ
+entryInto (item.Entry l status size) out = withNumber (written (entryBytes l status size) out)
+entryInto item.End out = withNumber (written (entryBytes 0 0 0) out)
+entryInto (item.Fault f) out = withNumber (refused (faultNumber f) out)

@@ -1,6 +1,9 @@
-// Results in lent bytes: the byte of an answer, and the parts of a file.
+// Answers in lent bytes: a byte of the field, the parts of a file, and the first entry of a list.
 ghost use mathlib.Core.Path.{_≡_};
-ghost use Rattle.answer_bytes.specs.Results.{byteInto, partsBytes, readInto};
+ghost use Rattle.answer_bytes.specs.Results.{byteInto, partsBytes, readInto, entryBytes, entryInto};
+ghost use Rattle.lent_bytes.specs.Writing.{written, withNumber};
+use entries::Item;
+use entries::fault_number;
 use gf256::ByteAnswer;
 use lent_bytes::write;
 use little_endian::write_numbers;
@@ -9,6 +12,9 @@ use par1_read::Reading;
 
 // The length of the parts of a file, in bytes.
 const PARTS_LENGTH: usize = 56;
+
+// The length of an entry's numbers, in bytes.
+const ENTRY_LENGTH: usize = 24;
 
 // The byte that an answer is, over the first byte of `out`.
 pub fn put_answer(answer: ByteAnswer, out: &mut [u8]) -> u32
@@ -40,6 +46,27 @@ pub fn put_reading(reading: Reading, out: &mut [u8]) -> u32
     }
 }
 
+// The numbers of the entry that a list begins with, over the first bytes of `out`; zeros where the list is over.
+pub fn put_entry(item: Item, out: &mut [u8]) -> u32
+    ensures { λ r. ⌜ (r, now (out .exit)) ≡ entryInto item (now (out .entry)) ⌝ }
+{
+    match item {
+        Item::Entry {
+            length,
+            status,
+            size,
+        } => {
+            return put_numbers(length as u64, status, size, out);
+        }
+        Item::End => {
+            return put_numbers(0, 0, 0, out);
+        }
+        Item::Fault(fault) => {
+            return fault_number(fault);
+        }
+    }
+}
+
 // The parts as numbers, one after another.
 fn bytes_of_parts(parts: Parts) -> [u8; PARTS_LENGTH]
     ensures { λ r. ⌜ r ≡ partsBytes parts ⌝ }
@@ -56,4 +83,14 @@ fn bytes_of_parts(parts: Parts) -> [u8; PARTS_LENGTH]
     let mut bytes = [0u8; PARTS_LENGTH];
     write_numbers(&mut bytes, 0, &numbers);
     bytes
+}
+
+// An entry's length, status and file size, over the first bytes of `out`.
+fn put_numbers(length: u64, status: u64, size: u64, out: &mut [u8]) -> u32
+    ensures { λ r. ⌜ (r, now (out .exit)) ≡ withNumber (written (entryBytes length status size) (now (out .entry))) ⌝ }
+{
+    let numbers = [length, status, size];
+    let mut bytes = [0u8; ENTRY_LENGTH];
+    write_numbers(&mut bytes, 0, &numbers);
+    write(out, &bytes)
 }

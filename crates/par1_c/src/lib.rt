@@ -9,12 +9,14 @@ ghost use Rattle.par1.specs.Checking.{checkOf};
 ghost use Rattle.par1_write.specs.EntryWriting.{writeEntryOf};
 ghost use Rattle.par1_read.specs.Reading.{readOf};
 ghost use Rattle.par1_write.specs.VolumeWriting.{writeVolumeOf};
-ghost use Rattle.answer_bytes.specs.Results.{byteInto, readInto};
+ghost use Rattle.answer_bytes.specs.Results.{byteInto, readInto, entryInto};
+ghost use Rattle.entries.specs.Walk.{firstOf};
 ghost use Rattle.lent_bytes.specs.Writing.{withNumber};
 
 mod inventories;
 
 use answer_bytes::put_answer;
+use answer_bytes::put_entry;
 use answer_bytes::put_reading;
 use lent_bytes::number_of;
 
@@ -56,6 +58,14 @@ pub extern "C" fn par1_read(file: &[u8], out: &mut [u8]) -> u32
     ensures { λ r. ⌜ (r, now (out .exit)) ≡ readInto (readOf (now (file .entry))) (now (out .entry)) ⌝ }
 {
     put_reading(par1::read(file), out)
+}
+
+// Length, status and file size of the first entry of a list over the first 24 bytes of `out`; zeros where the list is over.
+#[no_mangle]
+pub extern "C" fn par1_entry(list: &[u8], out: &mut [u8]) -> u32
+    ensures { λ r. ⌜ (r, now (out .exit)) ≡ entryInto (firstOf (now (list .entry))) (now (out .entry)) ⌝ }
+{
+    put_entry(entries::first(list), out)
 }
 
 // Writes the entry of a file with these contents, status and name over the first bytes of `out`.
