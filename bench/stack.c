@@ -1,16 +1,14 @@
-/* The stack of each call of the C library: a thread runs the call on a stack of known bytes, and the deepest one that changed tells how far
- * down it went. A thread that calls an empty function is taken off. Inputs are such that each call goes its longest way. */
+/* The stack of each call of the C library: the stack below is filled with known bytes, and the deepest one that the call changed tells how
+ * far down it went; what an empty call changes is taken off. Each call has an input that is accepted and makes it go its longest way. */
 #include "../include/par1.h"
-#include <pthread.h>
 #include <stdio.h>
 #include <stdlib.h>
-#include <string.h>
 
-enum { STACK = 1 << 20, PAINT = 0xa5, FILES = 127, VOLUMES = 128, SIZE = 1 << 16, ENTRY = 58, LIST = FILES * ENTRY, VOLUME = 96 + LIST + SIZE };
+enum { STACK = 1 << 20, PAINT = 0xa5, FILES = 127, VOLUMES = 128, SIZE = 1 << 16, ENTRY = PAR1_NAME_AT + 2, LIST = FILES * ENTRY };
+enum { VOLUME = PAR1_LIST_AT + LIST + SIZE };
 
 static uint8_t contents[SIZE], list[LIST], volume[VOLUME], sizes[8 * FILES], inventory[PAR1_INVENTORY_BYTES], room[VOLUME];
 static const uint8_t name[2] = {'A', 0};
-static uint8_t stack[STACK] __attribute__((aligned(4096)));
 static uint32_t number;
 
 static void nothing(void) { number = 0; }
@@ -37,27 +35,14 @@ static const struct { const char *name; void (*run)(void); } calls[] = {
     {"par1_open", open_}, {"par1_add_file", add_file}, {"par1_remove_file", remove_file}, {"par1_add_volume", add_volume},
     {"par1_remove_volume", remove_volume}, {"par1_count", count}, {"par1_query", query}};
 
-/* Paints the stack below itself, makes the call, and counts from here to the deepest byte that changed. */
-static void *runs(void *argument) {
-    struct { void (*call)(void); size_t depth; } *asked = argument;
+/* How far below this function's frame the call changed the stack. */
+static size_t depth(void (*call)(void)) {
     volatile uint8_t *here, *p;
     __asm__ volatile("mov %%rsp, %0" : "=r"(here));
-    for (p = stack; p < here; p++) *p = PAINT;
-    asked->call();
-    for (p = stack; p < here && *p == PAINT; p++) {}
-    asked->depth = (size_t)(here - p);
-    return NULL;
-}
-
-static size_t depth(void (*call)(void)) {
-    struct { void (*call)(void); size_t depth; } asked = {call, 0};
-    pthread_attr_t attributes;
-    pthread_t thread;
-    pthread_attr_init(&attributes);
-    pthread_attr_setstack(&attributes, stack, STACK);
-    if (pthread_create(&thread, &attributes, runs, &asked) != 0 || pthread_join(thread, NULL) != 0) exit(2);
-    pthread_attr_destroy(&attributes);
-    return asked.depth;
+    for (p = here - STACK; p < here; p++) *p = PAINT;
+    call();
+    for (p = here - STACK; p < here && *p == PAINT; p++) {}
+    return (size_t)(here - p);
 }
 
 /* 127 files, their list and a volume; an inventory with every file missing and every volume present, which makes the longest query. */
