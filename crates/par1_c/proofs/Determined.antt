@@ -2,17 +2,15 @@
 --
 --   query-into-one    two replies to one query are the same
 -- Assumes nothing.
-use mathlib.Core.Path.{_≡_, sym, ap, _∙_}
+use mathlib.Core.Path.{sym, ap, _∙_}
 use mathlib.Core.Bool.{true≢false, false≢true}
-use mathlib.Core.List.{List}
-use Prim.Native.Nat.{ℕ}
 use Rattle.inventory.specs.Steps.{answerNumber}
 use Rattle.inventory.proofs.Determined.{queried-one}
 use Rattle.inventory_bytes.specs.Inventories.{inventoryOf}
-use Rattle.par1_c.specs.Inventories.{QueryInto, otherLength, answered}
+use Rattle.par1_c.specs.Inventories.{otherLength, answered}
+use Rattle.par1_c.specs.Claim.{QueryDetermined}
 
-pub query-into-one : (b : List ℕ) (f : ℕ) (out : List ℕ) (r r′ : ℕ) (o o′ : List ℕ)
-    → QueryInto b f out r o → QueryInto b f out r′ o′ → (r ≡ r′) × (o ≡ o′)
+pub query-into-one : QueryDetermined
 query-into-one b f out r r′ o o′ (otherLength l p q) (otherLength l′ p′ q′) = (p ∙ sym p′, q ∙ sym q′)
 query-into-one b f out r r′ o o′ (otherLength l p q) (answered l′ a′ h′ p′) = absurd (false≢true (sym l ∙ l′))
 query-into-one b f out r r′ o o′ (answered l a h p) (otherLength l′ p′ q′) = absurd (true≢false (sym l ∙ l′))

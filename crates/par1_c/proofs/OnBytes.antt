@@ -46,8 +46,9 @@ stored n changed s hc hs = by (eqb n 0) refl
     by true z =
         let t : List ℕ = inventoryBytes changed in
         let none : n ≡ 0 = eqb-true n 0 z in
-        let all : t ++ drop (length t) b ≡ t = ap (λ (l : List ℕ). t ++ l) (drop-of-length-le b {i = length t} (omega (arith, length-inventory changed hc, length-inventory s hs))) ∙ append-nil t in
-        let fits = written-fits t b (omega (arith, length-inventory changed hc, length-inventory s hs)) refl (sym all) in
+        let same : length t ≡ length b = length-inventory changed hc ∙ sym (length-inventory s hs) in
+        let all : t ++ drop (length t) b ≡ t = ap (λ (l : List ℕ). t ++ l) (drop-of-length-le b {i = length t} (omega arith)) ∙ append-nil t in
+        let fits = written-fits t b (omega arith) refl (sym all) in
         numbered-as none (unless-none t b refl none fits)
     by false z = numbered-as refl (unless-refused b b refl (eqb-false n 0 z) refl)
 
@@ -120,7 +121,8 @@ held-opened n sizes = by (oneTo 254 n && eqb (length sizes) n) (allBelow n (λ i
     none : Held zeros
     none = record { small = zero-lt-suc 18446744073709551615; files = words-none; volumes = words-none; nonempty = words-none }
 
-    by : (a b : Bool) → (oneTo 254 n && eqb (length sizes) n) ≡ a → Held (cond a (cond b (outcome (fresh n sizes) 0) (refusedOpening 1)) (refusedOpening 10) .next)
+    by : (a b : Bool) → (oneTo 254 n && eqb (length sizes) n) ≡ a
+        → Held (cond a (cond b (outcome (fresh n sizes) 0) (refusedOpening 1)) (refusedOpening 10) .next)
     by true true e =
         let few : n ≤ 254 = leb-true n 254 (and-both (leb 1 n) (leb n 254) (and-both (oneTo 254 n) (eqb (length sizes) n) e .0) .1) in
         record { small = omega arith; files = words-none; volumes = words-none; nonempty = nonempty-words sizes n }

@@ -1,10 +1,12 @@
--- From C each call on the bytes of an inventory is the call on the inventory, and leaves the bytes of what that call hands back.
+-- From C each call on the bytes of an inventory is the call on the inventory, and leaves the bytes of what that call hands back; and the
+-- query, which is promised by a relation, has one answer.
 --
 --   OnBytes step s k     a call that changes s: its number, and the bytes of the inventory that it hands back, which bytes can hold again
 --   OpenedOnBytes        an opening with the bytes of the sizes is one with the sizes, and bytes can hold what it gives
 --   ChangedOnBytes       so are the four calls that add and remove
 --   CountedOnBytes       so is a count
 --   QueriedOnBytes       so is a query
+--   QueryDetermined      what a query promises determines its number and the bytes lent to it
 -- Assumes nothing.
 use mathlib.Core.Path.{_≡_}
 use mathlib.Core.List.{List}
@@ -24,21 +26,29 @@ pub record OnBytes (step : Inventory → ℕ → Outcome) (s : Inventory) (k : �
   pub gives : changedBy step k (inventoryBytes s) ≡ (step s k .number, inventoryBytes (step s k .next))
   pub held : Held (step s k .next)
 
--- each size is a u64; all proved: proofs/OnBytes.antt
+-- each size is a u64; proved: proofs/OnBytes.antt, `opened-on-bytes`
 abbrev pub OpenedOnBytes : Type 0
 OpenedOnBytes =
     (n : ℕ) (sizes out : List ℕ) → ((j : ℕ) → getD sizes j 0 < 2 ^ 64)
     → (openInto n (numbers sizes) out ≡ storedBy (openStep n sizes) out) × Held (openStep n sizes .next)
 
+-- proved: proofs/OnBytes.antt, `changed-on-bytes`
 abbrev pub ChangedOnBytes : Type 0
 ChangedOnBytes =
     (s : Inventory) → Held s → (k : ℕ)
     → OnBytes addFileStep s k × OnBytes removeFileStep s k × OnBytes addVolumeStep s k × OnBytes removeVolumeStep s k
 
+-- proved: proofs/OnBytes.antt, `counted-on-bytes`
 abbrev pub CountedOnBytes : Type 0
 CountedOnBytes = (s : Inventory) → Held s → (out : List ℕ) → countInto (inventoryBytes s) out ≡ countedInto (countStep s) out
 
+-- proved: proofs/OnBytes.antt, `queried-on-bytes`
 abbrev pub QueriedOnBytes : Type 0
 QueriedOnBytes =
     (s : Inventory) → Held s → (f : ℕ) (out : List ℕ) (r : ℕ) (out′ : List ℕ) → QueryInto (inventoryBytes s) f out r out′
     → (a : Answer) × Queried s f out a out′ × (r ≡ answerNumber a)
+
+-- proved: proofs/Determined.antt, `query-into-one`
+abbrev pub QueryDetermined : Type 0
+QueryDetermined =
+    (b : List ℕ) (f : ℕ) (out : List ℕ) (r r′ : ℕ) (o o′ : List ℕ) → QueryInto b f out r o → QueryInto b f out r′ o′ → (r ≡ r′) × (o ≡ o′)
