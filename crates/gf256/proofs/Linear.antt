@@ -8,12 +8,12 @@
 --   agree                linear functions that pass the test are equal at all bytes
 -- Assumes nothing.
 use mathlib.Core.Path.{_≡_, sym, ap₂, _∙_, subst}
+use mathlib.Core.Bool.{true}
 use Prim.Native.Nat.{ℕ, zero, suc, _*_, _/_, _%_, _^_, _<_}
 use native.Mathlib.Nat.{mod-lt, zero-mul, one-mul}
 use native.Mathlib.Omega.{arith}
 use lib.Arith.{lt-one}
 use lib.Bits.{bitXor, xor-shifted, xor-self}
-use lib.Dec.{T}
 use lib.Pow.{pow-pos, split, shr-lt}
 use Rattle.computed_tests.proofs.Tests.{bit-cases, Function, EqualBelow, testBelow, equal-below}
 
@@ -66,7 +66,7 @@ extend (suc n) f g lf lg e =
     (λ i l. extend n (f (2 ^ i)) (g (2 ^ i)) (lf .1 (2 ^ i)) (lg .1 (2 ^ i)) (e i l))
 
 abbrev pub SameAtPowers : (n : ℕ) → Function n → Function n → Type 0
-SameAtPowers n f g = T (testBelow 8 n (atPowers n f) (atPowers n g))
+SameAtPowers n f g = testBelow 8 n (atPowers n f) (atPowers n g) ≡ true
 
 pub agree : (n : ℕ) (f g : Function n) → Linear n f → Linear n g → SameAtPowers n f g → EqualBelow 256 n f g
 agree n f g lf lg t = extend n f g lf lg (equal-below 8 n (atPowers n f) (atPowers n g) t)

@@ -54,7 +54,7 @@ flipped-linear = (λ a a′ b. product-xor-r b a a′, λ a. (λ b b′. product
 
 same-flipped : SameAtPowers 2 product flipped
 unfolding product polyProduct sumBelow coeff remainder
-same-flipped = tt
+same-flipped = refl
 
 pub product-comm : (a b : ℕ) → a < 256 → b < 256 → product a b ≡ product b a
 product-comm a b ha hb = agree 2 product flipped product-linear flipped-linear same-flipped a ha b hb
@@ -81,7 +81,7 @@ right-linear = (
 
 same-grouped : SameAtPowers 3 left right
 unfolding product polyProduct sumBelow coeff remainder
-same-grouped = tt
+same-grouped = refl
 
 pub product-assoc : (a b c : ℕ) → a < 256 → b < 256 → c < 256 → product (product a b) c ≡ product a (product b c)
 product-assoc a b c ha hb hc = agree 3 left right left-linear right-linear same-grouped a ha b hb c hc
@@ -90,7 +90,7 @@ product-assoc a b c ha hb hc = agree 3 left right left-linear right-linear same-
 
 same-one : SameAtPowers 1 (product 1) (λ a. a)
 unfolding product polyProduct sumBelow coeff remainder
-same-one = tt
+same-one = refl
 
 pub product-one-l : (a : ℕ) → a < 256 → product 1 a ≡ a
 product-one-l = agree 1 (product 1) (λ a. a) (product-linear .1 1) (λ a b. refl, λ a. tt) same-one

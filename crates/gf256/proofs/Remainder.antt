@@ -69,7 +69,7 @@ of-sum {p} {q} {r} {s} x y =
 multiple-top : (c k : ℕ) → c < 2 → c * (285 * 2 ^ k) / 2 ^ (k + 8) ≡ c
 multiple-top c k h =
     ap (λ (x : ℕ). x / 2 ^ (k + 8)) (sym (mul-assoc c 285 (2 ^ k))) ∙ sym (shr-shr (c * 285 * 2 ^ k) k 8)
-    ∙ ap (λ (x : ℕ). x / 256) (shl-shr (c * 285) k) ∙ equal-below 2 1 (λ c. c * 285 / 256) (λ c. c) tt c h
+    ∙ ap (λ (x : ℕ). x / 256) (shl-shr (c * 285) k) ∙ equal-below 2 1 (λ c. c * 285 / 256) (λ c. c) refl c h
 
 -- one step of the division takes off the coefficient of X^(k + 8), and so lowers the degree
 taken-off : (k p : ℕ) → p < 2 ^ (suc k + 8) → bitXor p (coeff p (k + 8) * (285 * 2 ^ k)) / 2 ^ (k + 8) ≡ 0

@@ -4,7 +4,7 @@
 --   step-odd, step-even         a sum of shifts, one bit of the second factor further
 --   product-bits                the sum of the products by the powers of two that make up the second factor, for any numbers
 -- Assumes nothing.
-use mathlib.Core.Path.{_≡_, sym, ap, _∙_}
+use mathlib.Core.Path.{_≡_, refl, sym, ap, _∙_}
 use Prim.Native.Nat.{ℕ, suc, _+_, _-_, _*_, _/_, _%_, _^_, _<_, _≤_}
 use native.Mathlib.Nat.{one-mul, lt-suc-self, div-add-mod', mod-lt}
 use native.Mathlib.Omega.{arith}
@@ -22,11 +22,11 @@ use Rattle.gf256.proofs.Products.{product-xor-r, product-zero-r, produc
 
 pub double-low : (x : ℕ) → x < 128 → x * 2 ≡ product 2 x
 unfolding product polyProduct sumBelow coeff remainder
-double-low = equal-below 128 1 (λ x. x * 2) (product 2) tt
+double-low = equal-below 128 1 (λ x. x * 2) (product 2) refl
 
 above : (x : ℕ) → x < 128 → bitXor (x * 2) 29 ≡ product 2 (128 + x)
 unfolding product polyProduct sumBelow coeff remainder
-above = equal-below 128 1 (λ x. bitXor (x * 2) 29) (λ x. product 2 (128 + x)) tt
+above = equal-below 128 1 (λ x. bitXor (x * 2) 29) (λ x. product 2 (128 + x)) refl
 
 pub double-high : (x : ℕ) → 128 ≤ x → x < 256 → bitXor ((x - 128) * 2) 29 ≡ product 2 x
 double-high x l h = above (x - 128) (omega arith) ∙ ap (product 2) (omega arith)

@@ -4,18 +4,20 @@
 --   power-256     a to the power 256 is a
 --   power-255     a to the power 255 is 1, where a is not 0
 -- Assumes nothing.
-use mathlib.Core.Path.{_≡_, refl, sym, ap, ap₂, _∙_, subst}
-use mathlib.Core.Bool.{Bool, not}
+use mathlib.Core.Path.{_≡_, refl, sym, ap, ap₂, _∙_}
+use mathlib.Core.Bool.{Bool, true, not}
 use mathlib.Core.Logic.{⊎-elim, _⊎_, inl, inr}
 use Prim.Native.Nat.{ℕ, zero, suc, _^_, _<_}
 use native.Mathlib.Nat.{pow-succ'}
 use native.Mathlib.Omega.{arith}
 use lib.Bits.{bitXor}
-use lib.Dec.{T, eqb, eqb-refl, T-not, lit<}
+use lib.Dec.{eqb, lit<}
 use lib.Pow.{pow-lt}
+use borrow.Author.Tests.{eqb-false, not-true}
 use Rattle.gf256.specs.Polynomial.{coeff, sumBelow, polyProduct, remainder}
 use Rattle.gf256.specs.Field.{product, power}
-use Rattle.computed_tests.proofs.Tests.{all, all-at, equal-below}
+use Rattle.computed_tests.specs.Numbers.{allBelow}
+use Rattle.computed_tests.proofs.Tests.{all-at, equal-below}
 use Rattle.gf256.proofs.Xor.{xor-assoc, xor-twice, xor-byte}
 use Rattle.gf256.proofs.Linear.{sums}
 use Rattle.gf256.proofs.Products.{product-xor-l, product-xor-r, product-byte, product-comm, product-zero-r}
@@ -57,7 +59,7 @@ squared-power (suc k) a h =
 -- a byte squared eight times is itself: a test at the powers of two, which goes over to sums
 same-squared : (i : ℕ) → i < 8 → squared 8 (2 ^ i) ≡ 2 ^ i
 unfolding squared product polyProduct sumBelow coeff remainder
-same-squared = equal-below 8 1 (λ i. squared 8 (2 ^ i)) (λ i. 2 ^ i) tt
+same-squared = equal-below 8 1 (λ i. squared 8 (2 ^ i)) (λ i. 2 ^ i) refl
 
 pub power-256 : (a : ℕ) → a < 256 → power a 256 ≡ a
 power-256 a h =
@@ -71,18 +73,17 @@ power-256 a h =
 ownSquare : ℕ → Bool
 ownSquare e = eqb (product e e) e
 
-none-above-one : T (all 254 (λ k. not (ownSquare (suc (suc k)))))
+none-above-one : allBelow 254 (λ k. not (ownSquare (suc (suc k)))) ≡ true
 unfolding ownSquare product polyProduct sumBelow coeff remainder
-none-above-one = tt
+none-above-one = refl
 
 own-square : (e : ℕ) → e < 256 → product e e ≡ e → (e ≡ 0) ⊎ (e ≡ 1)
 unfolding ownSquare
 own-square zero h q = inl refl
 own-square (suc zero) h q = inr refl
 own-square (suc (suc k)) h q =
-    absurd
-    (T-not (ownSquare (suc (suc k))) (all-at 254 (λ k. not (ownSquare (suc (suc k)))) none-above-one k (omega arith))
-    (subst (λ (x : ℕ). T (eqb x (suc (suc k)))) (sym q) (eqb-refl (suc (suc k)))))
+    let no : not (ownSquare (suc (suc k))) ≡ true = all-at 254 (λ k. not (ownSquare (suc (suc k)))) none-above-one k (omega arith) in
+    absurd (eqb-false (product (suc (suc k)) (suc (suc k))) (suc (suc k)) (not-true (ownSquare (suc (suc k))) no) q)
 
 power-255-squared : (a : ℕ) → a < 256 → product (power a 255) (power a 255) ≡ power a 255
 power-255-squared a h =

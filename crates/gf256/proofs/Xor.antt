@@ -19,11 +19,11 @@ bit : (a : ℕ) → a % 2 < 2
 bit a = mod-lt a (zero-lt-suc 1)
 
 differ-bit : (x : ℕ) → x < 2 → (y : ℕ) → y < 2 → differ x y ≡ differ x y % 2
-differ-bit = equal-below 2 2 (λ x y. differ x y) (λ x y. differ x y % 2) tt
+differ-bit = equal-below 2 2 (λ x y. differ x y) (λ x y. differ x y % 2) refl
 
 differ-assoc : (x : ℕ) → x < 2 → (y : ℕ) → y < 2 → (z : ℕ) → z < 2
     → differ (differ x y) z ≡ differ x (differ y z)
-differ-assoc = equal-below 2 3 (λ x y z. differ (differ x y) z) (λ x y z. differ x (differ y z)) tt
+differ-assoc = equal-below 2 3 (λ x y z. differ (differ x y) z) (λ x y z. differ x (differ y z)) refl
 
 differ-lt : (a b : ℕ) → differ (a % 2) (b % 2) < 2
 differ-lt a b =

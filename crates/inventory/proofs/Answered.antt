@@ -13,6 +13,7 @@ use native.Mathlib.Omega.{arith}
 use native.Mathlib.Decide.{decLe, decLt}
 use lib.Dec.{leb}
 use lib.ListN.{length, getD, set, replicate}
+use Rattle.computed_tests.proofs.Tests.{oneTo-inside}
 use Rattle.gf256.proofs.Polynomials.{sumBelow-lt}
 use Rattle.gf256.proofs.Products.{product-byte}
 use Rattle.parity.specs.Coefficient.{coefficient}
@@ -32,8 +33,7 @@ use Rattle.inventory.specs.Claim.{Did, Ran, Answered}
 use Rattle.inventory.specs.declared.Inventory.{Inventory}
 use Rattle.inventory.specs.declared.Answer.{Answer}
 use Rattle.inventory.specs.declared.Answer.the-variants as answer
-use Rattle.inventory.proofs.Tests.{file-in-range}
-use Rattle.inventory.proofs.CoefficientRows.{few-files}
+use Rattle.inventory.proofs.ValidInventories.{few-files}
 use Rattle.inventory.proofs.QuerySteps.{written-none, written-file, written-volume}
 use Rattle.inventory.proofs.Queries.{query-out-of-range, query-present, query-undetermined, query-no-room, query-recoverable}
 
@@ -127,7 +127,7 @@ module _ (s : Inventory) (valid : isInventory s ≡ true) (f : ℕ) (room : List
         go false e = by-weights [] (λ v l. omega arith) (empty e refl (λ v. refl))
         go true e =
             decided e (decide byteField is-zero table 256 (255 - s .n) (f - 1)
-            (let l = file-in-range (s .n) f inRange in let b = few-files s valid in omega arith))
+            (let l = oneTo-inside (s .n) f inRange in let b = few-files s valid in omega arith))
 
   valid-answered : QueryAnswered s f room
   valid-answered = go (isFile (s .n) f) refl (member (s .files) f) refl

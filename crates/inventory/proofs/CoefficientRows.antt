@@ -1,16 +1,14 @@
 -- The rows of a query are those of the state that the inventory stands for.
 --
---   few-files                  an inventory has at most 254 files
 --   table-matrix               the table of its sets is the matrix of its state
 -- Assumes nothing.
-use mathlib.Core.Path.{_≡_, refl, sym, ap, _∙_, subst, fun-ext}
-use mathlib.Core.Bool.{Bool, true, false, not, cond, _&&_, _||_, and-false}
+use mathlib.Core.Path.{_≡_, refl, sym, ap, _∙_, fun-ext}
+use mathlib.Core.Bool.{Bool, true, false, not, cond, _&&_, and-false}
 use Prim.Native.Nat.{ℕ, suc, _<_, _≤_}
 use native.Mathlib.Omega.{arith}
 use native.Mathlib.Decide.{decLt}
 use lib.Dec.{leb}
 use borrow.Author.Tests.{le-leb, lt-leb}
-use Rattle.computed_tests.proofs.Tests.{and-both}
 use Rattle.parity.specs.Coefficient.{coefficient}
 use Rattle.parity.specs.Parity.{isFile}
 use Rattle.parity.proofs.Coefficients.{coefficient-byte}
@@ -18,27 +16,16 @@ use Rattle.elimination.specs.ByteField.{toByte, byteField}
 use Rattle.elimination.proofs.ByteField.{toByte-of-value}
 use Rattle.number_sets.specs.Sets.{member}
 use Rattle.volume_weights.specs.Weights.{columnIn, tableOf}
-use Rattle.inventory.specs.Steps.{isInventory, within}
+use Rattle.inventory.specs.Steps.{isInventory}
 use Rattle.inventory.specs.Query.{stateOf, Matches}
 use Rattle.inventory.specs.declared.Inventory.{Inventory}
-use Rattle.inventory.proofs.Tests.{all-at, file-in-range}
+use Rattle.inventory.proofs.ValidInventories.{within-bits, few-files, nonempty-valid}
 use Rattle.inventory.proofs.Rows as R
 use Rattle.inventory.proofs.Rows.{mask}
 
 module _ (s : Inventory) (valid : isInventory s ≡ true) where
-  pub few-files : s .n ≤ 254
-  unfolding isInventory
-  few-files = file-in-range 254 (s .n) (and-both (isFile 254 (s .n)) _ valid .0) .1
-
-  -- the files of size 1 or more are files
-  nonempty-file : (g : ℕ) → g < 256 → member (s .nonempty) g ≡ true → isFile (s .n) g ≡ true
-  unfolding isInventory within
-  nonempty-file g l e = subst (λ (b : Bool). (not b || isFile (s .n) g) ≡ true) e (all-at 256 _ both g l)
-    where
-      both : within (s .n) (s .nonempty) ≡ true
-      both =
-          and-both (within (s .n) (s .nonempty)) _
-          (and-both (within (s .n) (s .files)) _ (and-both (isFile 254 (s .n)) _ valid .1) .1) .0
+  abbrev few : s .n ≤ 254
+  few = few-files s valid
 
   -- a file that is not empty and not present is a column
   column-bits : (g : ℕ) → g < 256 → (member (s .nonempty) g && not (member (s .files) g)) ≡ (isFile (s .n) g && (not (member (s .files) g) && member (s .nonempty) g))
@@ -46,13 +33,13 @@ module _ (s : Inventory) (valid : isInventory s ≡ true) where
     where
       go : (a : Bool) → member (s .nonempty) g ≡ a → (b : Bool) → (a && not b) ≡ (isFile (s .n) g && (not b && a))
       go true e true = sym (and-false (isFile (s .n) g))
-      go true e false = sym (ap (λ (c : Bool). c && true) (nonempty-file g l e))
+      go true e false = sym (ap (λ (c : Bool). c && true) (within-bits (s .n) (s .nonempty) (nonempty-valid s valid) g l e))
       go false e true = sym (and-false (isFile (s .n) g))
       go false e false = sym (and-false (isFile (s .n) g))
 
   module _ (size : ℕ → ℕ) (matches : Matches s size) where
     abbrev inColumn : ℕ → Bool
-    inColumn = R.inColumn coefficient coefficient-byte (stateOf s size) few-files
+    inColumn = R.inColumn coefficient coefficient-byte (stateOf s size) few
 
     sized : (i : ℕ) → (isFile (s .n) (suc i) && (not (member (s .files) (suc i)) && member (s .nonempty) (suc i))) ≡ inColumn i
     sized i = go (isFile (s .n) (suc i)) refl
@@ -71,10 +58,10 @@ module _ (s : Inventory) (valid : isInventory s ≡ true) where
               ∙ column-bits (suc i) (omega arith) ∙ sized i
           | no q ↦
               ap (λ (b : Bool). b && (member (s .nonempty) (suc i) && not (member (s .files) (suc i)))) (lt-leb (suc i) 255 (omega arith))
-              ∙ sym (R.inColumn-past coefficient coefficient-byte (stateOf s size) few-files i (omega (arith, few-files)))
+              ∙ sym (R.inColumn-past coefficient coefficient-byte (stateOf s size) few i (omega (arith, few)))
         ]
 
-    pub table-matrix : tableOf (s .nonempty) (s .files) (s .volumes) ≡ R.matrix coefficient coefficient-byte (stateOf s size) few-files
+    pub table-matrix : tableOf (s .nonempty) (s .files) (s .volumes) ≡ R.matrix coefficient coefficient-byte (stateOf s size) few
     unfolding tableOf R.matrix R.coef mask
     table-matrix = fun-ext (λ v. fun-ext (λ i. at v i))
       where
@@ -83,7 +70,7 @@ module _ (s : Inventory) (valid : isInventory s ≡ true) where
         masked true false x = toByte-of-value (byteField .𝟘)
         masked false b x = toByte-of-value (byteField .𝟘)
 
-        at : (v i : ℕ) → tableOf (s .nonempty) (s .files) (s .volumes) v i ≡ R.matrix coefficient coefficient-byte (stateOf s size) few-files v i
+        at : (v i : ℕ) → tableOf (s .nonempty) (s .files) (s .volumes) v i ≡ R.matrix coefficient coefficient-byte (stateOf s size) few v i
         at v i =
             masked (member (s .volumes) (suc v)) (columnIn (s .nonempty) (s .files) (suc i)) (coefficient (suc i) (suc v))
             ∙ ap (λ (b : Bool). mask (member (s .volumes) (suc v)) (mask b (toByte (coefficient (suc i) (suc v))))) (column-same i)

@@ -12,6 +12,7 @@ use native.Mathlib.Nat.{not-suc-le-zero}
 use native.Mathlib.Omega.{arith}
 use lib.ListN.{length, take, drop, replicate}
 use lib.Seq.{take-at}
+use Rattle.computed_tests.proofs.Tests.{oneTo-inside}
 use Rattle.parity.specs.Coefficient.{coefficient}
 use Rattle.mul_add.specs.MulAdd.{mulAddAll}
 use Rattle.mul_add.specs.Once.{Once}
@@ -22,7 +23,6 @@ use Rattle.inventory.specs.Model.{Call, query, Reply, queried, opened, n
 use Rattle.inventory.specs.Steps.{openStep}
 use Rattle.inventory.specs.Claim.{Did, Ran, sizeIn, Condition3}
 use Rattle.inventory.specs.declared.Inventory.{Inventory}
-use Rattle.inventory.proofs.Tests.{file-in-range}
 use Rattle.inventory.proofs.Following.{follow}
 use Rattle.inventory.proofs.Representation.{Represents, opened-represents, meets}
 use Rattle.inventory.proofs.Calls.{after-n, after-size, after-told, givesAll-one}
@@ -60,9 +60,9 @@ missing-weights t f room room′ r e (recoverable y b w W) =
 follow-file : (t : State) → t .n ≤ 254 → (X : Contents) → IsContents t X → (f : ℕ) → isFile (t .n) f ≡ true → t .files f ≡ false
     → (w : List ℕ) → IsWeights coefficient t f w → (fragment : ℕ → List ℕ) → ComeFrom coefficient t X fragment
     → (ks : List ℕ) → Once (present t) ks → mulAddAll (place w) fragment ks (replicate (t .size f) 0) ≡ X f
-follow-file t l X hX zero r m w W fragment from ks once = absurd (not-suc-le-zero (file-in-range (t .n) zero r .0))
+follow-file t l X hX zero r m w W fragment from ks once = absurd (not-suc-le-zero (oneTo-inside (t .n) zero r .0))
 follow-file t l X hX (suc f) r m w W fragment from ks once =
-    follow coefficient coefficient-byte t l X hX f (file-in-range (t .n) (suc f) r .1) m w W fragment from ks once
+    follow coefficient coefficient-byte t l X hX f (oneTo-inside (t .n) (suc f) r .1) m w W fragment from ks once
 
 pub condition : Condition3
 unfolding Gives

@@ -14,7 +14,7 @@ use Rattle.inventory.specs.Model.{query, queried}
 use Rattle.inventory.specs.Query.{stateOf, Matches, answerOf, Queried, noInventory, asModel}
 use Rattle.inventory.specs.declared.Inventory.{Inventory}
 use Rattle.inventory.specs.declared.Answer.{Answer}
-use Rattle.inventory.proofs.CoefficientRows.{few-files}
+use Rattle.inventory.proofs.ValidInventories.{few-files}
 use Rattle.inventory.proofs.Calls.{gives-one}
 
 -- sizes that an inventory can stand for

@@ -15,7 +15,7 @@ use lib.Dec.{leb}
 use lib.ListN.{length, getD, replicate, length-replicate, getD-replicate, List·getD-eq-default}
 use lib.Seq.{ext-getD}
 use borrow.Author.Tests.{leb-false, leb-true, le-leb, lt-leb, eq-eqb, ne-eqb}
-use Rattle.computed_tests.proofs.Tests.{and-both}
+use Rattle.computed_tests.proofs.Tests.{and-both, oneTo-in}
 use Rattle.gf256.specs.Polynomial.{sumBelow}
 use Rattle.gf256.specs.Field.{product}
 use Rattle.gf256.proofs.Xor.{xor-assoc}
@@ -32,7 +32,6 @@ use Rattle.elimination.proofs.Solutions.{by-columns}
 use Rattle.elimination.specs.ByteField.{Byte, byte-eq}
 use Rattle.elimination.proofs.ByteField.{sum-value}
 use Rattle.inventory.specs.Recoverable.{State, isVolume, IsContents, place, present, weighted, IsWeights, ComeFrom}
-use Rattle.inventory.proofs.Tests.{file-range, volume-range}
 use Rattle.inventory.proofs.Rows as R
 use Rattle.inventory.proofs.Rows.{K, mask, cell}
 open Field K using (𝟘, 𝟙, add as _⊕_, mul as _⊗_)
@@ -66,7 +65,7 @@ module _ (rule : ℕ → ℕ → ℕ) (small : (f v : ℕ) → f < 256 → rule 
   rows = 255 - t .n
 
   file : (i : ℕ) → i < t .n → isFile (t .n) (suc i) ≡ true
-  file i l = file-range (t .n) (suc i) (omega arith) l
+  file i l = oneTo-in (t .n) (suc i) (omega arith) l
 
   present-file : (i : ℕ) → i < t .n → present t (suc i) ≡ t .files (suc i)
   present-file i l =
@@ -120,7 +119,7 @@ module _ (rule : ℕ → ℕ → ℕ) (small : (f v : ℕ) → f < 256 → rule 
         ∙ go (t .volumes (suc s)) refl
       where
         volume : isVolume (t .n) (suc s) ≡ true
-        volume = volume-range (t .n) (suc s) (omega arith) (omega arith)
+        volume = oneTo-in (255 - t .n) (suc s) (omega arith) (omega arith)
 
         go : (b : Bool) → t .volumes (suc s) ≡ b
             → cond b (product (place w (suc (t .n + s))) (getD (fragment (suc (t .n + s))) p 0)) 0

@@ -1,4 +1,5 @@
 pub mod Tests
+pub mod ValidInventories
 pub mod Outcomes
 pub mod Rows
 pub mod Recovery

@@ -14,12 +14,13 @@ use native.Mathlib.Numerals.{add-one}
 use lib.Dec.{leb, eqb}
 use lib.ListN.{length, getD}
 use borrow.Author.Tests.{eq-eqb, ne-eqb, le-leb, lt-leb}
+use Rattle.computed_tests.specs.Numbers.{allBelow}
+use Rattle.computed_tests.proofs.Tests.{all-false, all-true}
 use Rattle.parity.specs.Parity.{isFile}
 use Rattle.number_sets.specs.Sets.{inserted}
-use Rattle.inventory.specs.Steps.{allBelow, outcome, changeNumber, unlessRefused, accepted, withFiles, withVolumes, fresh, refusedOpening, nonemptyOf, openStep}
+use Rattle.inventory.specs.Steps.{outcome, changeNumber, unlessRefused, accepted, withFiles, withVolumes, fresh, refusedOpening, nonemptyOf, openStep}
 use Rattle.inventory.specs.declared.Inventory.{Inventory}
 use Rattle.inventory.specs.declared.Outcome.{Outcome}
-use Rattle.inventory.proofs.Tests.{all-true, all-false}
 
 -- ---- adding and removing
 

@@ -11,6 +11,7 @@ use native.Mathlib.Omega.{arith}
 use lib.ListN.{length, getD, take, drop, length-drop, take-append-drop, List·getD-eq-default}
 use lib.Seq.{ext-getD, getD-take, getD-drop, length-take-le}
 use borrow.Author.Tests.{leb-false}
+use Rattle.computed_tests.proofs.Tests.{oneTo-inside}
 use Rattle.gf256.specs.Field.{product}
 use Rattle.gf256.proofs.Polynomials.{sumBelow-same, sumBelow-none}
 use Rattle.gf256.proofs.Products.{product-zero-r}
@@ -28,11 +29,11 @@ use Rattle.inventory.specs.Steps.{isInventory}
 use Rattle.inventory.specs.Query.{stateOf, Matches, answerOf, Queried, asModel, Found, empty, notEmpty, Written}
 use Rattle.inventory.specs.declared.Inventory.{Inventory}
 use Rattle.inventory.specs.declared.Answer.the-variants as answer
-use Rattle.inventory.proofs.Tests.{file-in-range}
 use Rattle.inventory.proofs.Rows as R
 use Rattle.inventory.proofs.Recovery.{solution-recoverable, kernel-unrecoverable, empty-recoverable}
 use Rattle.inventory.proofs.Weights.{Weighs, solution-weighs, zero-weighs, is-weights}
-use Rattle.inventory.proofs.CoefficientRows.{few-files, table-matrix}
+use Rattle.inventory.proofs.ValidInventories.{few-files}
+use Rattle.inventory.proofs.CoefficientRows.{table-matrix}
 
 module _ (s : Inventory) (valid : isInventory s ≡ true) (f : ℕ) where
   -- ---- the cases
@@ -66,10 +67,10 @@ module _ (s : Inventory) (valid : isInventory s ≡ true) (f : ℕ) where
 
     -- file f is f - 1 and one
     as-suc : f ≡ suc (f - 1)
-    as-suc = let l = file-in-range (s .n) f inRange in omega arith
+    as-suc = let l = oneTo-inside (s .n) f inRange in omega arith
 
     below : f - 1 < s .n
-    below = let l = file-in-range (s .n) f inRange in omega arith
+    below = let l = oneTo-inside (s .n) f inRange in omega arith
 
     is-column : (size : ℕ → ℕ) → Matches s size → member (s .nonempty) f ≡ true → column (state size) (suc (f - 1)) ≡ true
     is-column size matches e =

@@ -14,19 +14,20 @@ use native.Mathlib.Omega.{arith}
 use native.Mathlib.Decide.{decLt}
 use lib.Dec.{leb, eqb}
 use lib.ListN.{length, getD}
+use Rattle.computed_tests.proofs.Tests.{oneTo-in, oneTo-inside}
 use Rattle.parity.specs.Parity.{isFile}
 use Rattle.number_sets.specs.Sets.{member, Words}
-use Rattle.inventory.specs.Recoverable.{State, isVolume}
+use Rattle.inventory.specs.Recoverable.{State}
 use Rattle.inventory.specs.Model.{Call, addFile, removeFile, addVolume, removeVolume, count, query, Reply, opened}
 use Rattle.inventory.specs.Steps.{isInventory, within, zeros, nonemptyOf, fresh, outcome, accepted, openStep, addFileStep, addVolumeStep}
 use Rattle.inventory.specs.Query.{stateOf}
 use Rattle.inventory.specs.Claim.{Did, Ran, ExactlyGiven, addsFile, addsVolume, OnlyAdds, Told, sizeIn}
 use Rattle.inventory.specs.declared.Inventory.{Inventory}
 use Rattle.inventory.specs.declared.Outcome.{Outcome}
-use Rattle.inventory.proofs.Tests.{file-in-range, file-range, volume-range}
 use Rattle.number_sets.proofs.Words.{member-above, words-same, words-none, words-inserted}
 use Rattle.inventory.proofs.Outcomes.{open-accepted}
-use Rattle.inventory.proofs.Representation.{Represents, opened-represents, within-bits, n-valid, files-valid, nonempty-valid, volumes-valid, nonempty-words, none-below, one-more-number, nonempty-member}
+use Rattle.inventory.proofs.ValidInventories.{within-bits, n-valid, files-valid, nonempty-valid, volumes-valid}
+use Rattle.inventory.proofs.Representation.{Represents, opened-represents, nonempty-words, none-below, one-more-number, nonempty-member}
 use Rattle.inventory.proofs.Calls.{opened-told, holding}
 use Rattle.inventory.proofs.Condition.{sound}
 
@@ -151,14 +152,14 @@ module _ (m : ℕ) (ws : List ℕ) (w : Words ws) (h : within m ws ≡ true) whe
   up-to-255 l k = go (member ws k) refl
     where
       go : (b : Bool) → member ws k ≡ b → (isFile 255 k && b) ≡ b
-      go true e = let r = file-in-range m k (in-range k e) in ap (λ (x : Bool). x && true) (file-range 255 k (r .0) (omega arith))
+      go true e = let r = oneTo-inside m k (in-range k e) in ap (λ (x : Bool). x && true) (oneTo-in 255 k (r .0) (omega arith))
       go false e = and-false (isFile 255 k)
 
 -- ---- every inventory is given
 
 module _ (s : Inventory) (valid : isInventory s ≡ true) (fw : Words (s .files)) (vw : Words (s .volumes)) (ew : Words (s .nonempty)) where
   n-range : (1 ≤ s .n) × (s .n ≤ 254)
-  n-range = file-in-range 254 (s .n) (n-valid s valid)
+  n-range = oneTo-inside 254 (s .n) (n-valid s valid)
 
   sizes : List ℕ
   sizes = table (s .n) (λ i. cond (member (s .nonempty) (suc i)) 1 0)
@@ -178,7 +179,7 @@ module _ (s : Inventory) (valid : isInventory s ≡ true) (fw : Words (s .files)
   size-bit : (f : ℕ) → isFile (s .n) f ≡ true → leb 1 (sizeIn sizes f) ≡ member (s .nonempty) f
   unfolding sizes
   size-bit f h =
-      let b = file-in-range (s .n) f h in
+      let b = oneTo-inside (s .n) f h in
       let e : suc (f - 1) ≡ f = omega arith in
       ap (leb 1) (table-at (s .n) (λ i. cond (member (s .nonempty) (suc i)) 1 0) (f - 1) (omega arith))
       ∙ one-is (member (s .nonempty) (suc (f - 1))) ∙ ap (member (s .nonempty)) e
@@ -205,12 +206,6 @@ module _ (s : Inventory) (valid : isInventory s ≡ true) (fw : Words (s .files)
           volumes = λ v. h .volumes v ∙ up-to-255 (255 - s .n) (s .volumes) vw (volumes-valid s valid) (omega arith) v;
         },
       )
-
-  volume-in-range : (v : ℕ) → member (s .volumes) v ≡ true → isVolume (s .n) v ≡ true
-  volume-in-range v e =
-      let n = n-range in
-      let r = file-in-range (255 - s .n) v (in-range (255 - s .n) (s .volumes) vw (volumes-valid s valid) v e) in
-      volume-range (s .n) v (r .0) (omega arith)
 
   pub valid-given : (sizes : List ℕ) × (cs : List Call) × (rs : List Reply) × (openStep (s .n) sizes .number ≡ 0)
       × Ran (openStep (s .n) sizes .next) cs rs s
@@ -239,7 +234,7 @@ module _ (s : Inventory) (valid : isInventory s ≡ true) (fw : Words (s .files)
           state : stateOf s (sizeIn sizes) ≡ stateOf e (sizeIn sizes)
           state =
               sym (opened-told (s .n) (sizeIn sizes) (stateOf s (sizeIn sizes)) (calls .0) (calls .1)
-              (in-range (s .n) (s .files) fw (files-valid s valid)) volume-in-range)
+              (in-range (s .n) (s .files) fw (files-valid s valid)) (in-range (255 - s .n) (s .volumes) vw (volumes-valid s valid)))
               ∙ sound (sizeIn sizes) (opened (s .n) (sizeIn sizes)) start (calls .0) rs e R run .1 .state
 
           same : e ≡ s

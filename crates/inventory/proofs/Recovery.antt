@@ -14,6 +14,7 @@ use lib.Dec.{leb}
 use lib.ListN.{length, getD, replicate, length-replicate, List·getD-eq-default}
 use lib.Seq.{ext-getD}
 use borrow.Author.Tests.{leb-false}
+use Rattle.computed_tests.proofs.Tests.{oneTo-in, oneTo-inside}
 use Rattle.parity.specs.Parity.{Contents, isFile, greatest, parityByte}
 use Rattle.parity.proofs.Parities.{file-le-greatest}
 use Rattle.elimination.specs.Field.{Field, sum}
@@ -24,7 +25,6 @@ use Rattle.elimination.specs.ByteField.{Byte, byte-eq, toByte}
 use Rattle.elimination.proofs.ByteField.{toByte-of-value}
 use Rattle.elimination.proofs.Reductions.{zeros-at}
 use Rattle.inventory.specs.Recoverable.{State, isVolume, IsContents, column, Alike, Recoverable}
-use Rattle.inventory.proofs.Tests.{file-range, volume-range, volume-in-range}
 use Rattle.inventory.proofs.Rows as R
 use Rattle.inventory.proofs.Rows.{K, mask, mask-mul, mask-same, cell}
 open Field K using (𝟘, 𝟙, add as _⊕_, mul as _⊗_)
@@ -78,7 +78,7 @@ module _ (rule : ℕ → ℕ → ℕ) (small : (f v : ℕ) → f < 256 → rule 
   inColumn i = R.inColumn rule small t fits i
 
   file : (i : ℕ) → i < t .n → isFile (t .n) (suc i) ≡ true
-  file i l = file-range (t .n) (suc i) (omega arith) l
+  file i l = oneTo-in (t .n) (suc i) (omega arith) l
 
   -- ---- weights: recoverable
 
@@ -125,7 +125,7 @@ module _ (rule : ℕ → ℕ → ℕ) (small : (f v : ℕ) → f < 256 → rule 
             ∙ S.sum-of-eq K (sum K (t .n) (λ i. coef i s ⊗ cell X p i)) (sum K (t .n) (λ i. coef i s ⊗ cell Y p i))
             (byte-eq (sum K (t .n) (λ i. coef i s ⊗ cell X p i)) (sum K (t .n) (λ i. coef i s ⊗ cell Y p i))
             (sym (R.parity-sum rule small t fits X hX s p)
-            ∙ a .same-parity (suc s) (volume-range (t .n) (suc s) (omega arith) (omega arith)) e p lp
+            ∙ a .same-parity (suc s) (oneTo-in (255 - t .n) (suc s) (omega arith) (omega arith)) e p lp
             ∙ R.parity-sum rule small t fits Y hY s p))
 
   pub solution-recoverable : (f : ℕ) → f < t .n → (w : ℕ → Byte) → IsSolution K matrix 256 (255 - t .n) f w
@@ -236,9 +236,9 @@ module _ (rule : ℕ → ℕ → ℕ) (small : (f v : ℕ) → f < 256 → rule 
       where
         parities : (v : ℕ) → isVolume (t .n) v ≡ true → t .volumes v ≡ true → (p : ℕ)
             → parityByte rule (t .n) nothing v p ≡ parityByte rule (t .n) something v p
-        parities zero l e p = absurd (not-suc-le-zero (volume-in-range (t .n) zero l .0))
+        parities zero l e p = absurd (not-suc-le-zero (oneTo-inside (255 - t .n) zero l .0))
         parities (suc s) l e p =
-            let b = volume-in-range (t .n) (suc s) l .1 in
+            let b = oneTo-inside (255 - t .n) (suc s) l .1 in
             R.parity-sum rule small t fits nothing nothing-contents s p
             ∙ ap (λ (b : Byte). b .0)
             (zero-cells nothing s p (nothing-cell p) ∙ sym (something-sum s (omega arith) e p))

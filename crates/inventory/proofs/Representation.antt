@@ -1,8 +1,6 @@
 -- An inventory stands for a state of the model, and each call keeps that.
 --
 --   Represents size t s     the inventory s stands for the state t, of files of these sizes
---   within-bits             each number of a set in range is in range
---   n-valid, files-valid, nonempty-valid, volumes-valid     the parts of a valid inventory are in range
 --   meets                   the code's reply is the model's, and what it hands back stands for the next state
 --   nonempty-words          the files that an opening has as not empty are four words of 64 bits
 --   none-below, one-more-number     which numbers up to 0 a set has, none; which up to m + 1, by those up to m
@@ -19,23 +17,23 @@ use native.Mathlib.Decide.{ℕ-discrete, decLe}
 use lib.Dec.{leb, eqb}
 use lib.ListN.{length, getD, replicate, length-replicate}
 use borrow.Author.Tests.{eq-eqb, ne-eqb, eqb-true, le-leb, lt-leb}
-use Rattle.computed_tests.proofs.Tests.{and-both}
+use Rattle.computed_tests.specs.Numbers.{allBelow}
+use Rattle.computed_tests.proofs.Tests.{and-both, oneTo-in, oneTo-outside, oneTo-inside}
 use Rattle.parity.specs.Coefficient.{coefficient}
 use Rattle.parity.specs.Parity.{isFile}
 use Rattle.number_sets.specs.Sets.{member, inserted, removed, sizeBelow, Words}
 use Rattle.inventory.specs.Recoverable.{State, isVolume}
 use Rattle.inventory.specs.Model as M
 use Rattle.inventory.specs.Model.{Call, addFile, removeFile, addVolume, removeVolume, count, query, Reply, numbered, queried, opened, insert, remove, next, Gives}
-use Rattle.inventory.specs.Steps.{within, isInventory, allBelow, nonemptyOf, fresh, outcome, accepted, refusedOpening, openStep, changeNumber, withFiles, withVolumes, addFileStep, removeFileStep, addVolumeStep, removeVolumeStep, countStep, answerNumber}
+use Rattle.inventory.specs.Steps.{within, isInventory, nonemptyOf, fresh, outcome, accepted, refusedOpening, openStep, changeNumber, withFiles, withVolumes, addFileStep, removeFileStep, addVolumeStep, removeVolumeStep, countStep, answerNumber}
 use Rattle.inventory.specs.Query.{stateOf, Matches, answerOf, Queried, noInventory, asModel}
 use Rattle.inventory.specs.Claim.{countReply, Did, sizeIn}
 use Rattle.inventory.specs.declared.Inventory.{Inventory}
 use Rattle.inventory.specs.declared.Counted.the-variants as counted
 use Rattle.inventory.specs.declared.Answer.{Answer}
 use Rattle.inventory.specs.declared.Answer.the-variants as answer
-use Rattle.inventory.proofs.Tests.{all-true, all-at, file-in-range, file-range, volume-in-range}
 use Rattle.number_sets.proofs.Words.{member-inserted, member-removed, member-none, length-inserted, length-removed, words-none, words-inserted}
-use Rattle.inventory.proofs.CoefficientRows.{few-files}
+use Rattle.inventory.proofs.ValidInventories.{within-bits, within-by, n-valid, few-files, files-valid, nonempty-valid, volumes-valid}
 
 pub record Represents (size : ℕ → ℕ) (t : State) (s : Inventory) : Type 0 where
   pub valid : isInventory s ≡ true
@@ -45,19 +43,6 @@ pub record Represents (size : ℕ → ℕ) (t : State) (s : Inventory) : Type 0 
   pub volume-words : length (s .volumes) ≡ 4
 
 -- ---- sets in range
-
-pub within-bits : (m : ℕ) (ws : List ℕ) → within m ws ≡ true → (k : ℕ) → k < 256 → member ws k ≡ true → isFile m k ≡ true
-unfolding within
-within-bits m ws h k l e =
-    subst (λ (b : Bool). (not b || isFile m k) ≡ true) e (all-at 256 (λ k. not (member ws k) || isFile m k) h k l)
-
-within-by : (m : ℕ) (ws : List ℕ) → ((k : ℕ) → k < 256 → member ws k ≡ true → isFile m k ≡ true) → within m ws ≡ true
-unfolding within
-within-by m ws h = all-true 256 (λ k. not (member ws k) || isFile m k) (λ k l. go k l (member ws k) refl)
-  where
-    go : (k : ℕ) → k < 256 → (b : Bool) → member ws k ≡ b → (not b || isFile m k) ≡ true
-    go k l true e = h k l e
-    go k l false e = refl
 
 -- the words ws are a set of some of the numbers 1 to m, at most 255
 record IsSet (m : ℕ) (ws : List ℕ) (set : ℕ → Bool) : Type 0 where
@@ -75,7 +60,7 @@ with-number {m} {ws} f h r = record {
 }
   where
     at : (k : ℕ) → member (inserted f ws) k ≡ insert f (member ws) k
-    at = let b = file-in-range m f r in member-inserted ws f (h .words) (omega arith)
+    at = let b = oneTo-inside m f r in member-inserted ws f (h .words) (omega arith)
 
     go : (k : ℕ) → k < 256 → (b : Bool) → eqb k f ≡ b → (b || member ws k) ≡ true → isFile m k ≡ true
     go k l true e q = ap (isFile m) (eqb-true k f e) ∙ r
@@ -91,27 +76,7 @@ without-number {m} {ws} f h r = record {
 }
   where
     at : (k : ℕ) → member (removed f ws) k ≡ remove f (member ws) k
-    at = let b = file-in-range m f r in member-removed ws f (h .words) (omega arith)
-
--- the parts of a valid inventory
-module _ (s : Inventory) (valid : isInventory s ≡ true) where
-  pub n-valid : isFile 254 (s .n) ≡ true
-  unfolding isInventory
-  n-valid = and-both (isFile 254 (s .n)) _ valid .0
-
-  pub files-valid : within (s .n) (s .files) ≡ true
-  unfolding isInventory
-  files-valid = and-both (within (s .n) (s .files)) _ (and-both (isFile 254 (s .n)) _ valid .1) .0
-
-  pub nonempty-valid : within (s .n) (s .nonempty) ≡ true
-  unfolding isInventory
-  nonempty-valid =
-      and-both (within (s .n) (s .nonempty)) _ (and-both (within (s .n) (s .files)) _ (and-both (isFile 254 (s .n)) _ valid .1) .1) .0
-
-  pub volumes-valid : within (255 - s .n) (s .volumes) ≡ true
-  unfolding isInventory
-  volumes-valid =
-      and-both (within (s .n) (s .nonempty)) _ (and-both (within (s .n) (s .files)) _ (and-both (isFile 254 (s .n)) _ valid .1) .1) .1
+    at = let b = oneTo-inside m f r in member-removed ws f (h .words) (omega arith)
 
 -- an inventory of two sets stands for the state of these sets
 represents : {size : ℕ → ℕ} {n : ℕ} {fs vs es : List ℕ} {files volumes : ℕ → Bool}
@@ -160,9 +125,6 @@ module _ (size : ℕ → ℕ) (s : Inventory) (R : Represents size (stateOf s si
   with-volumes : {ws : List ℕ} {set : ℕ → Bool} → IsSet (255 - s .n) ws set → Represents size (M.withVolumes (stateOf s size) set) (withVolumes s ws)
   with-volumes W = represents (n-valid s (R .valid)) files-set W (nonempty-valid s (R .valid)) (R .matches)
 
-  volume-file : (v : ℕ) → isVolume (s .n) v ≡ true → isFile (255 - s .n) v ≡ true
-  volume-file v e = let b = volume-in-range (s .n) v e in file-range (255 - s .n) v (b .0) (omega arith)
-
   abbrev Met : Call → Reply → Inventory → Type 0
   Met c r s₁ = Gives coefficient (stateOf s size) c r × Represents size (next (stateOf s size) c) s₁
 
@@ -192,14 +154,14 @@ module _ (size : ℕ → ℕ) (s : Inventory) (R : Represents size (stateOf s si
   unfolding Gives next addVolumeStep
   meets-add-volume v =
       changed (isInventory s) (isVolume (s .n) v) (member (s .volumes) v) (R .valid)
-      (λ e. with-volumes (with-number v volumes-set (volume-file v e)))
+      (λ e. with-volumes (with-number v volumes-set e))
 
   meets-remove-volume : (v : ℕ) → Met (removeVolume v) (numbered (removeVolumeStep s v .number)) (removeVolumeStep s v .next)
   unfolding Gives next removeVolumeStep
   meets-remove-volume v =
       rw (Bool·not-not (member (s .volumes) v)) at
       (changed (isInventory s) (isVolume (s .n) v) (not (member (s .volumes) v)) (R .valid)
-      (λ (e : isVolume (s .n) v ≡ true). with-volumes (without-number v volumes-set (volume-file v e))))
+      (λ (e : isVolume (s .n) v ≡ true). with-volumes (without-number v volumes-set e)))
 
   -- ---- counting and querying
 
@@ -264,9 +226,6 @@ nonempty-words sizes (suc k) = go (leb 1 (getD sizes k 0)) (nonempty-words sizes
     go true w = words-inserted (suc k) (nonemptyOf sizes k) w
     go false w = w
 
-no-file : (m f : ℕ) → m < f → isFile m f ≡ false
-no-file m f l = ap (λ (b : Bool). leb 1 f && b) (lt-leb f m l) ∙ and-false (leb 1 f)
-
 file-more : (m f : ℕ) → f ≢ suc m → isFile (suc m) f ≡ isFile m f
 file-more m f q =
     ap (λ (b : Bool). leb 1 f && b)
@@ -278,7 +237,7 @@ file-more m f q =
 -- whether a set has f among its numbers 1 to 0
 pub none-below : (f : ℕ) (b : Bool) → false ≡ (isFile 0 f && b)
 none-below zero b = refl
-none-below (suc f) b = sym (ap (λ (c : Bool). c && b) (no-file 0 (suc f) (omega arith)))
+none-below (suc f) b = sym (ap (λ (c : Bool). c && b) (oneTo-outside 0 (suc f) (λ h l. omega arith)))
 
 -- whether a set has f among its numbers 1 to m + 1
 pub one-more-number : (m f : ℕ) (set : ℕ → Bool) (before : Bool) → before ≡ (isFile m f && set f)
@@ -286,7 +245,7 @@ pub one-more-number : (m f : ℕ) (set : ℕ → Bool) (before : Bool) → befor
 one-more-number m f set before h a e = elim (ℕ-discrete f (suc m)) [ yes p ↦ same a e p | no q ↦ other a q ]
   where
     same : (a : Bool) → set (suc m) ≡ a → f ≡ suc m → cond a (eqb f (suc m) || before) before ≡ (isFile (suc m) f && set f)
-    same true e p = rw (eq-eqb f (suc m) p, file-range (suc m) f (omega arith) (omega arith), ap set p ∙ e)
+    same true e p = rw (eq-eqb f (suc m) p, oneTo-in (suc m) f (omega arith) (omega arith), ap set p ∙ e)
     same false e p = rw (h, ap set p ∙ e, and-false (isFile m f), and-false (isFile (suc m) f))
 
     other : (a : Bool) → f ≢ suc m → cond a (eqb f (suc m) || before) before ≡ (isFile (suc m) f && set f)
@@ -326,7 +285,7 @@ opened-represents n sizes e =
         (cond a (cond b (outcome (fresh n sizes) 0) (refusedOpening 1)) (refusedOpening 10) .next)
     go true p true z =
         let r = and-both (isFile 254 n) (eqb (length sizes) n) p .0 in
-        let l = file-in-range 254 n r .1 in (
+        let l = oneTo-inside 254 n r .1 in (
           l,
           represents r (none n (omega arith)) (none (255 - n) (omega arith))
               (within-by n (nonemptyOf sizes n)

@@ -18,6 +18,7 @@ use Prim.Native.Nat.{ℕ, suc, _<_, _≤_}
 use native.Mathlib.Omega.{arith}
 use lib.ListN.{getD}
 use borrow.Author.Tests.{le-leb, lt-leb}
+use Rattle.computed_tests.proofs.Tests.{oneTo-in}
 use Rattle.gf256.specs.Field.{product}
 use Rattle.gf256.proofs.Polynomials.{sumBelow-same}
 use Rattle.parity.specs.Parity.{Contents, isFile, parityByte}
@@ -26,7 +27,6 @@ use Rattle.elimination.proofs.Sums as S
 use Rattle.elimination.specs.ByteField.{Byte, toByte, byteField}
 use Rattle.elimination.proofs.ByteField.{toByte-value, sum-value}
 use Rattle.inventory.specs.Recoverable.{State, IsContents, column}
-use Rattle.inventory.proofs.Tests.{file-range}
 
 abbrev pub K : Field Byte
 K = byteField
@@ -76,7 +76,7 @@ module _ (rule : ℕ → ℕ → ℕ) (small : (f v : ℕ) → f < 256 → rule 
   -- ---- entries of the matrix
 
   pub inColumn-file : (i : ℕ) → i < t .n → inColumn i ≡ column t (suc i)
-  inColumn-file i l = ap (λ (b : Bool). b && column t (suc i)) (file-range (t .n) (suc i) (omega arith) l)
+  inColumn-file i l = ap (λ (b : Bool). b && column t (suc i)) (oneTo-in (t .n) (suc i) (omega arith) l)
 
   pub inColumn-past : (i : ℕ) → t .n ≤ i → inColumn i ≡ false
   inColumn-past i l =
@@ -105,7 +105,7 @@ module _ (rule : ℕ → ℕ → ℕ) (small : (f v : ℕ) → f < 256 → rule 
 
   pub cell-value : (X : Contents) → IsContents t X → (p i : ℕ) → i < t .n → cell X p i .0 ≡ getD (X (suc i)) p 0
   unfolding cell
-  cell-value X h p i l = toByte-value (getD (X (suc i)) p 0) (h (suc i) (file-range (t .n) (suc i) (omega arith) l) .1 p)
+  cell-value X h p i l = toByte-value (getD (X (suc i)) p 0) (h (suc i) (oneTo-in (t .n) (suc i) (omega arith) l) .1 p)
 
   pub parity-sum : (X : Contents) → IsContents t X → (s p : ℕ)
       → parityByte rule (t .n) X (suc s) p ≡ sum K (t .n) (λ i. coef i s ⊗ cell X p i) .0

@@ -17,7 +17,7 @@ use lib.Dec.{eqb}
 use lib.ListN.{length, getD}
 use lib.Seq.{ext-getD}
 use borrow.Author.Tests.{ne-eqb}
-use Rattle.computed_tests.proofs.Tests.{and-both}
+use Rattle.computed_tests.proofs.Tests.{and-both, oneTo-in, oneTo-inside}
 use Rattle.gf256.specs.Polynomial.{sumBelow}
 use Rattle.gf256.specs.Field.{product}
 use Rattle.gf256.proofs.Polynomials.{sumBelow-same}
@@ -30,7 +30,7 @@ use Rattle.elimination.proofs.Solutions as Solutions
 use Rattle.elimination.specs.ByteField.{Byte, byte-eq}
 use Rattle.elimination.proofs.ByteField.{is-zero, sum-value, δ-value}
 use Rattle.inventory.specs.Recoverable.{State, isVolume, column, place, SumOfLower, Used, weighted, IsWeights}
-use Rattle.inventory.proofs.Tests.{eqb-suc, file-range, file-in-range, volume-range, volume-in-range}
+use Rattle.inventory.proofs.Tests.{eqb-suc}
 use Rattle.inventory.proofs.Rows as R
 use Rattle.inventory.proofs.Rows.{K}
 open Field K using (𝟘, 𝟙, add as _⊕_, mul as _⊗_)
@@ -50,7 +50,7 @@ module _ (rule : ℕ → ℕ → ℕ) (small : (f v : ℕ) → f < 256 → rule 
   column-file : (i : ℕ) → inColumn i ≡ true → (i < t .n) × (column t (suc i) ≡ true)
   column-file i e =
       let both = and-both (isFile (t .n) (suc i)) (column t (suc i)) e in
-      (file-in-range (t .n) (suc i) (both .0) .1, both .1)
+      (oneTo-inside (t .n) (suc i) (both .0) .1, both .1)
 
   -- ---- used volumes
 
@@ -92,9 +92,9 @@ module _ (rule : ℕ → ℕ → ℕ) (small : (f v : ℕ) → f < 256 → rule 
 
       each : (g : ℕ) → isFile (t .n) g ≡ true → column t g ≡ true
           → rule g (suc s) ≡ sumBelow (suc s - 1) (λ r. cond (t .volumes (suc r)) (product (number (suc r)) (rule g (suc r))) 0)
-      each zero l k = absurd (not-suc-le-zero (file-in-range (t .n) zero l .0))
+      each zero l k = absurd (not-suc-le-zero (oneTo-inside (t .n) zero l .0))
       each (suc i) l k =
-          let b = file-in-range (t .n) (suc i) l .1 in
+          let b = oneTo-inside (t .n) (suc i) l .1 in
           let in-column : inColumn i ≡ true = ap₂ (λ (x y : Bool). x && y) l k in
           sym (R.coef-value rule small t fits i s (omega arith))
           ∙ ap (λ (b : Byte). b .0) (sym (R.matrix-present rule small t fits s i e in-column) ∙ h i (omega arith))
@@ -117,7 +117,7 @@ module _ (rule : ℕ → ℕ → ℕ) (small : (f v : ℕ) → f < 256 → rule 
           let b = both .0 in
           byte-eq (matrix s i) (sum K s (λ r. byte r ⊗ matrix r i))
           (ap (λ (x : Byte). x .0) (R.matrix-present rule small t fits s i e k) ∙ R.coef-value rule small t fits i s (omega arith)
-          ∙ q (suc i) (file-range (t .n) (suc i) (omega arith) b) (both .1)
+          ∙ q (suc i) (oneTo-in (t .n) (suc i) (omega arith) b) (both .1)
           ∙ ap (λ (z : ℕ). sumBelow z (λ r. cond (t .volumes (suc r)) (product (c (suc r)) (rule (suc i) (suc r))) 0)) (omega arith)
           ∙ sym (column-sum s byte i k))
 
@@ -138,7 +138,7 @@ module _ (rule : ℕ → ℕ → ℕ) (small : (f v : ℕ) → f < 256 → rule 
   independent-used s l q = go (t .volumes (suc s)) refl
     where
       go : (b : Bool) → t .volumes (suc s) ≡ b → Used rule t (suc s)
-      go true e = (volume-range (t .n) (suc s) (omega arith) (omega arith), e, λ h. q (sum-dependent s e h))
+      go true e = (oneTo-in (255 - t .n) (suc s) (omega arith) (omega arith), e, λ h. q (sum-dependent s e h))
       go false e = absurd (q (absent-dependent s e))
 
   -- ---- weights of the rows
@@ -196,9 +196,9 @@ module _ (rule : ℕ → ℕ → ℕ) (small : (f v : ℕ) → f < 256 → rule 
       (hp : (i : ℕ) → i < t .n → t .files (suc i) ≡ true → getD r i 0 ≡ weighted rule t r (suc i))
       (hm : (i : ℕ) → i < t .n → t .files (suc i) ≡ false → getD r i 0 ≡ 0) where
     unused-zero : (v : ℕ) → isVolume (t .n) v ≡ true → ¬ Used rule t v → place r (t .n + v) ≡ 0
-    unused-zero zero l q = absurd (not-suc-le-zero (volume-in-range (t .n) zero l .0))
+    unused-zero zero l q = absurd (not-suc-le-zero (oneTo-inside (255 - t .n) zero l .0))
     unused-zero (suc s) l q =
-        let b = volume-in-range (t .n) (suc s) l .1 in
+        let b = oneTo-inside (255 - t .n) (suc s) l .1 in
         let m : s < rows = omega arith in
         place-volume r s ∙ hw s m
         ∙ elim (Solutions.dependent-dec K is-zero matrix 256 s) [
@@ -207,18 +207,18 @@ module _ (rule : ℕ → ℕ → ℕ) (small : (f v : ℕ) → f < 256 → rule 
         ]
 
     column-weights : (g : ℕ) → isFile (t .n) g ≡ true → column t g ≡ true → weighted rule t r g ≡ cond (eqb f g) 1 0
-    column-weights zero l e = absurd (not-suc-le-zero (file-in-range (t .n) zero l .0))
+    column-weights zero l e = absurd (not-suc-le-zero (oneTo-inside (t .n) zero l .0))
     column-weights (suc g) l e =
         let k : inColumn g ≡ true = ap₂ (λ (x y : Bool). x && y) l e in
         weighted-sum r w hw (λ s m h. W .unused s m (absent-dependent s h)) g k ∙ W .columns g k
 
     of-files : (g : ℕ) → isFile (t .n) g ≡ true → t .files g ≡ true → place r g ≡ weighted rule t r g
-    of-files zero l e = absurd (not-suc-le-zero (file-in-range (t .n) zero l .0))
-    of-files (suc i) l e = place-file r i ∙ hp i (file-in-range (t .n) (suc i) l .1) e
+    of-files zero l e = absurd (not-suc-le-zero (oneTo-inside (t .n) zero l .0))
+    of-files (suc i) l e = place-file r i ∙ hp i (oneTo-inside (t .n) (suc i) l .1) e
 
     of-missing : (g : ℕ) → isFile (t .n) g ≡ true → t .files g ≡ false → place r g ≡ 0
-    of-missing zero l e = absurd (not-suc-le-zero (file-in-range (t .n) zero l .0))
-    of-missing (suc i) l e = place-file r i ∙ hm i (file-in-range (t .n) (suc i) l .1) e
+    of-missing zero l e = absurd (not-suc-le-zero (oneTo-inside (t .n) zero l .0))
+    of-missing (suc i) l e = place-file r i ∙ hm i (oneTo-inside (t .n) (suc i) l .1) e
 
     pub is-weights : IsWeights rule t f r
     is-weights = record {
@@ -241,7 +241,7 @@ module _ (rule : ℕ → ℕ → ℕ) (small : (f v : ℕ) → f < 256 → rule 
     weight-unused s l d =
         byte-eq (weight s) 𝟘
         (sym (place-volume r s)
-        ∙ W .of-unused (suc s) (volume-range (t .n) (suc s) (omega arith) (omega arith)) (λ u. used-independent s u d))
+        ∙ W .of-unused (suc s) (oneTo-in (255 - t .n) (suc s) (omega arith) (omega arith)) (λ u. used-independent s u d))
 
     weight-columns : (g : ℕ) → sum K rows (λ s. weight s ⊗ matrix s g) .0 ≡ cond (inColumn g) (cond (eqb f (suc g)) 1 0) 0
     unfolding weight
@@ -280,10 +280,10 @@ module _ (rule : ℕ → ℕ → ℕ) (small : (f v : ℕ) → f < 256 → rule 
 
     same-file : (p : ℕ) → p < t .n → (b : Bool) → t .files (suc p) ≡ b → place r (suc p) ≡ place r′ (suc p)
     same-file p l true e =
-        let h = file-range (t .n) (suc p) (omega arith) l in
+        let h = oneTo-in (t .n) (suc p) (omega arith) l in
         W .of-files (suc p) h e ∙ same-weighted (suc p) ∙ sym (W′ .of-files (suc p) h e)
     same-file p l false e =
-        let h = file-range (t .n) (suc p) (omega arith) l in
+        let h = oneTo-in (t .n) (suc p) (omega arith) l in
         W .of-missing (suc p) h e ∙ sym (W′ .of-missing (suc p) h e)
 
     pub one-weights : r ≡ r′

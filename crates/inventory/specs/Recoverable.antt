@@ -21,6 +21,7 @@ use mathlib.Core.List.{List}
 use Prim.Native.Nat.{ℕ, suc, _<_, _+_, _-_}
 use lib.Dec.{leb, eqb}
 use lib.ListN.{length, getD}
+use Rattle.computed_tests.specs.Numbers.{oneTo}
 use Rattle.gf256.specs.Polynomial.{sumBelow}
 use Rattle.gf256.specs.Field.{product}
 use Rattle.parity.specs.Parity.{Contents, isFile, greatest, parityByte}
@@ -34,7 +35,7 @@ pub record State : Type 0 where
 
 -- "volume numbers 1 to 255 - n"
 abbrev pub isVolume : ℕ → ℕ → Bool
-isVolume n v = leb 1 v && leb (v + n) 255
+isVolume n v = oneTo (255 - n) v
 
 -- "A set of contents gives each file 1 to n as many bytes as its listed size."
 abbrev pub IsContents : State → Contents → Type 0

@@ -1,7 +1,5 @@
 -- What each call on an inventory does (document 01, "The sheet", "What comes back"), on its words.
 --
---   allBelow m test      whether the test holds at each number below m
---   oneTo m k            whether k is one of 1 to m
 --   within m ws          whether each number of the set ws is one of 1 to m
 --   isInventory s        whether opening and accepted calls could have given s
 --   zeros                the inventory of zeros
@@ -16,11 +14,12 @@
 --   openStep, addFileStep, removeFileStep, addVolumeStep, removeVolumeStep, countStep     the calls
 --   answerNumber         the document's number for each case of an answer
 -- Assumes nothing.
-use mathlib.Core.Bool.{Bool, true, not, cond, _&&_, _||_}
+use mathlib.Core.Bool.{Bool, not, cond, _&&_, _||_}
 use mathlib.Core.List.{List}
 use Prim.Native.Nat.{ℕ, zero, suc, _-_}
 use lib.Dec.{leb, eqb}
 use lib.ListN.{length, getD, replicate}
+use Rattle.computed_tests.specs.Numbers.{oneTo, allBelow}
 use Rattle.parity.specs.Parity.{isFile}
 use Rattle.refusals.specs.Limits.{maxFileSize, maxFiles}
 use Rattle.number_sets.specs.Sets.{member, inserted, removed, sizeBelow}
@@ -33,13 +32,6 @@ use Rattle.inventory.specs.declared.Answer.{Answer}
 use Rattle.inventory.specs.declared.Answer.the-variants as answer
 
 -- ---- an inventory that calls give
-
-unfoldable pub allBelow : ℕ → (ℕ → Bool) → Bool
-allBelow zero test = true
-allBelow (suc m) test = test m && allBelow m test
-
-abbrev pub oneTo : ℕ → ℕ → Bool
-oneTo m k = leb 1 k && leb k m
 
 unfoldable pub within : ℕ → List ℕ → Bool
 within m ws = allBelow 256 (λ k. not (member ws k) || oneTo m k)

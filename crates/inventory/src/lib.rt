@@ -1,6 +1,6 @@
 // What of a set of files and parity volumes is present, and which missing files come back (document 01, "The sheet").
 ghost use mathlib.Core.Path.{_≡_};
-ghost use Rattle.inventory.specs.Steps.{openStep, refusedOpening, changeNumber, unlessRefused, addFileStep, removeFileStep, addVolumeStep, removeVolumeStep, countStep};
+ghost use Rattle.inventory.specs.Steps.{zeros, openStep, refusedOpening, changeNumber, unlessRefused, addFileStep, removeFileStep, addVolumeStep, removeVolumeStep, countStep};
 
 mod query;
 mod ranges;
@@ -148,19 +148,24 @@ impl Inventory {
     }
 }
 
-// The inventory of zeros, handed back with a refusal.
-fn refused_opening(number: u32) -> Outcome
+// The inventory of zeros, which every call refuses with 10.
+pub fn zeros() -> Inventory
+    ensures { λ r. ⌜ r ≡ zeros ⌝ }
+{
+    Inventory {
+        n: 0,
+        files: [0u64; 4],
+        volumes: [0u64; 4],
+        nonempty: [0u64; 4],
+    }
+}
+
+// A refused opening.
+pub fn refused_opening(number: u32) -> Outcome
     ensures { λ r. ⌜ r ≡ refusedOpening number ⌝ }
 {
-    Outcome {
-        next: Inventory {
-            n: 0,
-            files: [0u64; 4],
-            volumes: [0u64; 4],
-            nonempty: [0u64; 4],
-        },
-        number,
-    }
+    let next = zeros();
+    Outcome { next, number }
 }
 
 // The number of an addition or a removal: 10, then 11 where all is already as it is to be.

@@ -1,7 +1,8 @@
 // Which numbers are in range, and which inventories calls give (document 01, "What comes back", number 10).
 ghost use mathlib.Core.Path.{_≡_};
+ghost use Rattle.computed_tests.specs.Numbers.{oneTo};
 ghost use Rattle.inventory.specs.Recoverable.{isVolume};
-ghost use Rattle.inventory.specs.Steps.{oneTo, within, isInventory};
+ghost use Rattle.inventory.specs.Steps.{within, isInventory};
 use crate::Inventory;
 use number_sets::has;
 use refusals::MAX_FILES;
@@ -40,13 +41,10 @@ pub fn one_to(m: u64, k: u64) -> bool
 pub fn is_volume(n: u64, volume: u64) -> bool
     ensures { λ r. ⌜ r ≡ isVolume n volume ⌝ }
 {
-    if volume < 1 {
-        return false;
-    }
     if 255 < n {
         return false;
     }
-    volume <= 255 - n
+    one_to(255 - n, volume)
 }
 
 // Whether each number of the set is one of 1 to m.

@@ -1,6 +1,7 @@
 -- Inventories in lent bytes, there and back.
 --
---   length-inventory     they are 104
+--   inventory-of, inventory-none     104 bytes are the inventory in their numbers, others zeros
+--   length-inventory     the bytes of an inventory are 104
 --   loaded-back    the bytes of an inventory are that inventory
 --   stored-back    104 bytes are the bytes of the inventory that they are
 -- Assumes nothing.
@@ -11,11 +12,23 @@ use native.Mathlib.Nat.{zero-lt-suc}
 use native.Mathlib.Omega.{arith}
 use lib.ListN.{length, getD, length-append}
 use lib.Seq.{take-all}
+use borrow.Author.Tests.{eq-eqb, ne-eqb}
+use Rattle.inventory.specs.Steps.{zeros}
 use Rattle.inventory.specs.declared.Inventory.{Inventory}
 use Rattle.little_endian.specs.Bytes.{numbers, numbersAt}
 use Rattle.little_endian.proofs.NumberLists.{length-numbers, numbers-append, numbers-back, numbers-read}
-use Rattle.inventory_bytes.specs.Inventories.{inventoryOf, inventoryBytes}
+use Rattle.inventory_bytes.specs.Inventories.{inventoryIn, inventoryOf, inventoryBytes}
 use Rattle.inventory_bytes.specs.Claim.{Held, LoadedBack, StoredBack}
+
+-- ---- the length
+
+pub inventory-of : (b : List ℕ) → length b ≡ 104 → inventoryOf b ≡ inventoryIn b
+unfolding inventoryOf
+inventory-of b h = simp (eq-eqb (length b) 104 h)
+
+pub inventory-none : (b : List ℕ) → (length b ≡ 104 → ⊥) → inventoryOf b ≡ zeros
+unfolding inventoryOf
+inventory-none b h = simp (ne-eqb (length b) 104 h)
 
 pub length-inventory : (s : Inventory) → Held s → length (inventoryBytes s) ≡ 104
 unfolding inventoryBytes
@@ -44,7 +57,7 @@ same-parts : {n m : ℕ} {a b c d e f : List ℕ} → n ≡ m → a ≡ b → c 
 same-parts p q r t = cc
 
 pub loaded-back : LoadedBack
-unfolding inventoryOf inventoryBytes numbersAt
+unfolding inventoryBytes numbersAt
 loaded-back s h =
     let n : List ℕ = s .n ∷ [] in
     let ns = part-back 0 1 [] n (s .files ++ s .volumes ++ s .nonempty) refl refl refl (one-number (s .n) (h .small)) in
@@ -55,9 +68,9 @@ loaded-back s h =
     let es =
     part-back 72 4 (n ++ s .files ++ s .volumes) (s .nonempty) [] (sym (append-nil (n ++ s .files ++ s .volumes ++ s .nonempty)))
     (simp (length-append, h .files .four, h .volumes .four)) (h .nonempty .four) (h .nonempty .fits) in
-    same-parts (ap (λ (l : List ℕ). getD l 0 0) ns) fs vs es
+    inventory-of (inventoryBytes s) (length-inventory s h) ∙ same-parts (ap (λ (l : List ℕ). getD l 0 0) ns) fs vs es
 
 -- the 13 numbers of an inventory are those of all its bytes
 pub stored-back : StoredBack
-unfolding inventoryOf inventoryBytes numbersAt
-stored-back b bytes size = numbers-read 13 b 0 bytes (omega arith) ∙ take-all 104 b (omega arith)
+unfolding inventoryBytes numbersAt
+stored-back b bytes size = ap inventoryBytes (inventory-of b size) ∙ numbers-read 13 b 0 bytes (omega arith) ∙ take-all 104 b (omega arith)

@@ -1,6 +1,7 @@
 -- Inventories in lent bytes: 13 numbers of 64 bits (n; files present, volumes present, files of size 1 or more, four words each).
 --
---   inventoryOf b       the inventory that the bytes b are
+--   inventoryIn b       the inventory in the 13 numbers of the bytes b
+--   inventoryOf b       the inventory that the bytes b are, if they are 104, else zeros
 --   inventoryBytes s    the bytes of the inventory s
 --   openedBy n s        what opening with the sizes in the bytes s gives
 --   storedBy o out      the number of the outcome o, or 14, and what `out` then holds
@@ -12,7 +13,7 @@ use Prim.Native.Nat.{ℕ, _*_}
 use lib.Dec.{leb, eqb}
 use lib.ListN.{length}
 use Rattle.lent_bytes.specs.Writing.{refused, written, writtenUnless, withNumber}
-use Rattle.inventory.specs.Steps.{openStep, refusedOpening}
+use Rattle.inventory.specs.Steps.{zeros, openStep, refusedOpening}
 use Rattle.inventory.specs.declared.Counted.{Counted}
 use Rattle.inventory.specs.declared.Counted.the-variants as counted
 use Rattle.inventory.specs.declared.Inventory.{Inventory}
@@ -20,8 +21,12 @@ use Rattle.inventory.specs.declared.Outcome.{Outcome}
 use Rattle.refusals.specs.Limits.{maxFiles}
 use Rattle.little_endian.specs.Bytes.{leAt, numbers, numbersAt}
 
+abbrev pub inventoryIn : List ℕ → Inventory
+inventoryIn b = record { n = leAt 8 b 0; files = numbersAt 4 b 8; volumes = numbersAt 4 b 40; nonempty = numbersAt 4 b 72 }
+
+-- bytes of another length are no inventory: zeros, which every call refuses with 10
 unfoldable pub inventoryOf : List ℕ → Inventory
-inventoryOf b = record { n = leAt 8 b 0; files = numbersAt 4 b 8; volumes = numbersAt 4 b 40; nonempty = numbersAt 4 b 72 }
+inventoryOf b = cond (eqb (length b) 104) (inventoryIn b) zeros
 
 unfoldable pub inventoryBytes : Inventory → List ℕ
 inventoryBytes s = numbers (s .n ∷ s .files ++ s .volumes ++ s .nonempty)

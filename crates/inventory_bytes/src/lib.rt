@@ -2,17 +2,20 @@
 ghost use mathlib.Core.Path.{_≡_};
 ghost use mathlib.Core.List.{[], _∷_};
 ghost use lib.ListN.{length};
-ghost use Rattle.inventory.specs.Steps.{openStep, refusedOpening, answerNumber};
+ghost use Rattle.inventory.specs.Steps.{openStep, answerNumber};
 ghost use Rattle.little_endian.specs.Bytes.{numbers as numbersOf, numbersAt};
 ghost use Rattle.inventory_bytes.specs.Inventories.{inventoryOf, inventoryBytes, openedBy, storedBy, countedInto};
 use inventory::Answer;
 use inventory::Counted;
 use inventory::Inventory;
 use inventory::Outcome;
+use inventory::refused_opening;
+use inventory::zeros;
 use lent_bytes::write;
 use little_endian::read_numbers;
 use little_endian::read64;
 use little_endian::write_numbers;
+use refusals::OUT_OF_RANGE;
 use refusals::PRESENT;
 use refusals::UNDETERMINED;
 
@@ -31,10 +34,10 @@ pub fn opened(n: u64, sizes: &[u8]) -> Outcome
 {
     let count = n as usize;
     if MAX_FILES < count {
-        return no_opening();
+        return refused_opening(OUT_OF_RANGE);
     }
     if sizes.len() != 8 * count {
-        return no_opening();
+        return refused_opening(OUT_OF_RANGE);
     }
     let mut numbers = [0u64; MAX_FILES];
     opened_by(n, sizes, &mut numbers[..count])
@@ -48,18 +51,13 @@ fn opened_by<'a, 'b>(n: u64, sizes: &'a [u8], numbers: &'b mut [u64]) -> Outcome
     Inventory::open(n, numbers)
 }
 
-// The refusal with 10, made by an opening with n = 0.
-fn no_opening() -> Outcome
-    ensures { λ r. ⌜ r ≡ refusedOpening 10 ⌝ }
-{
-    let sizes = [0u64; 1];
-    Inventory::open(0, &sizes)
-}
-
-// The inventory that the bytes are.
+// The inventory that the bytes are; zeros where they are not 104.
 pub fn loaded(bytes: &[u8]) -> Inventory
     ensures { λ r. ⌜ r ≡ inventoryOf (now (bytes .entry)) ⌝ }
 {
+    if bytes.len() != LENGTH {
+        return zeros();
+    }
     let files = four_at(bytes, 8);
     let volumes = four_at(bytes, 40);
     let nonempty = four_at(bytes, 72);

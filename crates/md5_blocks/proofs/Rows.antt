@@ -10,7 +10,8 @@
 use mathlib.Core.Path.{_≡_, refl}
 use mathlib.Core.Bool.{cond}
 use Prim.Native.Nat.{ℕ, zero, suc, _+_, _-_, _*_, _/_, _%_, _^_, _<_}
-use lib.Dec.{ltb, ltb→lt}
+use lib.Dec.{ltb}
+use borrow.Author.Tests.{ltb-true}
 use Rattle.computed_tests.proofs.Tests.{all-at, equal-below}
 use Rattle.md5_blocks.specs.Rounds.{auxI, aux, rows, row}
 
@@ -19,7 +20,7 @@ wordOf j = cond (ltb j 16) j (cond (ltb j 32) ((5 * j + 1) % 16) (cond (ltb j 48
 
 pub word-is : (j : ℕ) → j < 64 → wordOf j ≡ row j .k
 unfolding rows row
-word-is = equal-below 64 1 wordOf (λ j. row j .k) tt
+word-is = equal-below 64 1 wordOf (λ j. row j .k) refl
 
 -- the shift at place j of the four that the bytes of p are
 abbrev at : ℕ → ℕ → ℕ
@@ -30,16 +31,16 @@ shiftOf j = cond (ltb j 16) (at 0x16110c07 j) (cond (ltb j 32) (at 0x140e0905 j)
 
 pub shift-is : (j : ℕ) → j < 64 → shiftOf j ≡ row j .s
 unfolding rows row
-shift-is = equal-below 64 1 shiftOf (λ j. row j .s) tt
+shift-is = equal-below 64 1 shiftOf (λ j. row j .s) refl
 
 pub shift-range : (j : ℕ) → j < 64 → (0 < row j .s) × (row j .s < 32)
 unfolding rows row
 shift-range j h =
-    (ltb→lt 0 (row j .s) (all-at 64 (λ j. ltb 0 (row j .s)) tt j h), ltb→lt (row j .s) 32 (all-at 64 (λ j. ltb (row j .s) 32) tt j h))
+    (ltb-true 0 (row j .s) (all-at 64 (λ j. ltb 0 (row j .s)) refl j h), ltb-true (row j .s) 32 (all-at 64 (λ j. ltb (row j .s) 32) refl j h))
 
 pub sine-is : (j : ℕ) → j < 64 → row j .i - 1 ≡ j
 unfolding rows row
-sine-is = equal-below 64 1 (λ j. row j .i - 1) (λ j. j) tt
+sine-is = equal-below 64 1 (λ j. row j .i - 1) (λ j. j) refl
 
 -- a round past the third takes I
 pub aux-last : (r : ℕ) → (r ≡ 0 → ⊥) → (r ≡ 1 → ⊥) → (r ≡ 2 → ⊥) → aux r ≡ auxI

@@ -17,9 +17,10 @@ use lib.Dec.{eqb, leb}
 use lib.ListN.{getD, length, drop, drop-of-length-le}
 use Rattle.lent_bytes.proofs.WritingLaws.{written-fits, unless-none, unless-refused, numbered-as}
 use Rattle.inventory.specs.Query.{Queried}
-use Rattle.inventory.specs.Steps.{allBelow, oneTo, zeros, fresh, refusedOpening, openStep, outcome, accepted, withFiles, withVolumes, addFileStep, removeFileStep, addVolumeStep, removeVolumeStep}
+use Rattle.inventory.specs.Steps.{zeros, fresh, refusedOpening, openStep, outcome, accepted, withFiles, withVolumes, addFileStep, removeFileStep, addVolumeStep, removeVolumeStep}
 use Rattle.inventory.specs.declared.Inventory.{Inventory}
 use Rattle.inventory.specs.declared.Outcome.{Outcome}
+use Rattle.computed_tests.specs.Numbers.{allBelow, oneTo}
 use Rattle.computed_tests.proofs.Tests.{and-both}
 use Rattle.inventory.proofs.Outcomes.{open-out-of-range, open-miscounted}
 use Rattle.inventory.proofs.Representation.{nonempty-words}

@@ -9,10 +9,10 @@
 --   parity rule n X v m         the bytes of volume v below m
 -- Assumes nothing.
 use Prim.Native.Nat.{ℕ, zero, suc, max}
-use mathlib.Core.Bool.{Bool, _&&_}
+use mathlib.Core.Bool.{Bool}
 use mathlib.Core.List.{List, [], _∷_}
-use lib.Dec.{leb}
 use lib.ListN.{getD}
+use Rattle.computed_tests.specs.Numbers.{oneTo}
 use Rattle.gf256.specs.Polynomial.{sumBelow}
 use Rattle.gf256.specs.Field.{product}
 
@@ -21,7 +21,7 @@ Contents = ℕ → List ℕ
 
 -- "Files are numbered 1 to n"
 abbrev pub isFile : ℕ → ℕ → Bool
-isFile n f = leb 1 f && leb f n
+isFile n f = oneTo n f
 
 -- "the greatest file size"
 unfoldable pub greatest : ℕ → (ℕ → ℕ) → ℕ

@@ -10,6 +10,8 @@ use mathlib.Core.List.{List, [], _∷_}
 use Prim.Native.Nat.{ℕ, suc, _<_, _≤_, _-_}
 use lib.Dec.{eqb, ltb}
 use borrow.Author.Tests.{eqb-true, eqb-false, ltb-true, not-true}
+use Rattle.computed_tests.specs.Numbers.{allBelow}
+use Rattle.computed_tests.proofs.Tests.{all-at}
 use Rattle.gf256.specs.Polynomial.{sumBelow}
 use Rattle.gf256.specs.Field.{product}
 use Rattle.gf256.proofs.Polynomials.{sumBelow-same}
@@ -18,8 +20,6 @@ use Rattle.parity.proofs.Coefficients.{coefficient-byte}
 use Rattle.elimination.specs.Field.{Field}
 use Rattle.elimination.specs.ByteField.{Byte}
 use Rattle.inventory.specs.Recoverable.{State, column, Recoverable, Used}
-use Rattle.inventory.specs.Steps.{allBelow}
-use Rattle.inventory.proofs.Tests.{all-at}
 use Rattle.inventory.proofs.Rows.{K}
 use Rattle.worked_examples.specs.Examples.{listed}
 use Rattle.worked_examples.proofs.Tests.{every, every-at, allListed, each-listed}

@@ -10,7 +10,7 @@ use mathlib.Core.Bool.{Bool, true, false, cond, true≢false}
 use Prim.Native.Nat.{ℕ, suc, _<_, _≤_, _-_}
 use native.Mathlib.Omega.{arith}
 use lib.Dec.{eqb}
-use Rattle.computed_tests.proofs.Tests.{and-both}
+use Rattle.computed_tests.proofs.Tests.{and-both, oneTo-inside}
 use Rattle.gf256.specs.Polynomial.{sumBelow}
 use Rattle.gf256.specs.Field.{product}
 use Rattle.gf256.proofs.Polynomials.{sumBelow-same}
@@ -23,7 +23,7 @@ use Rattle.elimination.proofs.Solutions as Solutions
 use Rattle.elimination.specs.ByteField.{Byte, byte-eq}
 use Rattle.elimination.proofs.ByteField.{is-zero, sum-value, δ-value}
 use Rattle.inventory.specs.Recoverable.{State, column, Recoverable, Used}
-use Rattle.inventory.proofs.Tests.{eqb-suc, file-in-range}
+use Rattle.inventory.proofs.Tests.{eqb-suc}
 use Rattle.inventory.proofs.Rows as R
 use Rattle.inventory.proofs.Rows.{K}
 use Rattle.inventory.proofs.Recovery as Recovery
@@ -39,7 +39,7 @@ module _ (rule : ℕ → ℕ → ℕ) (small : (f v : ℕ) → f < 256 → rule 
   inColumn i = R.inColumn rule small t fits i
 
   in-file : (i : ℕ) → inColumn i ≡ true → i < t .n
-  in-file i e = file-in-range (t .n) (suc i) (and-both (isFile (t .n) (suc i)) (column t (suc i)) e .0) .1
+  in-file i e = oneTo-inside (t .n) (suc i) (and-both (isFile (t .n) (suc i)) (column t (suc i)) e .0) .1
 
   -- ---- weights
 

@@ -16,7 +16,6 @@ use Rattle.gf256.specs.Polynomial.{coeff, sumBelow, polyProduct, remainder}
 use Rattle.gf256.specs.Field.{product, power}
 use Rattle.parity.specs.Coefficient.{coefficient}
 use Rattle.parity.specs.Parity.{greatest, listBelow, parityByte, parity}
-use Rattle.inventory.specs.Steps.{allBelow}
 use Rattle.worked_examples.specs.Examples.{contentsOf, volumeOf, Example, Holds, examples, ExamplesHold}
 use Rattle.worked_examples.specs.Examples.Example.{numbers, weights, recoverable, undetermined}
 use Rattle.worked_examples.proofs.Tests.{every}
@@ -97,7 +96,7 @@ witnesses =
     ∷ []
 
 all-pass : allPass examples witnesses ≡ true
-unfolding witnesses allPass passes same statedBy every fileHolds volumeHolds usedBy solves ofVolume sumsAt cancels cancelsAt allBelow product power polyProduct sumBelow coeff remainder volumeOf contentsOf coefficient greatest listBelow parityByte parity
+unfolding witnesses allPass passes same statedBy every fileHolds volumeHolds usedBy solves ofVolume sumsAt cancels cancelsAt product power polyProduct sumBelow coeff remainder volumeOf contentsOf coefficient greatest listBelow parityByte parity
 all-pass = refl
 
 pub examples-hold : ExamplesHold

@@ -14,7 +14,8 @@ use native.Mathlib.Decide.{decLt}
 use lib.Dec.{eqb, ltb, leb}
 use lib.ListN.{length, getD, List·getD-eq-default}
 use borrow.Author.Tests.{eqb-true, ltb-true, leb-true, not-true, not-false, le-leb}
-use Rattle.computed_tests.proofs.Tests.{and-both}
+use Rattle.computed_tests.specs.Numbers.{allBelow}
+use Rattle.computed_tests.proofs.Tests.{and-both, all-at, oneTo-inside}
 use Rattle.gf256.specs.Polynomial.{sumBelow}
 use Rattle.gf256.specs.Field.{product}
 use Rattle.parity.specs.Coefficient.{coefficient}
@@ -23,8 +24,6 @@ use Rattle.parity.proofs.Coefficients.{coefficient-byte}
 use Rattle.elimination.specs.Field.{Field}
 use Rattle.elimination.specs.ByteField.{Byte, byte-eq}
 use Rattle.inventory.specs.Recoverable.{State, column, Recoverable}
-use Rattle.inventory.specs.Steps.{allBelow}
-use Rattle.inventory.proofs.Tests.{all-at, file-in-range}
 use Rattle.inventory.proofs.Rows.{K}
 use Rattle.worked_examples.specs.Examples.{listed, stateOf, NoneEmpty}
 use Rattle.worked_examples.proofs.Determined as Determined
@@ -72,7 +71,7 @@ module _ (n : ℕ) (fits : n ≤ 254) (missing volumes : List ℕ) (files : allL
       (not-true (not (listed g missing)) (and-both (not (not (listed g missing))) (leb 1 (size g)) e .0))
 
   inside : (f : ℕ) → listed (suc f) missing ≡ true → f < n
-  inside f e = file-in-range n (suc f) (each-listed (isFile n) missing files (suc f) e) .1
+  inside f e = oneTo-inside n (suc f) (each-listed (isFile n) missing files (suc f) e) .1
 
   -- ---- weights
 

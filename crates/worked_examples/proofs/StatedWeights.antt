@@ -18,7 +18,8 @@ use lib.Dec.{eqb, ltb, leb}
 use lib.ListN.{length, getD, replicate, length-append, length-replicate, List·getD-append}
 use lib.Seq.{getD-append-add}
 use borrow.Author.Tests.{eqb-true, ltb-true, leb-true}
-use Rattle.computed_tests.proofs.Tests.{and-both}
+use Rattle.computed_tests.specs.Numbers.{allBelow}
+use Rattle.computed_tests.proofs.Tests.{and-both, all-at, oneTo-inside}
 use Rattle.gf256.specs.Polynomial.{sumBelow}
 use Rattle.gf256.specs.Field.{product}
 use Rattle.gf256.proofs.Products.{product-zero-l}
@@ -26,8 +27,6 @@ use Rattle.parity.specs.Coefficient.{coefficient}
 use Rattle.parity.specs.Parity.{isFile}
 use Rattle.elimination.proofs.Reductions.{zeros-at}
 use Rattle.inventory.specs.Recoverable.{State, isVolume, column, place, Used, weighted, IsWeights}
-use Rattle.inventory.specs.Steps.{allBelow}
-use Rattle.inventory.proofs.Tests.{all-at, file-in-range, volume-in-range}
 use Rattle.worked_examples.proofs.Tests.{every, every-at}
 use Rattle.worked_examples.proofs.Chosen.{usedBy, chosen-used}
 
@@ -96,11 +95,11 @@ module _ (t : State) (f : ℕ) (start : List ℕ) where
       at-file : (g : ℕ) → isFile (t .n) g ≡ true
           → (place w g ≡ cond (t .files g) (firstSum g) 0) × ((not (column t g) || eqb (firstSum g) (cond (eqb f g) 1 0)) ≡ true)
       unfolding fileHolds
-      at-file zero l = let b = file-in-range (t .n) zero l in absurd (omega arith)
+      at-file zero l = let b = oneTo-inside (t .n) zero l in absurd (omega arith)
       at-file (suc i) l =
           let both = and-both (eqb (place w (suc i)) (cond (t .files (suc i)) (firstSum (suc i)) 0))
           (not (column t (suc i)) || eqb (firstSum (suc i)) (cond (eqb f (suc i)) 1 0))
-          (all-at (t .n) (λ i. fileHolds (suc i)) files i (file-in-range (t .n) (suc i) l .1)) in
+          (all-at (t .n) (λ i. fileHolds (suc i)) files i (oneTo-inside (t .n) (suc i) l .1)) in
           (eqb-true (place w (suc i)) (cond (t .files (suc i)) (firstSum (suc i)) 0) (both .0), both .1)
 
       byte : (p : ℕ) → getD w p 0 < 256
@@ -112,7 +111,7 @@ module _ (t : State) (f : ℕ) (start : List ℕ) where
       ]
 
       at-volume : (v : ℕ) → isVolume (t .n) v ≡ true → ¬ Used coefficient t v → place w (t .n + v) ≡ 0
-      at-volume zero l q = let b = volume-in-range (t .n) zero l in absurd (omega arith)
+      at-volume zero l q = let b = oneTo-inside (255 - t .n) zero l in absurd (omega arith)
       at-volume (suc s) l q = elim (decLt s (length start - t .n)) [
         | yes b ↦
             let e : t .n + suc s - 1 ≡ t .n + s = omega arith in

@@ -15,11 +15,11 @@ use Rattle.inventory_bytes.proofs.opened.Tie as tie
 
 returns : tie.Need-returns
 unfolding openedBy
-returns c = simp (lt-leb _ _ (c .before .if1 .taken)) (c .no-opening .ensures)
+returns c = simp (lt-leb _ _ (c .before .if1 .taken)) (c .refused-opening .ensures)
 
 returns-2 : tie.Need-returns-2
 unfolding openedBy
-returns-2 c = simp (le-leb _ _ (c .before .before .if1 .left), ne-eqb _ _ (c .before .if2 .taken)) (c .no-opening2 .ensures)
+returns-2 c = simp (le-leb _ _ (c .before .before .if1 .left), ne-eqb _ _ (c .before .if2 .taken)) (c .refused-opening2 .ensures)
 
 slice-aggregate-opened-by : tie.Need-slice-aggregate-opened-by
 slice-aggregate-opened-by c = simp length-take (omega arith)

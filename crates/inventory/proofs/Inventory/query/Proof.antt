@@ -7,7 +7,7 @@ use Rattle.parity.specs.Parity.{isFile}
 use Rattle.number_sets.specs.Sets.{member}
 use Rattle.inventory.specs.Steps.{isInventory}
 use Rattle.inventory.specs.Query.{noInventory}
-use Rattle.inventory.proofs.CoefficientRows.{few-files}
+use Rattle.inventory.proofs.ValidInventories.{few-files}
 use Rattle.inventory.proofs.Queries.{query-out-of-range, query-present, query-undetermined, query-no-room, query-recoverable}
 use borrow.Author.Tests.{not-true, not-false}
 use borrow.Author.Needs.{needs}

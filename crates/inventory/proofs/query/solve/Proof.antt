@@ -2,7 +2,7 @@
 -- Assumes nothing.
 use mathlib.Core.Path.{refl, sym, _∙_}
 use native.Mathlib.Omega.{arith}
-use Rattle.inventory.proofs.Tests.{file-in-range}
+use Rattle.computed_tests.proofs.Tests.{oneTo-inside}
 use Rattle.inventory.specs.Query.{empty, notEmpty}
 use Rattle.elimination.proofs.Reductions.{zeros-at}
 use borrow.Author.Tests.{not-true, not-false}
@@ -19,18 +19,18 @@ sub-solve c = omega (arith, c .before .before .pre .0)
 cast-solve : tie.Need-cast-solve
 cast-solve c =
     let start = c .before .before in
-    let l = file-in-range (start .args .n) (start .args .file) (start .pre .1) in
+    let l = oneTo-inside (start .args .n) (start .args .file) (start .pre .1) in
     omega (arith, start .pre .0)
 
 sub-solve-2 : tie.Need-sub-solve-2
 sub-solve-2 c =
     let start = c .before .before in
-    omega (arith, file-in-range (start .args .n) (start .args .file) (start .pre .1) .0)
+    omega (arith, oneTo-inside (start .args .n) (start .args .file) (start .pre .1) .0)
 
 cast-solve-2 : tie.Need-cast-solve-2
 cast-solve-2 c =
     let start = c .before .before in
-    let l = file-in-range (start .args .n) (start .args .file) (start .pre .1) in
+    let l = oneTo-inside (start .args .n) (start .args .file) (start .pre .1) in
     omega (arith, start .pre .0)
 
 returns-2 : tie.Need-returns-2

@@ -2,7 +2,7 @@
 -- Assumes nothing.
 use mathlib.Core.Path.{sym, _∙_}
 use native.Mathlib.Omega.{arith}
-use Rattle.inventory.proofs.Tests.{file-in-range}
+use Rattle.computed_tests.proofs.Tests.{oneTo-inside}
 use Rattle.inventory.proofs.Outcomes.{first-fails, first-holds}
 use Rattle.inventory.specs.Steps.{isInventory}
 use borrow.Author.Tests.{not-true, not-false}
@@ -34,7 +34,7 @@ sub-within : tie.Need-sub-within
 sub-within c =
     let ranged = c .before .before .before .before .before .before .before in
     let s = ranged .before .before .args .s in
-    let h = file-in-range 254 (s .n) (sym (ranged .before .one-to .ensures) ∙ not-false (ranged .before .one-to .result) (ranged .if1 .left)) in
+    let h = oneTo-inside 254 (s .n) (sym (ranged .before .one-to .ensures) ∙ not-false (ranged .before .one-to .result) (ranged .if1 .left)) in
     omega arith
 
 returns-4 : tie.Need-returns-4

@@ -7,10 +7,11 @@ use native.Mathlib.Omega.{arith}
 use lib.ListN.{set}
 use mathlib.Core.Bool.{Bool, true, not, _||_}
 use native.Mathlib.Nat.{not-suc-le-zero}
+use Rattle.computed_tests.proofs.Tests.{all-false, all-true}
 use Rattle.parity.specs.Parity.{isFile}
 use Rattle.number_sets.specs.Sets.{member}
 use Rattle.inventory.specs.Steps.{within}
-use Rattle.inventory.proofs.Tests.{all-true, all-false, one-more, or-left, or-right}
+use Rattle.inventory.proofs.Tests.{one-more, or-left, or-right}
 use borrow.Author.Tests.{not-true, not-false}
 use borrow.Author.Needs.{needs}
 use Rattle.inventory.proofs.ranges.within.Statement.{statement}
