@@ -32,16 +32,16 @@ use Rattle.entries.proofs.WalkLaws.{walk-count, walk-saved}
 use Rattle.text.specs.Ascii.{ascii}
 use Rattle.text.specs.Decimal.{decimal}
 use Rattle.text.proofs.DecimalLaws.{decimal-length}
-use Rattle.par1_rules.specs.Layout.{signature, signatureOf, versionOf, controlHashOf, setHashOf, numberOf, countOf, listSizeOf, dataSizeOf, listOf}
+use Rattle.par1_rules.specs.Layout.{signature, signatureOf, versionOf, controlHashOf, setHashOf, volumeNumberOf, countOf, listSizeOf, dataSizeOf, listOf}
 use Rattle.lent_bytes.specs.Equal.{equal}
 use Rattle.par1_rules.specs.Hashes.{setHash, controlHash}
 use Rattle.refusals.specs.Tests.{test, orElse}
 use Rattle.par1_rules.specs.Rules.{lengthAllowed, versionAllowed, layoutAllowed, numberAllowed, dataAllowed}
-use Rattle.par1_read.specs.Reading.{headerRefusal, controlRefusal, totalsRefusal, listRefusal, refusalOf, entriesIn, partsOf, readOf}
+use Rattle.par1_read.specs.Reading.{headerRefusal, controlRefusal, totalsRefusal, listRefusal, refusalFrom, entriesIn, readOf}
 use Rattle.par1_read.specs.declared.reading.Parts.{Parts}
 use Rattle.par1_read.specs.declared.reading.Reading.{Reading}
 use Rattle.par1_read.specs.declared.reading.Reading.the-variants.{Accepted}
-use Rattle.par1_read.proofs.ReadingLaws.{Passed, read-accepted, read-refused, read-tells}
+use Rattle.par1_read.proofs.ReadingLaws.{refusalOf, partsOf, Passed, read-accepted, read-refused, read-tells}
 use Rattle.listing.specs.Lines.{refusedLine, headLine, label, lineOf, entryLine, savedAfter, entryLines}
 use Rattle.listing.specs.Listing.{listingBy, listingOf, inputListing}
 use Rattle.listing.proofs.LineLaws.{saved-most}
@@ -129,7 +129,7 @@ accepted-shorter f tests =
     let fits : 96 + listSizeOf f ≤ length f = omega (arith, tests .header .layout .data-start, tests .header .layout .data-end) in
     let few : length es ≤ length (listOf f) = cut-count lengthOf (listOf f) in
     let most : length f ≤ 33554432 = tests .header .size .high in
-    let small = number-most (numberOf f) (tests .totals-of .saved) (tests .totals .number-right) in
+    let small = number-most (volumeNumberOf f) (tests .totals-of .saved) (tests .totals .number-right) in
     let count : countOf f ≡ length es = sym (tests .totals .count-is) ∙ walk-count (listOf f) (tests .walk-is) in
     let saved = walk-saved (listOf f) (tests .walk-is) in
     let head = head-most (partsOf f .number) (partsOf f .entries) (partsOf f .saved) (omega (arith, small .0)) (omega arith) (omega (arith, small .1, saved)) in
@@ -158,21 +158,22 @@ fault-most Size = omega arith
 fault-most FileSize = omega arith
 fault-most Name = omega arith
 
-list-most : (f : List ℕ) (w : Walked) → listRefusal f w ≤ 9
+list-most : (head set : List ℕ) (w : Walked) → listRefusal head set w ≤ 9
 unfolding totalsRefusal
-list-most f (walked.Entries t) =
-    four-most 6 (eqb (t .entries) (countOf f)) (numberAllowed (numberOf f) (t .saved)) (equal (setHashOf f) (setHash (entriesIn f)))
-    (dataAllowed (numberOf f) (t .greatest) (dataSizeOf f)) (omega arith)
-list-most f (walked.Fault fault) = fault-most fault
+list-most head set (walked.Entries t) =
+    four-most 6 (eqb (t .entries) (countOf head)) (numberAllowed (volumeNumberOf head) (t .saved)) (equal (setHashOf head) set)
+    (dataAllowed (volumeNumberOf head) (t .greatest) (dataSizeOf head)) (omega arith)
+list-most head set (walked.Fault fault) = fault-most fault
 
 refusal-most : (f : List ℕ) → refusalOf f ≤ 9
-unfolding refusalOf headerRefusal controlRefusal
+unfolding refusalOf refusalFrom headerRefusal controlRefusal
 refusal-most f =
-    or-most (headerRefusal f) (orElse (controlRefusal f) (listRefusal f (walkOf (listOf f))))
-    (four-most 1 (lengthAllowed (length f)) (eqb (signatureOf f) signature) (versionAllowed (versionOf f)) (layoutAllowed f) (omega arith))
-    (or-most (controlRefusal f) (listRefusal f (walkOf (listOf f)))
-    (test-most 5 (equal (controlHashOf f) (controlHash f)) 0 (omega arith) (omega arith))
-    (list-most f (walkOf (listOf f))))
+    let n : ℕ = length f in
+    let digest : List ℕ = controlHash f in
+    let list = list-most f (setHash (entriesIn f)) (walkOf (listOf f)) in
+    or-most (headerRefusal f n) _
+    (four-most 1 (lengthAllowed n) (eqb (signatureOf f) signature) (versionAllowed (versionOf f)) (layoutAllowed f n) (omega arith))
+    (or-most (controlRefusal f digest) _ (test-most 5 (equal (controlHashOf f) digest) 0 (omega arith) (omega arith)) list)
 
 -- ---- listings
 
@@ -187,7 +188,7 @@ unfolding listingOf
 by-refusal s h zero e = omega (arith, listing-shorter s (partsOf s) (read-accepted s (sym e)))
 by-refusal s h (suc n) e =
     let few : suc n ≤ 9 = omega (arith, refusal-most s) in
-    rw (read-refused s (suc n) e (λ z. omega arith)) (omega (arith, refused-most (suc n) (omega arith)))
+    rw (read-refused s e (λ z. omega arith)) (omega (arith, refused-most (suc n) (omega arith)))
 
 pub input-listing-most : (s : List ℕ) → length (inputListing s) ≤ 65536
 unfolding inputListing

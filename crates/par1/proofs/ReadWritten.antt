@@ -22,10 +22,10 @@ use Rattle.entries.proofs.WalkLaws.{walk-count}
 use Rattle.md5.specs.Digest.{md5}
 use Rattle.par1_rules.specs.Hashes.{setHash}
 use Rattle.par1_rules.specs.Rules.{numberAllowed, dataAllowed}
-use Rattle.par1_read.specs.Reading.{partsOf}
+use Rattle.par1_read.specs.Reading.{entriesIn}
 use Rattle.par1_write.specs.VolumeWriting.{volumeBytes, walkRefusal, writeVolumeOf}
 use Rattle.par1_read.specs.declared.reading.Reading.the-variants.{Accepted}
-use Rattle.par1_read.proofs.ReadingLaws.{HeaderPassed, TotalsPassed, Passed, passed-none, read-accepted}
+use Rattle.par1_read.proofs.ReadingLaws.{partsOf, HeaderPassed, TotalsPassed, Passed, passed-none, read-accepted}
 use Rattle.par1_rules.proofs.RuleLaws.{Between, fault-some}
 use Rattle.par1.specs.Claim.{VolumeAccepted, VolumeWritten, partsFor, ReadWritten}
 use Rattle.par1.proofs.VolumeFields.{Fields, volume-fields}
@@ -64,7 +64,7 @@ list-passed number list area e = by (walkOf list) refl e
 module _ {number : ℕ} {list : List ℕ} (area : List ℕ) (accepted : ListPassed number list (length area))
     (f : List ℕ) (program : ℕ) {body : List ℕ} (d : Fields f program body (length (entriesOf list .pieces)) number list area)
     (size : length f ≡ 96 + length list + length area) where
-  written-header : HeaderPassed f
+  written-header : HeaderPassed f (length f)
   written-header =
       record {
         size = subst Between (sym size) (accepted .tests .size);
@@ -77,7 +77,7 @@ module _ {number : ℕ} {list : List ℕ} (area : List ℕ) (accepted : ListPass
         };
       }
 
-  written-totals : TotalsPassed f (accepted .totals-of)
+  written-totals : TotalsPassed f (setHash (entriesIn f)) (accepted .totals-of)
   written-totals =
       let t : Totals = accepted .totals-of in
       record {

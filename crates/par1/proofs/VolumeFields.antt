@@ -12,7 +12,7 @@ use Rattle.little_endian.specs.Bytes.{toLe, numbers}
 use Rattle.little_endian.proofs.Numbers.{length-toLe}
 use Rattle.md5.specs.Digest.{md5}
 use Rattle.entries.specs.Walk.{entriesOf}
-use Rattle.par1_rules.specs.Layout.{signature, version, signatureOf, versionOf, programOf, controlHashOf, hashedOf, setHashOf, numberOf, countOf, listStartOf, listSizeOf, dataStartOf, dataSizeOf, listOf, dataOf}
+use Rattle.par1_rules.specs.Layout.{signature, version, signatureOf, versionOf, programOf, controlHashOf, hashedOf, setHashOf, volumeNumberOf, countOf, listStartOf, listSizeOf, dataStartOf, dataSizeOf, listOf, dataOf}
 use Rattle.par1_rules.specs.Hashes.{setHash}
 use Rattle.par1_write.specs.VolumeWriting.{numberBytes, bodyBytes, headBytes}
 use Rattle.par1_rules.proofs.HashLaws.{length-md5, length-set-hash}
@@ -28,7 +28,7 @@ pub record Fields (f : List ℕ) (program : ℕ) (body : List ℕ) (n number : �
   pub control-is : controlHashOf f ≡ md5 body
   pub hashed-is : hashedOf f ≡ body
   pub set-is : setHashOf f ≡ setHash (entriesOf list .pieces)
-  pub number-is : numberOf f ≡ number
+  pub number-is : volumeNumberOf f ≡ number
   pub count-is : countOf f ≡ n
   pub list-start : listStartOf f ≡ 96
   pub list-size : listSizeOf f ≡ length list

@@ -16,7 +16,7 @@ use Rattle.entries.specs.declared.Totals.{Totals}
 use Rattle.entries.specs.declared.Walked.{Walked}
 use Rattle.entries.proofs.WalkLaws.{walk-count}
 use Rattle.md5.specs.Digest.{md5}
-use Rattle.par1_rules.specs.Layout.{signature, version, programOf, hashedOf, numberOf, countOf, listSizeOf, dataStartOf, dataSizeOf, listOf, dataOf}
+use Rattle.par1_rules.specs.Layout.{signature, version, programOf, hashedOf, volumeNumberOf, countOf, listSizeOf, dataStartOf, dataSizeOf, listOf, dataOf}
 use Rattle.par1_rules.specs.Hashes.{setHash}
 use Rattle.par1_rules.specs.Rules.{dataAllowed}
 use Rattle.par1_read.specs.Reading.{entriesIn}
@@ -52,22 +52,22 @@ module _ (f : List ℕ) (bytes : Bytes f) (tests : Passed f) where
   count : length (entriesIn f) ≡ countOf f
   count = sym (walk-count (listOf f) (tests .walk-is)) ∙ tests .totals .count-is
 
-  body-again : bodyBytes (length (entriesIn f)) (numberOf f) (listOf f) (dataOf f) ≡ hashedOf f
+  body-again : bodyBytes (length (entriesIn f)) (volumeNumberOf f) (listOf f) (dataOf f) ≡ hashedOf f
   unfolding bodyBytes numbers flatten
   body-again =
       let l : List ℕ = listOf f in
       let area : List ℕ = dataOf f in
       let low : 96 ≤ length f = tests .header .size .low in
       let starts : 96 + length l ≡ dataStartOf f = omega (arith, list-length, tests .header .layout .data-start) in
-      nested-body (setHash (entriesIn f)) (toLe 8 (numberOf f)) (toLe 8 (length (entriesIn f))) (toLe 8 96) (toLe 8 (length l)) (toLe 8 (96 + length l))
+      nested-body (setHash (entriesIn f)) (toLe 8 (volumeNumberOf f)) (toLe 8 (length (entriesIn f))) (toLe 8 96) (toLe 8 (length l)) (toLe 8 (96 + length l))
       (toLe 8 (length area)) l area
       ∙ cc
       (tests .totals .set-is, count, list-length, data-length, starts, tests .header .layout .list-start, split (listSizeOf f) 96 f, split-number 8 88 f bytes (omega arith), split-number 8 80 f bytes (omega arith), split-number 8 72 f bytes (omega arith), split-number 8 64 f bytes (omega arith), split-number 8 56 f bytes (omega arith), split-number 8 48 f bytes (omega arith), split 16 32 f)
 
-  pub volume-again : volumeBytes (programOf f) (numberOf f) (listOf f) (dataOf f) ≡ f
+  pub volume-again : volumeBytes (programOf f) (volumeNumberOf f) (listOf f) (dataOf f) ≡ f
   unfolding volumeBytes headBytes
   volume-again =
-      let body : List ℕ = bodyBytes (length (entriesIn f)) (numberOf f) (listOf f) (dataOf f) in
+      let body : List ℕ = bodyBytes (length (entriesIn f)) (volumeNumberOf f) (listOf f) (dataOf f) in
       let low : 96 ≤ length f = tests .header .size .low in
       nested-head (toLe 8 signature) (toLe 4 version) (toLe 4 (programOf f)) (md5 body) body
       ∙ cc
@@ -80,22 +80,22 @@ module _ (f : List ℕ) (bytes : Bytes f) (tests : Passed f) where
       ∙ take-all (dataSizeOf f) (dataOf f) (omega (arith, data-length))
 
   write-again : (out : List ℕ) → length f ≤ length out
-      → writeVolumeOf (programOf f) (numberOf f) (listOf f) (dataOf f) out ≡ (Written (length f), f ++ drop (length f) out)
+      → writeVolumeOf (programOf f) (volumeNumberOf f) (listOf f) (dataOf f) out ≡ (Written (length f), f ++ drop (length f) out)
   unfolding writeVolumeOf
   write-again out room =
       let t : Totals = tests .totals-of in
       let l : ℕ = length (listOf f) in
       let d : ℕ = length (dataOf f) in
-      let s : List ℕ = volumeBytes (programOf f) (numberOf f) (listOf f) (dataOf f) in
+      let s : List ℕ = volumeBytes (programOf f) (volumeNumberOf f) (listOf f) (dataOf f) in
       let size : 96 + l + d ≡ length f = omega (arith, list-length, data-length, tests .header .layout .data-start, tests .header .layout .data-end) in
       let right =
-      volume-none (numberOf f) t l d
+      volume-none (volumeNumberOf f) t l d
       (record {
         number-right = tests .totals .number-right;
-        data-right = ap (dataAllowed (numberOf f) (t .greatest)) data-length ∙ tests .totals .data-right;
+        data-right = ap (dataAllowed (volumeNumberOf f) (t .greatest)) data-length ∙ tests .totals .data-right;
         size = subst Between (sym size) (tests .header .size);
       }) in
-      let none = ap (λ (w : Walked). walkRefusal (numberOf f) w l d) (tests .walk-is) ∙ right in
+      let none = ap (λ (w : Walked). walkRefusal (volumeNumberOf f) w l d) (tests .walk-is) ∙ right in
       let again : f ≡ s = sym volume-again in
       let fits : length s ≤ length out = omega (arith, ap length again) in
       sym
@@ -106,5 +106,5 @@ pub written-read : WrittenRead
 written-read f p out bytes e room =
     let told = read-tells f p e in
     ap (λ (q : Parts). writeVolumeOf (q .program) (q .number) (take (q .«list_size») (drop 96 f)) (take (q .«data_size») (drop (q .«data_start») f)) out) (told .parts-are)
-    ∙ ap (λ (d : List ℕ). writeVolumeOf (programOf f) (numberOf f) (listOf f) d out) (data-again f bytes (told .tests))
+    ∙ ap (λ (d : List ℕ). writeVolumeOf (programOf f) (volumeNumberOf f) (listOf f) d out) (data-again f bytes (told .tests))
     ∙ write-again f bytes (told .tests) out room

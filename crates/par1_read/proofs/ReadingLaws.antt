@@ -4,10 +4,11 @@
 --   control-passed                   what test 5, passed, tells
 --   TotalsPassed, totals-passed      what the tests after the walk, passed, tell
 --   header-none, control-none, totals-none     and the tests pass where that holds
---   header-refusal, later-refusal    the header decides, or after it the control hash and the list
---   read-refused, read-accepted      what reading gives, from the refusal
+--   refusalOf f, partsOf f           the number of the first test that holds of the file f, 0 where none does; what it gives where none does
+--   header-refused, read-as          a file that its header refuses; any other, from its list, its digests and the walk
+--   from-refused, from-accepted      what reading gives, from the refusal
+--   read-refused, read-accepted      the same of a file
 --   Passed, passed-none, ReadAccepted, read-tells  the tests that an accepted file passed
---   saved-passed                     its number of saved entries
 -- A test of document 01 is passed where it does not hold.
 -- Assumes nothing.
 use mathlib.Core.Path.{_≡_, refl, sym, ap, ap₂, _∙_}
@@ -19,133 +20,159 @@ use lib.Dec.{eqb}
 use lib.ListN.{length}
 use borrow.Author.Tests.{eqb-true, eq-eqb}
 use Rattle.cut_lists.specs.Pieces.{ifZero}
+use Rattle.lent_bytes.specs.Equal.{equal}
+use Rattle.lent_bytes.proofs.EqualLaws.{equal-true, equal-same}
+use Rattle.refusals.specs.Tests.{orElse}
+use Rattle.refusals.proofs.TestLaws.{test-passed, or-else, or-none}
 use Rattle.entries.specs.Numbering.{savedOf}
-use Rattle.entries.specs.Walk.{walkOf}
-use Rattle.entries.specs.declared.Fault.{Fault}
+use Rattle.entries.specs.Walk.{entriesOf, walkOf}
 use Rattle.entries.specs.declared.Totals.{Totals}
 use Rattle.entries.specs.declared.Walked.{Walked}
 use Rattle.entries.specs.declared.Walked.the-variants as walked
 use Rattle.entries.proofs.WalkLaws.{walk-saved}
-use Rattle.par1_rules.specs.Layout.{signature, version, signatureOf, versionOf, controlHashOf, setHashOf, numberOf, countOf, dataSizeOf, listOf}
-use Rattle.lent_bytes.specs.Equal.{equal}
+use Rattle.par1_rules.specs.Layout.{signature, version, signatureOf, versionOf, controlHashOf, setHashOf}
+use Rattle.par1_rules.specs.Layout.{volumeNumberOf, countOf, dataSizeOf, listOf}
 use Rattle.par1_rules.specs.Hashes.{setHash, controlHash}
-use Rattle.refusals.specs.Tests.{orElse}
 use Rattle.par1_rules.specs.Rules.{lengthAllowed, versionAllowed, layoutAllowed, numberAllowed, dataAllowed}
-use Rattle.par1_read.specs.Reading.{entriesIn, headerRefusal, controlRefusal, totalsRefusal, listRefusal, refusalOf, savedIn, partsOf, readOf}
+use Rattle.par1_rules.proofs.RuleLaws.{fault-some, Between, between, long-enough, Laid, laid, laid-out}
+use Rattle.par1_read.specs.Reading.{headerRefusal, controlRefusal, totalsRefusal, listRefusal, refusalFrom}
+use Rattle.par1_read.specs.Reading.{savedIn, partsFrom, readFrom, entriesIn, readOf}
 use Rattle.par1_read.specs.declared.reading.Parts.{Parts}
 use Rattle.par1_read.specs.declared.reading.Reading.the-variants.{Accepted, Refused}
-use Rattle.lent_bytes.proofs.EqualLaws.{equal-true, equal-same}
-use Rattle.refusals.proofs.TestLaws.{test-passed, or-else, or-none}
-use Rattle.par1_rules.proofs.RuleLaws.{fault-some, Between, between, long-enough, Laid, laid, laid-out}
 
 -- ---- the header
 
-pub record HeaderPassed (f : List ℕ) : Type 0 where
-  pub size : Between (length f)
-  pub begins : signatureOf f ≡ signature
-  pub version-is : versionOf f ≡ version
-  pub layout : Laid f
+pub record HeaderPassed (head : List ℕ) (n : ℕ) : Type 0 where
+  pub size : Between n
+  pub begins : signatureOf head ≡ signature
+  pub version-is : versionOf head ≡ version
+  pub layout : Laid head n
 
-pub header-passed : (f : List ℕ) → headerRefusal f ≡ 0 → HeaderPassed f
-unfolding headerRefusal versionAllowed
-header-passed f e =
-    let one = test-passed 1 (lengthAllowed (length f)) _ (omega arith) e in
-    let two = test-passed 2 (eqb (signatureOf f) signature) _ (omega arith) (one .1) in
-    let three = test-passed 3 (versionAllowed (versionOf f)) _ (omega arith) (two .1) in
-    let four = test-passed 4 (layoutAllowed f) _ (omega arith) (three .1) in
-    record {
-      size = between (length f) (one .0);
-      begins = eqb-true _ _ (two .0);
-      version-is = eqb-true _ _ (three .0);
-      layout = laid f (four .0);
-    }
+module _ (head : List ℕ) (n : ℕ) where
+  pub header-passed : headerRefusal head n ≡ 0 → HeaderPassed head n
+  unfolding headerRefusal versionAllowed
+  header-passed e =
+      let one = test-passed 1 (lengthAllowed n) _ (omega arith) e in
+      let two = test-passed 2 (eqb (signatureOf head) signature) _ (omega arith) (one .1) in
+      let three = test-passed 3 (versionAllowed (versionOf head)) _ (omega arith) (two .1) in
+      let four = test-passed 4 (layoutAllowed head n) _ (omega arith) (three .1) in
+      record {
+        size = between n (one .0);
+        begins = eqb-true _ _ (two .0);
+        version-is = eqb-true _ _ (three .0);
+        layout = laid head n (four .0);
+      }
 
-pub header-none : (f : List ℕ) → HeaderPassed f → headerRefusal f ≡ 0
-unfolding headerRefusal versionAllowed
-header-none f p =
-    simp
-    (long-enough (length f) (p .size .low) (p .size .high), eq-eqb _ _ (p .begins), eq-eqb _ _ (p .version-is), laid-out f (p .layout))
+  pub header-none : HeaderPassed head n → headerRefusal head n ≡ 0
+  unfolding headerRefusal versionAllowed
+  header-none p =
+      let size = long-enough n (p .size .low) (p .size .high) in
+      simp (size, eq-eqb _ _ (p .begins), eq-eqb _ _ (p .version-is), laid-out head n (p .layout))
 
 -- ---- the control hash
 
-pub control-passed : (f : List ℕ) → controlRefusal f ≡ 0 → controlHashOf f ≡ controlHash f
-unfolding controlRefusal
-control-passed f e = equal-true _ _ (test-passed 5 (equal (controlHashOf f) (controlHash f)) 0 (omega arith) e .0)
+module _ (head digest : List ℕ) where
+  pub control-passed : controlRefusal head digest ≡ 0 → controlHashOf head ≡ digest
+  unfolding controlRefusal
+  control-passed e = equal-true _ _ (test-passed 5 (equal (controlHashOf head) digest) 0 (omega arith) e .0)
 
-pub control-none : (f : List ℕ) → controlHashOf f ≡ controlHash f → controlRefusal f ≡ 0
-unfolding controlRefusal
-control-none f e = simp (equal-same e)
+  pub control-none : controlHashOf head ≡ digest → controlRefusal head digest ≡ 0
+  unfolding controlRefusal
+  control-none e = simp (equal-same e)
 
 -- ---- the list
 
-pub record TotalsPassed (f : List ℕ) (t : Totals) : Type 0 where
-  pub count-is : t .entries ≡ countOf f
-  pub number-right : numberAllowed (numberOf f) (t .saved) ≡ true
-  pub set-is : setHashOf f ≡ setHash (entriesIn f)
-  pub data-right : dataAllowed (numberOf f) (t .greatest) (dataSizeOf f) ≡ true
+pub record TotalsPassed (head set : List ℕ) (t : Totals) : Type 0 where
+  pub count-is : t .entries ≡ countOf head
+  pub number-right : numberAllowed (volumeNumberOf head) (t .saved) ≡ true
+  pub set-is : setHashOf head ≡ set
+  pub data-right : dataAllowed (volumeNumberOf head) (t .greatest) (dataSizeOf head) ≡ true
 
-pub totals-passed : (f : List ℕ) (t : Totals) → totalsRefusal f t ≡ 0 → TotalsPassed f t
-unfolding totalsRefusal
-totals-passed f t e =
-    let six = test-passed 6 (eqb (t .entries) (countOf f)) _ (omega arith) e in
-    let seven = test-passed 7 (numberAllowed (numberOf f) (t .saved)) _ (omega arith) (six .1) in
-    let eight = test-passed 8 (equal (setHashOf f) (setHash (entriesIn f))) _ (omega arith) (seven .1) in
-    let nine = test-passed 9 (dataAllowed (numberOf f) (t .greatest) (dataSizeOf f)) _ (omega arith) (eight .1) in
-    record { count-is = eqb-true _ _ (six .0); number-right = seven .0; set-is = equal-true _ _ (eight .0); data-right = nine .0 }
+module _ (head set : List ℕ) (t : Totals) where
+  pub totals-passed : totalsRefusal head set t ≡ 0 → TotalsPassed head set t
+  unfolding totalsRefusal
+  totals-passed e =
+      let six = test-passed 6 (eqb (t .entries) (countOf head)) _ (omega arith) e in
+      let seven = test-passed 7 (numberAllowed (volumeNumberOf head) (t .saved)) _ (omega arith) (six .1) in
+      let eight = test-passed 8 (equal (setHashOf head) set) _ (omega arith) (seven .1) in
+      let nine = test-passed 9 (dataAllowed (volumeNumberOf head) (t .greatest) (dataSizeOf head)) _ (omega arith) (eight .1) in
+      record { count-is = eqb-true _ _ (six .0); number-right = seven .0; set-is = equal-true _ _ (eight .0); data-right = nine .0 }
 
-pub totals-none : (f : List ℕ) (t : Totals) → TotalsPassed f t → totalsRefusal f t ≡ 0
-unfolding totalsRefusal
-totals-none f t p = simp (eq-eqb _ _ (p .count-is), p .number-right, equal-same (p .set-is), p .data-right)
+  pub totals-none : TotalsPassed head set t → totalsRefusal head set t ≡ 0
+  unfolding totalsRefusal
+  totals-none p = simp (eq-eqb _ _ (p .count-is), p .number-right, equal-same (p .set-is), p .data-right)
 
 -- ---- reading
 
-pub header-refusal : (f : List ℕ) → (headerRefusal f ≡ 0 → ⊥) → refusalOf f ≡ headerRefusal f
-unfolding refusalOf
-header-refusal f h = or-else (headerRefusal f) _ h
+module _ (head : List ℕ) (n : ℕ) (digest set : List ℕ) (w : Walked) where
+  pub from-refused : (k : ℕ) → k ≡ refusalFrom head n digest set w → (k ≡ 0 → ⊥) → readFrom head n digest set w ≡ Refused k
+  unfolding readFrom
+  from-refused zero e h = absurd (h refl)
+  from-refused (suc k) e h = simp (sym e)
 
-pub later-refusal : (f : List ℕ) → headerRefusal f ≡ 0 → refusalOf f ≡ orElse (controlRefusal f) (listRefusal f (walkOf (listOf f)))
-unfolding refusalOf
-later-refusal f e = simp e
+  pub from-accepted : {k : ℕ} {p : Parts} → refusalFrom head n digest set w ≡ 0 → k ≡ savedIn w → p ≡ partsFrom head k
+      → readFrom head n digest set w ≡ Accepted p
+  unfolding readFrom
+  from-accepted e saved parts = simp (e, parts, saved)
 
-pub read-refused : (f : List ℕ) (n : ℕ) → n ≡ refusalOf f → (n ≡ 0 → ⊥) → readOf f ≡ Refused n
+unfoldable pub refusalOf : List ℕ → ℕ
+refusalOf f = refusalFrom f (length f) (controlHash f) (setHash (entriesIn f)) (walkOf (listOf f))
+
+abbrev pub partsOf : List ℕ → Parts
+partsOf f = partsFrom f (length (savedOf (entriesIn f)))
+
+pub read-refused : (f : List ℕ) {n : ℕ} → n ≡ refusalOf f → (n ≡ 0 → ⊥) → readOf f ≡ Refused n
+unfolding readOf refusalOf
+read-refused f e h = from-refused f (length f) (controlHash f) (setHash (entriesIn f)) (walkOf (listOf f)) _ e h
+
+pub header-refused : (f : List ℕ) {n : ℕ} → n ≡ headerRefusal f (length f) → (n ≡ 0 → ⊥) → readOf f ≡ Refused n
+unfolding refusalOf refusalFrom
+header-refused f {n} e h = read-refused f (e ∙ sym (or-else (headerRefusal f (length f)) _ (λ z. h (e ∙ z)))) h
+
+pub read-as : (f : List ℕ) {list digest set : List ℕ} {w : Walked} → list ≡ listOf f → digest ≡ controlHash f
+    → set ≡ setHash (entriesOf list .pieces) → w ≡ walkOf list → readFrom f (length f) digest set w ≡ readOf f
 unfolding readOf
-read-refused f zero e h = absurd (h refl)
-read-refused f (suc n) e h = simp (sym e)
-
-pub read-accepted : (f : List ℕ) → refusalOf f ≡ 0 → readOf f ≡ Accepted (partsOf f)
-unfolding readOf
-read-accepted f e = simp e
+read-as f l d s w = cc
 
 -- ---- an accepted file
 
 -- the file f passed all tests, and t are the totals of its list
 pub record Passed (f : List ℕ) : Type 0 where
-  pub header : HeaderPassed f
+  pub header : HeaderPassed f (length f)
   pub control-is : controlHashOf f ≡ controlHash f
   pub totals-of : Totals
   pub walk-is : walkOf (listOf f) ≡ walked.Entries totals-of
-  pub totals : TotalsPassed f totals-of
+  pub totals : TotalsPassed f (setHash (entriesIn f)) totals-of
 
 pub passed-none : (f : List ℕ) → Passed f → refusalOf f ≡ 0
+unfolding refusalOf refusalFrom
 passed-none f p =
-    later-refusal f (header-none f (p .header))
-    ∙ ap₂ (λ (n m : ℕ). orElse n m) (control-none f (p .control-is)) (ap (listRefusal f) (p .walk-is) ∙ totals-none f (p .totals-of) (p .totals))
+    let set : List ℕ = setHash (entriesIn f) in
+    let list = ap (listRefusal f set) (p .walk-is) ∙ totals-none f set (p .totals-of) (p .totals) in
+    simp (header-none f (length f) (p .header), control-none f (controlHash f) (p .control-is)) list
 
 none-passed : (f : List ℕ) → refusalOf f ≡ 0 → Passed f
-unfolding refusalOf
+unfolding refusalOf refusalFrom
 none-passed f e =
-    let header = or-none (headerRefusal f) _ e in
-    let control = or-none (controlRefusal f) _ (header .1) in
-    list (walkOf (listOf f)) refl (header-passed f (header .0)) (control-passed f (control .0)) (control .1)
+    let header = or-none (headerRefusal f (length f)) _ e in
+    let control = or-none (controlRefusal f (controlHash f)) _ (header .1) in
+    list (walkOf (listOf f)) refl (header-passed f (length f) (header .0)) (control-passed f (controlHash f) (control .0)) (control .1)
   where
-    list : (w : Walked) → w ≡ walkOf (listOf f) → HeaderPassed f → controlHashOf f ≡ controlHash f → listRefusal f w ≡ 0 → Passed f
+    set : List ℕ
+    set = setHash (entriesIn f)
+
+    list : (w : Walked) → w ≡ walkOf (listOf f) → HeaderPassed f (length f) → controlHashOf f ≡ controlHash f → listRefusal f set w ≡ 0
+        → Passed f
     list (walked.Entries t) w h c e =
-        record { header = h; control-is = c; totals-of = t; walk-is = sym w; totals = totals-passed f t e }
+        record { header = h; control-is = c; totals-of = t; walk-is = sym w; totals = totals-passed f set t e }
     list (walked.Fault k) w h c e = absurd (omega (arith, fault-some k))
 
-pub saved-passed : (f : List ℕ) → refusalOf f ≡ 0 → savedIn (walkOf (listOf f)) ≡ length (savedOf (entriesIn f))
-saved-passed f e =
-    let p = none-passed f e in ap (λ (w : Walked). savedIn w) (p .walk-is) ∙ walk-saved (listOf f) (p .walk-is)
+pub read-accepted : (f : List ℕ) → refusalOf f ≡ 0 → readOf f ≡ Accepted (partsOf f)
+unfolding readOf refusalOf
+read-accepted f e =
+    let p = none-passed f e in
+    let saved = ap (λ (w : Walked). savedIn w) (p .walk-is) ∙ walk-saved (listOf f) (p .walk-is) in
+    from-accepted f (length f) (controlHash f) (setHash (entriesIn f)) (walkOf (listOf f)) e (sym saved) refl
 
 -- what an accepted file tells
 pub record ReadAccepted (f : List ℕ) (p : Parts) : Type 0 where
@@ -153,9 +180,9 @@ pub record ReadAccepted (f : List ℕ) (p : Parts) : Type 0 where
   pub parts-are : p ≡ partsOf f
 
 pub read-tells : (f : List ℕ) (p : Parts) → readOf f ≡ Accepted p → ReadAccepted f p
-unfolding readOf
-read-tells f p e = by (refusalOf f) refl e
+read-tells f p e = by (refusalOf f) refl
   where
-    by : (n : ℕ) → n ≡ refusalOf f → ifZero n (Accepted (partsOf f)) (Refused n) ≡ Accepted p → ReadAccepted f p
-    by zero n e = record { tests = none-passed f (sym n); parts-are = cc }
-    by (suc m) n e = absurd (let z : _≡_ {A = ℕ} 0 1 = cc in omega arith)
+    by : (n : ℕ) → n ≡ refusalOf f → ReadAccepted f p
+    by zero n = let found = read-accepted f (sym n) in record { tests = none-passed f (sym n); parts-are = cc }
+    by (suc m) n =
+        let found = read-refused f n (λ z. omega arith) in absurd (let z : _≡_ {A = ℕ} 0 1 = cc in omega arith)

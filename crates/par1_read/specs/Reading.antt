@@ -1,78 +1,85 @@
 -- What reading a file gives (document 01, "What comes back": "Reading tests 1 to 9 in this order and returns the first that holds").
+-- The tests look at the header, the length of the file, two digests and the walk over the list. Of a list `head` that begins with the
+-- header they read no more than the first 96 bytes.
 --
---   headerRefusal f      the number of the first of tests 1 to 4 that holds, 0 where none does
---   controlRefusal f     that of test 5
---   totalsRefusal f t    that of the tests on the count, 7, 8 and 9, where t are the totals of the list
---   listRefusal f w      that of tests 6 to 9, where w is the walk over the list
---   refusalOf f          that of tests 1 to 9
---   savedIn w            the number of saved entries that the walk w found
---   entriesIn f          the entries of the file f
---   partsOf f            what an accepted file f gives
---   readOf f             what reading f gives
+--   headerRefusal head n           the number of the first of tests 1 to 4 that holds of a file of n bytes, 0 where none does
+--   controlRefusal head digest     that of test 5, where digest is the MD5 of the bytes from 32 on
+--   totalsRefusal head set t       that of the tests on the count, 7, 8 and 9, where set is the set hash of the list and t are its totals
+--   listRefusal head set w         that of tests 6 to 9, where w is the walk over the list
+--   refusalFrom head n digest set w   that of tests 1 to 9
+--   savedIn w                      the number of saved entries that the walk w found
+--   partsFrom head saved           what an accepted file gives
+--   readFrom head n digest set w   what reading gives
+--   entriesIn f                    the entries of the file f
+--   readOf f                       what reading the file f gives
 -- Assumes nothing.
 use Prim.Native.Nat.{ℕ}
 use mathlib.Core.List.{List}
 use lib.Dec.{eqb}
 use lib.ListN.{length}
 use Rattle.cut_lists.specs.Pieces.{ifZero}
-use Rattle.entries.specs.Numbering.{savedOf}
+use Rattle.lent_bytes.specs.Equal.{equal}
+use Rattle.refusals.specs.Tests.{test, orElse}
 use Rattle.entries.specs.Walk.{faultNumber, entriesOf, walkOf}
 use Rattle.entries.specs.declared.Totals.{Totals}
 use Rattle.entries.specs.declared.Walked.{Walked}
 use Rattle.entries.specs.declared.Walked.the-variants as walked
-use Rattle.par1_rules.specs.Layout.{signature, signatureOf, versionOf, programOf, controlHashOf, setHashOf, numberOf, countOf, listSizeOf, dataStartOf, dataSizeOf, listOf}
-use Rattle.lent_bytes.specs.Equal.{equal}
+use Rattle.par1_rules.specs.Layout.{signature, signatureOf, versionOf, programOf, controlHashOf, setHashOf}
+use Rattle.par1_rules.specs.Layout.{volumeNumberOf, countOf, listSizeOf, dataStartOf, dataSizeOf, listOf}
 use Rattle.par1_rules.specs.Hashes.{setHash, controlHash}
-use Rattle.refusals.specs.Tests.{test, orElse}
 use Rattle.par1_rules.specs.Rules.{lengthAllowed, versionAllowed, layoutAllowed, numberAllowed, dataAllowed}
 use Rattle.par1_read.specs.declared.reading.Parts.{Parts}
 use Rattle.par1_read.specs.declared.reading.Reading.{Reading}
 use Rattle.par1_read.specs.declared.reading.Reading.the-variants.{Accepted, Refused}
 
-unfoldable pub headerRefusal : List ℕ → ℕ
-headerRefusal f =
-    test 1 (lengthAllowed (length f))
-    (test 2 (eqb (signatureOf f) signature)
-    (test 3 (versionAllowed (versionOf f))
-    (test 4 (layoutAllowed f) 0)))
+unfoldable pub headerRefusal : List ℕ → ℕ → ℕ
+headerRefusal head n =
+    test 1 (lengthAllowed n)
+    (test 2 (eqb (signatureOf head) signature)
+    (test 3 (versionAllowed (versionOf head))
+    (test 4 (layoutAllowed head n) 0)))
 
-unfoldable pub controlRefusal : List ℕ → ℕ
-controlRefusal f = test 5 (equal (controlHashOf f) (controlHash f)) 0
-
-abbrev pub entriesIn : List ℕ → List (List ℕ)
-entriesIn f = entriesOf (listOf f) .pieces
+unfoldable pub controlRefusal : List ℕ → List ℕ → ℕ
+controlRefusal head digest = test 5 (equal (controlHashOf head) digest) 0
 
 -- "6: an entry or the list breaks its rules, or the count at 56 differs"
-unfoldable pub totalsRefusal : List ℕ → Totals → ℕ
-totalsRefusal f t =
-    test 6 (eqb (t .entries) (countOf f))
-    (test 7 (numberAllowed (numberOf f) (t .saved))
-    (test 8 (equal (setHashOf f) (setHash (entriesIn f)))
-    (test 9 (dataAllowed (numberOf f) (t .greatest) (dataSizeOf f)) 0)))
+unfoldable pub totalsRefusal : List ℕ → List ℕ → Totals → ℕ
+totalsRefusal head set t =
+    test 6 (eqb (t .entries) (countOf head))
+    (test 7 (numberAllowed (volumeNumberOf head) (t .saved))
+    (test 8 (equal (setHashOf head) set)
+    (test 9 (dataAllowed (volumeNumberOf head) (t .greatest) (dataSizeOf head)) 0)))
 
-abbrev pub listRefusal : List ℕ → Walked → ℕ
-listRefusal f (walked.Entries t) = totalsRefusal f t
-listRefusal f (walked.Fault fault) = faultNumber fault
+abbrev pub listRefusal : List ℕ → List ℕ → Walked → ℕ
+listRefusal head set (walked.Entries t) = totalsRefusal head set t
+listRefusal head set (walked.Fault fault) = faultNumber fault
 
-unfoldable pub refusalOf : List ℕ → ℕ
-refusalOf f = orElse (headerRefusal f) (orElse (controlRefusal f) (listRefusal f (walkOf (listOf f))))
+unfoldable pub refusalFrom : List ℕ → ℕ → List ℕ → List ℕ → Walked → ℕ
+refusalFrom head n digest set w = orElse (headerRefusal head n) (orElse (controlRefusal head digest) (listRefusal head set w))
 
 abbrev pub savedIn : Walked → ℕ
 savedIn (walked.Entries t) = t .saved
 savedIn (walked.Fault fault) = 0
 
 -- "program identifier, volume number, counts (entries and saved), and where list and data lie"
-abbrev pub partsOf : List ℕ → Parts
-partsOf f =
+abbrev pub partsFrom : List ℕ → ℕ → Parts
+partsFrom head saved =
     record {
-      program = programOf f;
-      number = numberOf f;
-      entries = countOf f;
-      saved = length (savedOf (entriesIn f));
-      «list_size» = listSizeOf f;
-      «data_start» = dataStartOf f;
-      «data_size» = dataSizeOf f;
+      program = programOf head;
+      number = volumeNumberOf head;
+      entries = countOf head;
+      saved = saved;
+      «list_size» = listSizeOf head;
+      «data_start» = dataStartOf head;
+      «data_size» = dataSizeOf head;
     }
 
+unfoldable pub readFrom : List ℕ → ℕ → List ℕ → List ℕ → Walked → Reading
+readFrom head n digest set w =
+    let refusal : ℕ = refusalFrom head n digest set w in ifZero refusal (Accepted (partsFrom head (savedIn w))) (Refused refusal)
+
+abbrev pub entriesIn : List ℕ → List (List ℕ)
+entriesIn f = entriesOf (listOf f) .pieces
+
 unfoldable pub readOf : List ℕ → Reading
-readOf f = ifZero (refusalOf f) (Accepted (partsOf f)) (Refused (refusalOf f))
+readOf f = readFrom f (length f) (controlHash f) (setHash (entriesIn f)) (walkOf (listOf f))

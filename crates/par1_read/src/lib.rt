@@ -4,3 +4,4 @@ mod reading;
 pub use reading::Parts;
 pub use reading::Reading;
 pub use reading::read;
+pub use reading::read_from;

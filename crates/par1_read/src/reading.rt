@@ -1,15 +1,14 @@
 // Reading of index files and volumes (document 01, "What comes back", tests 1 to 9).
 ghost use mathlib.Core.Path.{_≡_};
-ghost use Prim.Native.Nat.{_≤_};
-ghost use lib.ListN.{length};
-ghost use Rattle.par1_rules.specs.Layout.{listOf};
-ghost use Rattle.refusals.specs.Tests.{orElse};
-ghost use Rattle.par1_read.specs.Reading.{headerRefusal, controlRefusal, totalsRefusal, listRefusal, savedIn, readOf};
+ghost use Rattle.par1_read.specs.Reading.{headerRefusal, controlRefusal, totalsRefusal, listRefusal, refusalFrom};
+ghost use Rattle.par1_read.specs.Reading.{savedIn, partsFrom, readFrom, readOf};
 use entries::Totals;
 use entries::Walked;
 use par1_rules::hashes;
 use par1_rules::layout;
 use par1_rules::rules;
+use refusals::or_else;
+use refusals::test;
 
 // The parts of an accepted file: program identifier, volume number (0 for the index), number of entries and of saved ones, and where
 // list and data lie. The list starts at byte 96.
@@ -29,112 +28,105 @@ pub enum Reading {
     Refused(u32),
 }
 
-// The parts of `file`, or the number of the first test that holds.
+// The parts of `file`, or the number of the first test that holds. A file whose header is refused has no list to walk over.
 pub fn read(file: &[u8]) -> Reading
     ensures { λ r. ⌜ r ≡ readOf (now (file .entry)) ⌝ }
 {
-    let refusal = header_refusal(file);
+    let refusal = header_refusal(file, file.len());
     if refusal != 0 {
         return Reading::Refused(refusal);
     }
     let list_size = little_endian::read64(file, layout::LIST_SIZE_AT);
-    let list_end = layout::HEADER_LENGTH + list_size as usize;
-    let list = &file[layout::HEADER_LENGTH..list_end];
-    let walked = entries::walk(list);
-    let control = control_refusal(file);
-    let listed = list_refusal(file, list, walked);
-    let refusal = first_of(control, listed);
+    let list = layout::part(file, layout::HEADER_LENGTH, list_size as usize);
+    let digest = md5::digest(&file[layout::SET_HASH_AT..]);
+    let set = hashes::of_set(list);
+    read_from(file, file.len(), &digest, &set, entries::walk(list))
+}
+
+// What reading a file of `length` bytes gives that begins with `head`: `digest` is the MD5 of its bytes from 32 on, `set` the set hash of
+// its list, and `walked` the walk over the list.
+pub fn read_from(head: &[u8], length: usize, digest: &[u8], set: &[u8], walked: Walked) -> Reading
+    ensures { λ r. ⌜ r ≡ readFrom (now (head .entry)) length (now (digest .entry)) (now (set .entry)) walked ⌝ }
+{
+    let refusal = refusal_from(head, length, digest, set, walked);
     if refusal != 0 {
         return Reading::Refused(refusal);
     }
-    Reading::Accepted(Parts {
-        program: little_endian::read32(file, layout::PROGRAM_AT),
-        number: little_endian::read64(file, layout::NUMBER_AT),
-        entries: little_endian::read64(file, layout::COUNT_AT),
-        saved: saved_in(walked),
-        list_size,
-        data_start: little_endian::read64(file, layout::DATA_START_AT),
-        data_size: little_endian::read64(file, layout::DATA_SIZE_AT),
-    })
+    Reading::Accepted(parts_from(head, saved_in(walked)))
+}
+
+// The number of the first of tests 1 to 9 that holds, 0 where none does.
+fn refusal_from(head: &[u8], length: usize, digest: &[u8], set: &[u8], walked: Walked) -> u32
+    ensures { λ r. ⌜ r ≡ refusalFrom (now (head .entry)) length (now (digest .entry)) (now (set .entry)) walked ⌝ }
+{
+    let header = header_refusal(head, length);
+    let control = control_refusal(head, digest);
+    let list = list_refusal(head, set, walked);
+    or_else(header, or_else(control, list))
 }
 
 // The number of the first of tests 1 to 4 that holds, 0 where none does.
-fn header_refusal(file: &[u8]) -> u32
-    ensures { λ r. ⌜ r ≡ headerRefusal (now (file .entry)) ⌝ }
+fn header_refusal(head: &[u8], length: usize) -> u32
+    ensures { λ r. ⌜ r ≡ headerRefusal (now (head .entry)) length ⌝ }
 {
-    if !rules::length_allowed(file.len()) {
-        return refusals::SIZE;
-    }
-    if little_endian::read64(file, 0) != layout::SIGNATURE {
-        return refusals::SIGNATURE;
-    }
-    if !rules::version_allowed(little_endian::read32(file, layout::VERSION_AT)) {
-        return refusals::VERSION;
-    }
-    if !rules::layout_allowed(file) {
-        return refusals::LAYOUT;
-    }
-    0
+    let sized = rules::length_allowed(length);
+    let signed = little_endian::read64(head, 0) == layout::SIGNATURE;
+    let versioned = rules::version_allowed(little_endian::read32(head, layout::VERSION_AT));
+    let laid_out = rules::layout_allowed(head, length);
+    let from_4 = test(refusals::LAYOUT, laid_out, 0);
+    let from_3 = test(refusals::VERSION, versioned, from_4);
+    let from_2 = test(refusals::SIGNATURE, signed, from_3);
+    test(refusals::SIZE, sized, from_2)
 }
 
 // 5 where test 5 holds, else 0.
-fn control_refusal(file: &[u8]) -> u32
-    requires { ⌜ 96 ≤ length (now file) ⌝ }
-    ensures { λ r. ⌜ r ≡ controlRefusal (now (file .entry)) ⌝ }
+fn control_refusal(head: &[u8], digest: &[u8]) -> u32
+    ensures { λ r. ⌜ r ≡ controlRefusal (now (head .entry)) (now (digest .entry)) ⌝ }
 {
-    if !hashes::matches(
-        &file[layout::CONTROL_HASH_AT..layout::SET_HASH_AT],
-        &file[layout::SET_HASH_AT..],
-    ) {
-        return refusals::CONTROL_HASH;
-    }
-    0
+    let hash = layout::part(head, layout::CONTROL_HASH_AT, layout::HASH_LENGTH);
+    test(refusals::CONTROL_HASH, lent_bytes::same(hash, digest), 0)
 }
 
-// The number of the first of tests 6 to 9 that holds, 0 where none does; `list` is the list of `file`, and `walked` the walk over it.
-fn list_refusal(file: &[u8], list: &[u8], walked: Walked) -> u32
-    requires { ⌜ (96 ≤ length (now file)) × (now list ≡ listOf (now file)) ⌝ }
-    ensures { λ r. ⌜ r ≡ listRefusal (now (file .entry)) walked ⌝ }
+// The number of the first of tests 6 to 9 that holds, 0 where none does.
+fn list_refusal(head: &[u8], set: &[u8], walked: Walked) -> u32
+    ensures { λ r. ⌜ r ≡ listRefusal (now (head .entry)) (now (set .entry)) walked ⌝ }
 {
     match walked {
-        Walked::Entries(totals) => totals_refusal(file, list, totals),
+        Walked::Entries(totals) => totals_refusal(head, set, totals),
         Walked::Fault(fault) => entries::fault_number(fault),
     }
 }
 
-// The number of the first of the tests on the count, 7, 8 and 9 that holds, 0 where none does; `list` is the list of `file`.
-fn totals_refusal(file: &[u8], list: &[u8], totals: Totals) -> u32
-    requires { ⌜ (96 ≤ length (now file)) × (now list ≡ listOf (now file)) ⌝ }
-    ensures { λ r. ⌜ r ≡ totalsRefusal (now (file .entry)) totals ⌝ }
+// The number of the first of the tests on the count, 7, 8 and 9 that holds, 0 where none does.
+fn totals_refusal(head: &[u8], set: &[u8], totals: Totals) -> u32
+    ensures { λ r. ⌜ r ≡ totalsRefusal (now (head .entry)) (now (set .entry)) totals ⌝ }
 {
-    if totals.entries != little_endian::read64(file, layout::COUNT_AT) {
-        return refusals::ENTRY;
-    }
-    let number = little_endian::read64(file, layout::NUMBER_AT);
-    if !rules::number_allowed(number, totals.saved) {
-        return refusals::VOLUME_NUMBER;
-    }
-    if !hashes::matches_set(&file[layout::SET_HASH_AT..layout::NUMBER_AT], list) {
-        return refusals::SET_HASH;
-    }
-    if !rules::data_allowed(
-        number,
-        totals.greatest,
-        little_endian::read64(file, layout::DATA_SIZE_AT),
-    ) {
-        return refusals::DATA_SIZE;
-    }
-    0
+    let number = little_endian::read64(head, layout::NUMBER_AT);
+    let data_size = little_endian::read64(head, layout::DATA_SIZE_AT);
+    let hash = layout::part(head, layout::SET_HASH_AT, layout::HASH_LENGTH);
+    let counted = totals.entries == little_endian::read64(head, layout::COUNT_AT);
+    let numbered = rules::number_allowed(number, totals.saved);
+    let hashed = lent_bytes::same(hash, set);
+    let sized = rules::data_allowed(number, totals.greatest, data_size);
+    let from_9 = test(refusals::DATA_SIZE, sized, 0);
+    let from_8 = test(refusals::SET_HASH, hashed, from_9);
+    let from_7 = test(refusals::VOLUME_NUMBER, numbered, from_8);
+    test(refusals::ENTRY, counted, from_7)
 }
 
-// The first of two refusals that is not 0, else 0.
-fn first_of(first: u32, second: u32) -> u32
-    ensures { λ r. ⌜ r ≡ orElse first second ⌝ }
+// The parts that the header tells, with the number of saved entries.
+fn parts_from(head: &[u8], saved: u64) -> Parts
+    ensures { λ r. ⌜ r ≡ partsFrom (now (head .entry)) saved ⌝ }
 {
-    if first != 0 {
-        return first;
+    Parts {
+        program: little_endian::read32(head, layout::PROGRAM_AT),
+        number: little_endian::read64(head, layout::NUMBER_AT),
+        entries: little_endian::read64(head, layout::COUNT_AT),
+        saved,
+        list_size: little_endian::read64(head, layout::LIST_SIZE_AT),
+        data_start: little_endian::read64(head, layout::DATA_START_AT),
+        data_size: little_endian::read64(head, layout::DATA_SIZE_AT),
     }
-    second
 }
 
 // The number of saved entries that the walk found.

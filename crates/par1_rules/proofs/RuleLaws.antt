@@ -12,13 +12,13 @@ use mathlib.Core.List.{List}
 use Prim.Native.Nat.{ℕ, _+_, _≤_, _<_}
 use native.Mathlib.Omega.{arith}
 use lib.Dec.{leb, eqb}
-use lib.ListN.{length}
 use borrow.Author.Tests.{leb-true, eqb-true, eq-eqb, le-leb, lt-leb}
 use Rattle.computed_tests.proofs.Tests.{and-both}
 use Rattle.entries.specs.Walk.{faultNumber}
 use Rattle.entries.specs.declared.Fault.{Fault}
 use Rattle.entries.specs.declared.Fault.the-variants.{Size, FileSize, Name}
 use Rattle.little_endian.specs.Bytes.{fromLe}
+use Rattle.refusals.specs.Limits.{maxVolumeLength}
 use Rattle.par1_rules.specs.Layout.{signature, listStartOf, listSizeOf, dataStartOf, dataSizeOf}
 use Rattle.par1_rules.specs.Rules.{lengthAllowed, layoutAllowed}
 
@@ -37,42 +37,43 @@ signature-is = refl
 
 pub record Between (n : ℕ) : Type 0 where
   pub low : 96 ≤ n
-  pub high : n ≤ 33554432
+  pub high : n ≤ maxVolumeLength
 
 pub between : (n : ℕ) → lengthAllowed n ≡ true → Between n
 unfolding lengthAllowed
 between n e =
-    let both = and-both (leb 96 n) (leb n 33554432) e in record { low = leb-true _ _ (both .0); high = leb-true _ _ (both .1) }
+    let both = and-both (leb 96 n) (leb n maxVolumeLength) e in record { low = leb-true _ _ (both .0); high = leb-true _ _ (both .1) }
 
-pub long-enough : (n : ℕ) → 96 ≤ n → n ≤ 33554432 → lengthAllowed n ≡ true
+pub long-enough : (n : ℕ) → 96 ≤ n → n ≤ maxVolumeLength → lengthAllowed n ≡ true
 unfolding lengthAllowed
-long-enough n h k = simp (le-leb 96 n h, le-leb n 33554432 k)
+long-enough n h k = simp (le-leb 96 n h, le-leb n maxVolumeLength k)
 
-pub too-long : (n : ℕ) → 33554432 < n → lengthAllowed n ≡ false
+pub too-long : (n : ℕ) → maxVolumeLength < n → lengthAllowed n ≡ false
 unfolding lengthAllowed
-too-long n h = simp (le-leb 96 n (omega arith), lt-leb n 33554432 h)
+too-long n h = simp (le-leb 96 n (omega arith), lt-leb n maxVolumeLength h)
 
 -- ---- the layout
 
-pub record Laid (f : List ℕ) : Type 0 where
-  pub list-start : listStartOf f ≡ 96
-  pub data-start : dataStartOf f ≡ 96 + listSizeOf f
-  pub data-end : dataStartOf f + dataSizeOf f ≡ length f
+pub record Laid (head : List ℕ) (n : ℕ) : Type 0 where
+  pub list-start : listStartOf head ≡ 96
+  pub data-start : dataStartOf head ≡ 96 + listSizeOf head
+  pub data-end : dataStartOf head + dataSizeOf head ≡ n
 
-pub laid : (f : List ℕ) → layoutAllowed f ≡ true → Laid f
-unfolding layoutAllowed
-laid f e =
-    let both = and-both (eqb (listStartOf f) 96 && eqb (dataStartOf f) (96 + listSizeOf f)) _ e in
-    let starts = and-both (eqb (listStartOf f) 96) (eqb (dataStartOf f) (96 + listSizeOf f)) (both .0) in
-    record { list-start = eqb-true _ _ (starts .0); data-start = eqb-true _ _ (starts .1); data-end = eqb-true _ _ (both .1) }
+module _ (head : List ℕ) (n : ℕ) where
+  pub laid : layoutAllowed head n ≡ true → Laid head n
+  unfolding layoutAllowed
+  laid e =
+      let both = and-both (eqb (listStartOf head) 96 && eqb (dataStartOf head) (96 + listSizeOf head)) _ e in
+      let starts = and-both (eqb (listStartOf head) 96) (eqb (dataStartOf head) (96 + listSizeOf head)) (both .0) in
+      record { list-start = eqb-true _ _ (starts .0); data-start = eqb-true _ _ (starts .1); data-end = eqb-true _ _ (both .1) }
 
-by-layout : (f : List ℕ) (b : Bool) → b ≡ layoutAllowed f → (Laid f → ⊥) → layoutAllowed f ≡ false
-by-layout f true e h = absurd (h (laid f (sym e)))
-by-layout f false e h = sym e
+  by-layout : (b : Bool) → b ≡ layoutAllowed head n → (Laid head n → ⊥) → layoutAllowed head n ≡ false
+  by-layout true e h = absurd (h (laid (sym e)))
+  by-layout false e h = sym e
 
-pub not-laid : (f : List ℕ) → (Laid f → ⊥) → layoutAllowed f ≡ false
-not-laid f = by-layout f (layoutAllowed f) refl
+  pub not-laid : (Laid head n → ⊥) → layoutAllowed head n ≡ false
+  not-laid = by-layout (layoutAllowed head n) refl
 
-pub laid-out : (f : List ℕ) → Laid f → layoutAllowed f ≡ true
-unfolding layoutAllowed
-laid-out f l = simp (eq-eqb _ _ (l .list-start), eq-eqb _ _ (l .data-start), eq-eqb _ _ (l .data-end))
+  pub laid-out : Laid head n → layoutAllowed head n ≡ true
+  unfolding layoutAllowed
+  laid-out l = simp (eq-eqb _ _ (l .list-start), eq-eqb _ _ (l .data-start), eq-eqb _ _ (l .data-end))

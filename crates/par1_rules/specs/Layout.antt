@@ -3,7 +3,7 @@
 --
 --   signature          what a file begins with
 --   version            the version of Par 1.0
---   signatureOf f, versionOf f, programOf f, controlHashOf f, setHashOf f, numberOf f, countOf f, listStartOf f, listSizeOf f,
+--   signatureOf f, versionOf f, programOf f, controlHashOf f, setHashOf f, volumeNumberOf f, countOf f, listStartOf f, listSizeOf f,
 --   dataStartOf f, dataSizeOf f     the fields of the header of f
 --   hashedOf f         the bytes that the control hash covers
 --   listOf f, dataOf f   the list area and the data area of f
@@ -44,8 +44,8 @@ setHashOf f = take 16 (drop 32 f)
 -- ---- "Then six 64-bit numbers: at 48 volume number (0 for the index), at 56 number of entries, at 64 list start, at 72 list size,
 -- ---- at 80 data start, at 88 data size."
 
-abbrev pub numberOf : List ℕ → ℕ
-numberOf f = leAt 8 f 48
+abbrev pub volumeNumberOf : List ℕ → ℕ
+volumeNumberOf f = leAt 8 f 48
 
 abbrev pub countOf : List ℕ → ℕ
 countOf f = leAt 8 f 56

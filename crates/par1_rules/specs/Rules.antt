@@ -2,7 +2,7 @@
 --
 --   lengthAllowed n         whether a file may have n bytes
 --   versionAllowed v        whether files of version v are read
---   layoutAllowed f         whether list and data of the file f lie where they must
+--   layoutAllowed head n    whether list and data lie where they must in a file of n bytes that begins with head
 --   numberAllowed v n       whether volume v may have n saved files
 --   dataAllowed v g n       whether volume v with the greatest file size g may have n bytes of data
 -- Assumes nothing.
@@ -10,7 +10,6 @@ use Prim.Native.Nat.{ℕ, _+_, _%_}
 use mathlib.Core.Bool.{Bool, cond, _&&_, _||_}
 use mathlib.Core.List.{List}
 use lib.Dec.{leb, eqb}
-use lib.ListN.{length}
 use Rattle.refusals.specs.Limits.{maxVolumeLength, maxFiles}
 use Rattle.par1_rules.specs.Layout.{version, listStartOf, listSizeOf, dataStartOf, dataSizeOf}
 
@@ -23,8 +22,9 @@ unfoldable pub versionAllowed : ℕ → Bool
 versionAllowed v = eqb v version
 
 -- "List start is 96, data start is 96 plus list size, and the data runs to the end of the file."
-unfoldable pub layoutAllowed : List ℕ → Bool
-layoutAllowed f = eqb (listStartOf f) 96 && eqb (dataStartOf f) (96 + listSizeOf f) && eqb (dataStartOf f + dataSizeOf f) (length f)
+unfoldable pub layoutAllowed : List ℕ → ℕ → Bool
+layoutAllowed head n =
+    eqb (listStartOf head) 96 && eqb (dataStartOf head) (96 + listSizeOf head) && eqb (dataStartOf head + dataSizeOf head) n
 
 -- "7: n above 254; or volume number 1 or more with n = 0 or number + n above 255"
 unfoldable pub numberAllowed : ℕ → ℕ → Bool

@@ -22,14 +22,6 @@ pub fn matches(hash: &[u8], bytes: &[u8]) -> bool
     lent_bytes::same(hash, &found)
 }
 
-// Whether `hash` is the set hash of the entries of `list`.
-pub fn matches_set(hash: &[u8], list: &[u8]) -> bool
-    ensures { λ r. ⌜ r ≡ equal (now (hash .entry)) (setHash (entriesOf (now (list .entry)) .pieces)) ⌝ }
-{
-    let found = of_set(list);
-    lent_bytes::same(hash, &found)
-}
-
 // The part of a file's contents that the second hash of its entry covers.
 pub fn first_part(contents: &[u8]) -> &[u8]
     ensures { λ r. ⌜ now r ≡ take 16384 (now (contents .entry)) ⌝ }

@@ -1,4 +1,6 @@
 // Where the fields of a Par 1.0 header lie (document 01, "Byte layout").
+ghost use mathlib.Core.Path.{_≡_};
+ghost use lib.ListN.{take, drop};
 
 // "PAR" and five zero bytes, as a number at 0.
 pub const SIGNATURE: u64 = 0x524150;
@@ -29,3 +31,20 @@ pub const DATA_SIZE_AT: usize = 88;
 pub const HEADER_LENGTH: usize = 96;
 
 pub const LIST_START: u64 = 96;
+
+// The length of a hash.
+pub const HASH_LENGTH: usize = 16;
+
+// The `count` bytes of `bytes` from `at` on; fewer where they end before.
+pub fn part(bytes: &[u8], at: usize, count: usize) -> &[u8]
+    ensures { λ r. ⌜ now r ≡ take count (drop at (now (bytes .entry))) ⌝ }
+{
+    if bytes.len() < at {
+        return &bytes[..0];
+    }
+    let rest = &bytes[at..];
+    if rest.len() < count {
+        return rest;
+    }
+    &rest[..count]
+}

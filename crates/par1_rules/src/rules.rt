@@ -22,25 +22,25 @@ pub fn version_allowed(version: u32) -> bool
     version == layout::VERSION
 }
 
-// Whether list and data of `file` lie where they must.
-pub fn layout_allowed(file: &[u8]) -> bool
-    ensures { λ r. ⌜ r ≡ layoutAllowed (now (file .entry)) ⌝ }
+// Whether list and data lie where they must in a file of `length` bytes that begins with `head`.
+pub fn layout_allowed(head: &[u8], length: usize) -> bool
+    ensures { λ r. ⌜ r ≡ layoutAllowed (now (head .entry)) length ⌝ }
 {
-    if little_endian::read64(file, layout::LIST_START_AT) != layout::LIST_START {
+    if little_endian::read64(head, layout::LIST_START_AT) != layout::LIST_START {
         return false;
     }
-    let data_start = little_endian::read64(file, layout::DATA_START_AT);
+    let data_start = little_endian::read64(head, layout::DATA_START_AT);
     if data_start < layout::LIST_START {
         return false;
     }
-    if data_start - layout::LIST_START != little_endian::read64(file, layout::LIST_SIZE_AT) {
+    if data_start - layout::LIST_START != little_endian::read64(head, layout::LIST_SIZE_AT) {
         return false;
     }
-    let length = file.len() as u64;
+    let length = length as u64;
     if length < data_start {
         return false;
     }
-    if length - data_start != little_endian::read64(file, layout::DATA_SIZE_AT) {
+    if length - data_start != little_endian::read64(head, layout::DATA_SIZE_AT) {
         return false;
     }
     true

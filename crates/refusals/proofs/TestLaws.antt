@@ -1,6 +1,7 @@
 -- What tests one after another tell.
 --
 --   test-passed    a test that passed, and what the further tests give
+--   test-of        what a test gives, where what it was given is known
 --   or-else        a refusal that stands
 --   or-none        none of two refusals
 -- Assumes nothing.
@@ -13,6 +14,9 @@ use Rattle.refusals.specs.Tests.{test, orElse}
 pub test-passed : (n : ℕ) (ok : Bool) (m : ℕ) → 0 < n → test n ok m ≡ 0 → (ok ≡ true) × (m ≡ 0)
 test-passed n true m h e = (refl, e)
 test-passed n false m h e = absurd (omega arith)
+
+pub test-of : (n : ℕ) {r m k : ℕ} {ok is : Bool} → r ≡ test n ok m → ok ≡ is → m ≡ k → r ≡ test n is k
+test-of n e b f = cc
 
 pub or-else : (n m : ℕ) → (n ≡ 0 → ⊥) → orElse n m ≡ n
 or-else zero m h = absurd (h refl)

@@ -6,21 +6,18 @@ use borrow.Author.Needs.{needs}
 use Rattle.par1_read.proofs.reading.list_refusal.Statement.{statement}
 use Rattle.par1_read.proofs.reading.list_refusal.Tie as tie
 
-totals-refusal-requires : tie.Need-totals-refusal-requires
-totals-refusal-requires c κs = c .before .before .before .before .before .pre
-
 returns : tie.Need-returns
-returns c = c .totals-refusal .ensures ∙ ap (listRefusal _) (sym (c .before .before .walked .given .1))
+returns c = c .totals-refusal .ensures ∙ ap (listRefusal _ _) (sym (c .before .before .walked .given .1))
 
 returns-2 : tie.Need-returns-2
-returns-2 c = c .fault-number .ensures ∙ ap (listRefusal _) (sym (c .before .before .walked2 .given .1))
+returns-2 c = c .fault-number .ensures ∙ ap (listRefusal _ _) (sym (c .before .before .walked2 .given .1))
 
 pub list-refusal-spec : {M : Type 1} → statement M
 list-refusal-spec =
     tie.close
     (tie.spec
     (λ c. search needs)
-    totals-refusal-requires
+    (λ c κs. search needs)
     (λ c. search needs)
     (λ c κs. search needs)
     returns

@@ -9,24 +9,24 @@ use Rattle.par1_rules.proofs.rules.layout_allowed.Statement.{statement}
 use Rattle.par1_rules.proofs.rules.layout_allowed.Tie as tie
 
 returns : tie.Need-returns
-returns c = sym (not-laid (now (c .before .before .before .args .file)) (λ l. c .if1 .taken (c .before .read64 .ensures ∙ l .list-start)))
+returns c = sym (not-laid (now (c .before .before .before .args .head)) (c .before .before .before .args .length) (λ l. c .if1 .taken (c .before .read64 .ensures ∙ l .list-start)))
 
 returns-2 : tie.Need-returns-2
-returns-2 c = sym (not-laid (now (c .before .before .before .before .before .args .file)) (λ l. omega (arith, l .data-start, c .before .read642 .ensures)))
+returns-2 c = sym (not-laid (now (c .before .before .before .before .before .args .head)) (c .before .before .before .before .before .args .length) (λ l. omega (arith, l .data-start, c .before .read642 .ensures)))
 
 returns-3 : tie.Need-returns-3
-returns-3 c = sym (not-laid (now (c .before .before .before .before .before .before .before .args .file)) (λ l. omega (arith, l .data-start, c .before .before .before .read642 .ensures, c .before .read643 .ensures)))
+returns-3 c = sym (not-laid (now (c .before .before .before .before .before .before .before .args .head)) (c .before .before .before .before .before .before .before .args .length) (λ l. omega (arith, l .data-start, c .before .before .before .read642 .ensures, c .before .read643 .ensures)))
 
 returns-4 : tie.Need-returns-4
-returns-4 c = sym (not-laid (now (c .before .before .before .before .before .before .before .before .args .file)) (λ l. omega (arith, l .data-end, c .before .before .before .before .read642 .ensures)))
+returns-4 c = sym (not-laid (now (c .before .before .before .before .before .before .before .before .args .head)) (c .before .before .before .before .before .before .before .before .args .length) (λ l. omega (arith, l .data-end, c .before .before .before .before .read642 .ensures)))
 
 returns-5 : tie.Need-returns-5
-returns-5 c = sym (not-laid (now (c .before .before .before .before .before .before .before .before .before .before .args .file)) (λ l. omega (arith, l .data-end, c .before .before .before .before .before .before .read642 .ensures, c .before .read644 .ensures)))
+returns-5 c = sym (not-laid (now (c .before .before .before .before .before .before .before .before .before .before .args .head)) (c .before .before .before .before .before .before .before .before .before .before .args .length) (λ l. omega (arith, l .data-end, c .before .before .before .before .before .before .read642 .ensures, c .before .read644 .ensures)))
 
 returns-6 : tie.Need-returns-6
 returns-6 c =
     let b = c .before .before .before .before .before .before in
-    sym (laid-out (now (b .before .before .before .before .args .file))
+    sym (laid-out (now (b .before .before .before .before .args .head)) (b .before .before .before .before .args .length)
     (record {
       list-start = sym (b .before .before .read64 .ensures) ∙ b .before .if1 .left;
       data-start = omega (arith, b .read642 .ensures, c .before .before .before .before .read643 .ensures);
