@@ -8,6 +8,8 @@
 --   sets-more           a store with one byte more
 --   written-fits, written-short     what a call gives, where the bytes fit and where they do not
 --   unless-none, unless-refused     what it gives after its tests
+--   unless-accepted                 it is accepted where they hold nowhere and the bytes fit
+--   never                           a refusal is no acceptance
 --   Accepted, unless-tells          what it tells where it is accepted
 --   numbered-as         what it gives as a number
 -- Assumes nothing.
@@ -22,7 +24,7 @@ use lib.Dec.{leb, eqb}
 use lib.ListN.{length, take, drop, getD, set, length-drop, take-append-drop}
 use lib.Seq.{sets, sets-eq, length-sets, take-suc, length-take-le, take-append-seam}
 use Rattle.little_endian.proofs.Stores.{sets-append, sets-out}
-use Rattle.lent_bytes.specs.Writing.{refused, written, writtenUnless, writingNumber, withNumber}
+use Rattle.lent_bytes.specs.Writing.{refused, accepted, written, writtenUnless, writingNumber, withNumber}
 use Rattle.lent_bytes.specs.declared.Writing.{Writing}
 use Rattle.lent_bytes.specs.declared.Writing.the-variants.{Written, Refused}
 
@@ -97,13 +99,16 @@ module _ (s out : List ℕ) {n m : ℕ} (e : n ≡ m) where
   unfolding writtenUnless
   unless-refused h same = simp (ne-eqb m 0 (λ z. h (e ∙ z))) (ap₂ (λ (k : ℕ) (l : List ℕ). (Refused k, l)) e same)
 
+pub unless-accepted : (m : ℕ) (s out : List ℕ) → m ≡ 0 → length s ≤ length out → writtenUnless m s out ≡ accepted s out
+unless-accepted m s out z fits = sym (unless-none s out refl z (written-fits s out fits refl refl))
+
 -- the tests hold nowhere, the bytes fit, and they stand at the front
 pub record Accepted (m : ℕ) (s out : List ℕ) (n : ℕ) (room : List ℕ) : Type 0 where
   pub none : m ≡ 0
   pub fits : length s ≤ length out
   pub written-is : take n room ≡ s
 
-never : {A : Type 0} {n k : ℕ} {room out : List ℕ} → refused k out ≡ (Written n, room) → A
+pub never : {A : Type 0} {n k : ℕ} {room out : List ℕ} → refused k out ≡ (Written n, room) → A
 never {A} {n} {k} e =
     let answer : Refused k ≡ Written n = ap (λ (p : Writing × List ℕ). p .0) e in
     absurd (let z : _≡_ {A = ℕ} 0 1 = cc in omega arith)
@@ -113,7 +118,7 @@ unfolding writtenUnless written
 unless-tells m s out {n} {room} e = by (eqb m 0) (leb (length s) (length out)) refl refl e
   where
     by : (z f : Bool) → eqb m 0 ≡ z → leb (length s) (length out) ≡ f
-        → cond z (cond f (Written (length s), s ++ drop (length s) out) (refused 14 out)) (refused m out) ≡ (Written n, room) → Accepted m s out n room
+        → cond z (cond f (accepted s out) (refused 14 out)) (refused m out) ≡ (Written n, room) → Accepted m s out n room
     by true true z f e =
         let answer : Written (length s) ≡ Written n = ap (λ (p : Writing × List ℕ). p .0) e in
         let size : n ≡ length s = cc in

@@ -1,10 +1,11 @@
 -- What a call gives that writes into lent bytes: its answer, and what these bytes then hold (document 01, "What comes back").
 --
 --   refused n out           the refusal n
---   written s out           s over the first bytes of out; or 14, where out is shorter
+--   accepted s out          the length of s, and s over the first bytes of out
+--   written s out           the same; or 14, where out is shorter
 --   writtenUnless n s out   the same, after the tests that give n: the refusal n where it is one, 0 being none
---   writingNumber w              the document's number of an answer, 0 where it is accepted
---   withNumber r              the same, where a call answers with the number alone
+--   writingNumber w         the document's number of an answer, 0 where it is accepted
+--   withNumber r            the same, where a call answers with the number alone
 -- Assumes nothing.
 use Prim.Native.Nat.{ℕ}
 use mathlib.Core.Bool.{cond}
@@ -18,9 +19,13 @@ use Rattle.lent_bytes.specs.declared.Writing.the-variants.{Written, Refu
 abbrev pub refused : ℕ → List ℕ → Writing × List ℕ
 refused n out = (Refused n, out)
 
--- "14: lent room too short"; "Bytes past the written length stay."
+-- "Bytes past the written length stay."
+abbrev pub accepted : List ℕ → List ℕ → Writing × List ℕ
+accepted s out = (Written (length s), s ++ drop (length s) out)
+
+-- "14: lent room too short"
 unfoldable pub written : List ℕ → List ℕ → Writing × List ℕ
-written s out = cond (leb (length s) (length out)) (Written (length s), s ++ drop (length s) out) (refused 14 out)
+written s out = cond (leb (length s) (length out)) (accepted s out) (refused 14 out)
 
 -- 14 is the last of a call's tests
 unfoldable pub writtenUnless : ℕ → List ℕ → List ℕ → Writing × List ℕ

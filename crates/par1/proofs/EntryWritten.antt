@@ -1,7 +1,8 @@
 -- Condition 2, for entries: a written entry walks back to its fields, and checking accepts the contents that it was written from.
 --
 --   entry-accepted    the entry of a file that keeps the rules is written
---   entry-written     every written entry is that of its file
+--   entry-back        it is that of its file
+--   entry-written     and so is every written entry
 -- Assumes nothing.
 use mathlib.Core.Path.{_≡_, refl, sym, ap, ap₂, _∙_, subst}
 use mathlib.Core.Bool.{true, _&&_}
@@ -12,7 +13,7 @@ use lib.Dec.{leb, eqb}
 use lib.ListN.{length, take, drop, length-append}
 use lib.Seq.{take-append-seam, drop-append-seam}
 use borrow.Author.Tests.{leb-true, eqb-true, eq-eqb, le-leb}
-use Rattle.lent_bytes.proofs.WritingLaws.{unless-tells, unless-none, written-fits}
+use Rattle.lent_bytes.proofs.WritingLaws.{unless-accepted, unless-tells}
 use Rattle.computed_tests.proofs.Tests.{and-both}
 use Rattle.cut_lists.specs.Pieces.{before}
 use Rattle.little_endian.specs.Bytes.{toLe}
@@ -29,7 +30,7 @@ use Rattle.par1.specs.Claim.{EntryAccepted, EntryBack, EntryWritten}
 use Rattle.par1.specs.Checking.{itemRefusal, loneRefusal, checkOf}
 use Rattle.par1_write.specs.EntryWriting.{entryBytes, nameBytesAllowed, entryRefusal, writeEntryOf}
 use Rattle.par1.proofs.CheckingLaws.{check-lone}
-use Rattle.par1_write.proofs.EntryWritingLaws.{length-entry, entry-passed}
+use Rattle.par1_write.proofs.EntryWritingLaws.{length-entry, EntryPassed, entry-passed}
 use Rattle.lent_bytes.proofs.EqualLaws.{equal-same}
 use Rattle.par1_rules.proofs.HashLaws.{length-md5}
 use Rattle.lent_bytes.proofs.PartLaws.{At, at-part, at-next, at-number, at-last}
@@ -91,7 +92,7 @@ module _ {e m : List ℕ} {status : ℕ} {name : List ℕ} (size : length e ≡ 
       let own : take (length e) s ≡ e = take-append-seam e rest in
       let told : length e ≡ entrySize s = sym (leAt-append 8 e rest 0 (omega (arith, right .some)) ∙ d .entry-size ∙ sym size) in
       let allowed = size-right (length e) (length s) (omega (arith, right .even)) (omega (arith, right .some)) (omega arith) in
-      let file-size : fileSizeAllowed (fileSizeOf (take (length e) s)) ≡ true = ap (λ (l : List ℕ). fileSizeAllowed (fileSizeOf l)) own ∙ ap fileSizeAllowed (d .size-is) ∙ short in
+      let file-size = ap (λ (l : List ℕ). fileSizeAllowed (fileSizeOf l)) own ∙ ap fileSizeAllowed (d .size-is) ∙ short in
       let name-right = ap (λ (l : List ℕ). nameAllowed (unitsOf (nameOf l))) own ∙ ap (λ (l : List ℕ). nameAllowed (unitsOf l)) (d .named) ∙ right .allowed in
       first-entry s (omega (arith, right .some)) told allowed file-size name-right
       ∙ ap (λ (l : List ℕ). Entry (length l) (statusOf l) (fileSizeOf l)) own
@@ -110,34 +111,39 @@ module _ {e m : List ℕ} {status : ℕ} {name : List ℕ} (size : length e ≡ 
   checked-back : checkOf e m ≡ 0
   checked-back = check-lone e m lone-back ∙ simp (eq-eqb _ _ (d .size-is), equal-same (d .md5-is), equal-same (d .md5-first-is))
 
-  entry-back : EntryBack e m status name
-  entry-back =
+  all-back : EntryBack e m status name
+  all-back =
       record {
         first-is = walked-back;
         entries-are = listed-back;
+        status-is = d .status-is;
+        size-is = d .size-is;
         md5-is = d .md5-is;
         md5-first-is = d .md5-first-is;
         name-is = d .named;
+        lone-is = lone-back;
         check-is = checked-back;
       }
 
+-- ---- the claims
+
 pub entry-accepted : EntryAccepted
 unfolding writeEntryOf entryRefusal
-entry-accepted m status name out size-right status-right name-right room =
-    let s : List ℕ = entryBytes m status name in
-    let fits : length s ≤ length out = omega (arith, length-entry m status name) in
-    let none : entryRefusal (length m) status name ≡ 0 = simp (size-right, status-right, name-right) in
-    (length s, s ++ drop (length s) out, sym (unless-none s out refl none (written-fits s out fits refl refl)))
+entry-accepted m status name out size-right status-right name-right fits =
+    unless-accepted (entryRefusal (length m) status name) (entryBytes m status name) out (simp (size-right, status-right, name-right)) fits
+
+pub entry-back : (m : List ℕ) (status : ℕ) (name : List ℕ) → EntryPassed (length m) status name → length (entryBytes m status name) < 2 ^ 64
+    → EntryBack (entryBytes m status name) m status name
+entry-back m status name passed few =
+    let status-small : status ≤ 3 = leb-true status 3 (passed .status-right) in
+    let short : length m ≤ 16777216 = leb-true (length m) 16777216 (passed .size-right) in
+    let size : length (entryBytes m status name) ≡ 56 + length name = length-entry m status name in
+    let d = entry-fields m status name (omega arith) (omega arith) (omega arith) in
+    all-back size d (named-right name (passed .name-right)) (passed .size-right)
 
 pub entry-written : EntryWritten
 unfolding writeEntryOf
 entry-written m status name out n room few e =
-    let s : List ℕ = entryBytes m status name in
-    let told = unless-tells (entryRefusal (length m) status name) s out e in
+    let told = unless-tells (entryRefusal (length m) status name) (entryBytes m status name) out e in
     let passed = entry-passed (length m) status name (told .none) in
-    let status-small : status ≤ 3 = leb-true status 3 (passed .status-right) in
-    let short : length m ≤ 16777216 = leb-true (length m) 16777216 (passed .size-right) in
-    let size : length s ≡ 56 + length name = length-entry m status name in
-    let d = entry-fields m status name (omega arith) (omega arith) (omega (arith, told .fits)) in
-    let back = entry-back size d (named-right name (passed .name-right)) (passed .size-right) in
-    subst (λ (l : List ℕ). EntryBack l m status name) (sym (told .written-is)) back
+    subst (λ (l : List ℕ). EntryBack l m status name) (sym (told .written-is)) (entry-back m status name passed (omega (arith, told .fits)))

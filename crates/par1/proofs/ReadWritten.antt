@@ -3,15 +3,16 @@
 --   volume-accepted              what keeps the rules is written
 --   volume-written               a written volume has the bytes that the format defines
 --   ListPassed, list-passed      what the tests of writing, passed, tell
---   read-written                 every written volume is read back
+--   volume-back                  what passes the tests of writing is read back
+--   read-written                 and so is every written volume
 -- A test of document 01 is passed where it does not hold.
 -- Assumes nothing.
 use mathlib.Core.Path.{_≡_, refl, sym, ap, ap₂, _∙_, subst}
-use mathlib.Core.List.{List, _++_}
-use Prim.Native.Nat.{ℕ, _+_, _^_, _<_, _≤_}
+use mathlib.Core.List.{List}
+use Prim.Native.Nat.{ℕ, _+_, _^_, _<_}
 use native.Mathlib.Omega.{arith}
-use lib.ListN.{length, take, drop}
-use Rattle.lent_bytes.proofs.WritingLaws.{unless-tells, unless-none, written-fits}
+use lib.ListN.{length}
+use Rattle.lent_bytes.proofs.WritingLaws.{unless-accepted, unless-tells}
 use Rattle.cut_lists.proofs.CutLaws.{cut-count}
 use Rattle.entries.specs.Entry.{lengthOf}
 use Rattle.entries.specs.Walk.{entriesOf, walkOf}
@@ -27,19 +28,18 @@ use Rattle.par1_write.specs.VolumeWriting.{volumeBytes, walkRefusal, writeVolum
 use Rattle.par1_read.specs.declared.reading.Reading.the-variants.{Accepted}
 use Rattle.par1_read.proofs.ReadingLaws.{partsOf, HeaderPassed, TotalsPassed, Passed, passed-none, read-accepted}
 use Rattle.par1_rules.proofs.RuleLaws.{Between, fault-some}
-use Rattle.par1.specs.Claim.{VolumeAccepted, VolumeWritten, partsFor, ReadWritten}
+use Rattle.par1.specs.Claim.{VolumeAccepted, VolumeWritten, partsFor, ReadBack, ReadWritten}
 use Rattle.par1.proofs.VolumeFields.{Fields, volume-fields}
 use Rattle.par1_write.proofs.VolumeWritingLaws.{VolumePassed, volume-passed, volume-none, length-volume}
 
 pub volume-accepted : VolumeAccepted
 unfolding writeVolumeOf
-volume-accepted program number list area out t walk number-right data-right high room =
-    let s : List ℕ = volumeBytes program number list area in
-    let fits : length s ≤ length out = omega (arith, length-volume program number list area) in
+volume-accepted program number list area out t walk number-right data-right high fits =
+    let size : length (volumeBytes program number list area) ≡ 96 + length list + length area = length-volume program number list area in
     let passed : VolumePassed number t (length list) (length area) =
-    record { number-right = number-right; data-right = data-right; size = record { low = omega arith; high = high } } in
+    record { number-right = number-right; data-right = data-right; size = record { low = omega arith; high = omega arith } } in
     let none = ap (λ (w : Walked). walkRefusal number w (length list) (length area)) walk ∙ volume-none number t (length list) (length area) passed in
-    (length s, s ++ drop (length s) out, sym (unless-none s out refl none (written-fits s out fits refl refl)))
+    unless-accepted (walkRefusal number (walkOf list) (length list) (length area)) (volumeBytes program number list area) out none fits
 
 pub volume-written : VolumeWritten
 unfolding writeVolumeOf
@@ -100,18 +100,24 @@ module _ {number : ℕ} {list : List ℕ} (area : List ℕ) (accepted : ListPass
   written-parts : partsOf f ≡ partsFor program number list area
   written-parts = cc
 
-pub read-written : ReadWritten
-unfolding writeVolumeOf volumeBytes
-read-written program number p v list area out n room e =
-    let told = unless-tells (walkRefusal number (walkOf list) (length list) (length area)) (volumeBytes program number list area) out e in
-    let accepted = list-passed number list (length area) (told .none) in
-    let f : List ℕ = take n room in
-    let size : length f ≡ 96 + length list + length area = ap length (told .written-is) ∙ length-volume program number list area in
+pub volume-back : (program number : ℕ) (list area : List ℕ) → program < 2 ^ 32 → number < 2 ^ 64 → ListPassed number list (length area)
+    → ReadBack (volumeBytes program number list area) program number list area
+unfolding volumeBytes
+volume-back program number list area p v accepted =
+    let f : List ℕ = volumeBytes program number list area in
+    let size : length f ≡ 96 + length list + length area = length-volume program number list area in
     let few : length (entriesOf list .pieces) < 2 ^ 64 = omega (arith, cut-count lengthOf list, accepted .tests .size .high) in
-    let d = volume-fields f program (length (entriesOf list .pieces)) number list area (told .written-is) p v few (omega (arith, accepted .tests .size .high)) in
+    let d = volume-fields f program (length (entriesOf list .pieces)) number list area refl p v few (omega (arith, accepted .tests .size .high)) in
     let read = read-accepted f (passed-none f (written-passed area accepted f program d size)) in
     record {
       read-is = read ∙ ap Accepted (written-parts area accepted f program d size);
       list-is = d .list-is;
       data-is = d .data-is;
     }
+
+pub read-written : ReadWritten
+unfolding writeVolumeOf
+read-written program number p v list area out n room e =
+    let told = unless-tells (walkRefusal number (walkOf list) (length list) (length area)) (volumeBytes program number list area) out e in
+    let passed = list-passed number list (length area) (told .none) in
+    subst (λ (f : List ℕ). ReadBack f program number list area) (sym (told .written-is)) (volume-back program number list area p v passed)

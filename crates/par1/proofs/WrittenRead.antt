@@ -3,15 +3,17 @@
 --   volume-again     the bytes of the volume that is made of the parts of an accepted file
 --   written-read     writing it
 -- Assumes nothing.
-use mathlib.Core.Path.{_≡_, refl, sym, ap, _∙_, subst}
+use mathlib.Core.Path.{_≡_, sym, ap, _∙_, subst}
 use mathlib.Core.List.{List, [], _∷_, _++_, append-assoc, append-nil, flatten}
 use Prim.Native.Nat.{ℕ, _+_, _≤_}
 use native.Mathlib.Omega.{arith}
 use lib.ListN.{length, take, drop, length-drop}
 use lib.Seq.{length-take-le, take-all}
-use Rattle.lent_bytes.specs.declared.Writing.the-variants.{Written}
-use Rattle.lent_bytes.proofs.WritingLaws.{written-fits, unless-none}
+use Rattle.lent_bytes.specs.Writing.{accepted}
+use Rattle.lent_bytes.specs.declared.Writing.{Writing}
+use Rattle.lent_bytes.proofs.WritingLaws.{unless-accepted}
 use Rattle.little_endian.specs.Bytes.{Bytes, toLe, numbers}
+use Rattle.entries.specs.Walk.{walkOf}
 use Rattle.entries.specs.declared.Totals.{Totals}
 use Rattle.entries.specs.declared.Walked.{Walked}
 use Rattle.entries.proofs.WalkLaws.{walk-count}
@@ -59,19 +61,29 @@ module _ (f : List ℕ) (bytes : Bytes f) (tests : Passed f) where
       let area : List ℕ = dataOf f in
       let low : 96 ≤ length f = tests .header .size .low in
       let starts : 96 + length l ≡ dataStartOf f = omega (arith, list-length, tests .header .layout .data-start) in
+      let at32 = split 16 32 f in
+      let at48 = split-number 8 48 f bytes (omega arith) in
+      let at56 = split-number 8 56 f bytes (omega arith) in
+      let at64 = split-number 8 64 f bytes (omega arith) in
+      let at72 = split-number 8 72 f bytes (omega arith) in
+      let at80 = split-number 8 80 f bytes (omega arith) in
+      let at88 = split-number 8 88 f bytes (omega arith) in
+      let at96 = split (listSizeOf f) 96 f in
       nested-body (setHash (entriesIn f)) (toLe 8 (volumeNumberOf f)) (toLe 8 (length (entriesIn f))) (toLe 8 96) (toLe 8 (length l)) (toLe 8 (96 + length l))
       (toLe 8 (length area)) l area
-      ∙ cc
-      (tests .totals .set-is, count, list-length, data-length, starts, tests .header .layout .list-start, split (listSizeOf f) 96 f, split-number 8 88 f bytes (omega arith), split-number 8 80 f bytes (omega arith), split-number 8 72 f bytes (omega arith), split-number 8 64 f bytes (omega arith), split-number 8 56 f bytes (omega arith), split-number 8 48 f bytes (omega arith), split 16 32 f)
+      ∙ cc (tests .totals .set-is, count, list-length, data-length, tests .header .layout .list-start)
 
   pub volume-again : volumeBytes (programOf f) (volumeNumberOf f) (listOf f) (dataOf f) ≡ f
   unfolding volumeBytes headBytes
   volume-again =
       let body : List ℕ = bodyBytes (length (entriesIn f)) (volumeNumberOf f) (listOf f) (dataOf f) in
       let low : 96 ≤ length f = tests .header .size .low in
+      let at0 = split-number 8 0 f bytes (omega arith) in
+      let at8 = split-number 4 8 f bytes (omega arith) in
+      let at12 = split-number 4 12 f bytes (omega arith) in
+      let at16 = split 16 16 f in
       nested-head (toLe 8 signature) (toLe 4 version) (toLe 4 (programOf f)) (md5 body) body
-      ∙ cc
-      (body-again, tests .header .begins, tests .header .version-is, tests .control-is, split 16 16 f, split-number 4 12 f bytes (omega arith), split-number 4 8 f bytes (omega arith), split-number 8 0 f bytes (omega arith))
+      ∙ cc (body-again, tests .header .begins, tests .header .version-is, tests .control-is)
 
   -- the parts that reading gives are the areas of the file
   data-again : take (dataSizeOf f) (drop (dataStartOf f) f) ≡ dataOf f
@@ -80,7 +92,7 @@ module _ (f : List ℕ) (bytes : Bytes f) (tests : Passed f) where
       ∙ take-all (dataSizeOf f) (dataOf f) (omega (arith, data-length))
 
   write-again : (out : List ℕ) → length f ≤ length out
-      → writeVolumeOf (programOf f) (volumeNumberOf f) (listOf f) (dataOf f) out ≡ (Written (length f), f ++ drop (length f) out)
+      → writeVolumeOf (programOf f) (volumeNumberOf f) (listOf f) (dataOf f) out ≡ accepted f out
   unfolding writeVolumeOf
   write-again out room =
       let t : Totals = tests .totals-of in
@@ -96,15 +108,16 @@ module _ (f : List ℕ) (bytes : Bytes f) (tests : Passed f) where
         size = subst Between (sym size) (tests .header .size);
       }) in
       let none = ap (λ (w : Walked). walkRefusal (volumeNumberOf f) w l d) (tests .walk-is) ∙ right in
-      let again : f ≡ s = sym volume-again in
-      let fits : length s ≤ length out = omega (arith, ap length again) in
-      sym
-      (unless-none s out (sym none) refl (written-fits s out fits (ap length again) (ap (λ (u : List ℕ). u ++ drop (length u) out) again)))
+      let again : s ≡ f = volume-again in
+      unless-accepted (walkRefusal (volumeNumberOf f) (walkOf (listOf f)) l d) s out none (omega (arith, ap length again))
+      ∙ ap (λ (u : List ℕ). accepted u out) again
 
 -- an accepted file, written from what reading gave, into room that holds it
 pub written-read : WrittenRead
 written-read f p out bytes e room =
     let told = read-tells f p e in
-    ap (λ (q : Parts). writeVolumeOf (q .program) (q .number) (take (q .«list_size») (drop 96 f)) (take (q .«data_size») (drop (q .«data_start») f)) out) (told .parts-are)
+    let again : Parts → Writing × List ℕ =
+    λ q. writeVolumeOf (q .program) (q .number) (take (q .«list_size») (drop 96 f)) (take (q .«data_size») (drop (q .«data_start») f)) out in
+    ap again (told .parts-are)
     ∙ ap (λ (d : List ℕ). writeVolumeOf (programOf f) (volumeNumberOf f) (listOf f) d out) (data-again f bytes (told .tests))
     ∙ write-again f bytes (told .tests) out room

@@ -1,12 +1,12 @@
 -- Condition 2 of the tender: a volume is written as the format defines, is read back, and is written again with the same bytes.
 --
---   VolumeAccepted               what keeps the rules is written, where there is room for it
---   VolumeWritten                a written volume has the bytes that the format defines
+--   VolumeAccepted               what keeps the rules is written as the format defines, where there is room for it
+--   VolumeWritten                whatever is written has the bytes that the format defines
 --   partsFor p v list area       what reading returns of volume v of the program p, with this list and this data
 --   ReadBack f p v list area     the file f is read so, and its areas are this list and this data
 --   ReadWritten                  every written volume is read back
 --   WrittenRead                  every accepted file, written from what reading gave, has the same bytes
---   EntryAccepted                the entry of a file that keeps the rules is written, where there is room for it
+--   EntryAccepted                the entry of a file that keeps the rules is written as the format defines, where there is room for it
 --   EntryBack e m st name        the entry e is that of a file with the contents m, the status st and the name
 --   EntryWritten                 every written entry is that of its file
 -- The contracts of write_volume, read, write_entry and check cite writeVolumeOf, readOf, writeEntryOf and checkOf.
@@ -16,11 +16,12 @@ use mathlib.Core.Bool.{true}
 use mathlib.Core.List.{List, _++_}
 use Prim.Native.Nat.{ℕ, _+_, _^_, _<_, _≤_}
 use lib.ListN.{length, take, drop}
+use Rattle.lent_bytes.specs.Writing.{accepted}
 use Rattle.lent_bytes.specs.declared.Writing.the-variants.{Written}
 use Rattle.refusals.specs.Limits.{maxVolumeLength}
 use Rattle.cut_lists.specs.Pieces.{before}
 use Rattle.little_endian.specs.Bytes.{Bytes}
-use Rattle.entries.specs.Entry.{md5Of, md5Of16k, nameOf, fileSizeAllowed}
+use Rattle.entries.specs.Entry.{statusOf, fileSizeOf, md5Of, md5Of16k, nameOf, fileSizeAllowed}
 use Rattle.entries.specs.Numbering.{savedOf}
 use Rattle.entries.specs.Walk.{firstOf, entriesOf, walkOf}
 use Rattle.entries.specs.declared.Totals.{Totals}
@@ -34,8 +35,8 @@ use Rattle.par1_read.specs.Reading.{readOf}
 use Rattle.par1_read.specs.declared.reading.Parts.{Parts}
 use Rattle.par1_read.specs.declared.reading.Reading.the-variants.{Accepted}
 use Rattle.par1_write.specs.VolumeWriting.{volumeBytes, writeVolumeOf}
-use Rattle.par1_write.specs.EntryWriting.{statusAllowed, nameBytesAllowed, writeEntryOf}
-use Rattle.par1.specs.Checking.{checkOf}
+use Rattle.par1_write.specs.EntryWriting.{entryBytes, statusAllowed, nameBytesAllowed, writeEntryOf}
+use Rattle.par1.specs.Checking.{loneRefusal, checkOf}
 
 -- ---- nothing else is refused
 
@@ -44,8 +45,8 @@ abbrev pub VolumeAccepted : Type 0
 VolumeAccepted =
     (program number : ℕ) (list area out : List ℕ) (t : Totals) → walkOf list ≡ walked.Entries t
     → numberAllowed number (t .saved) ≡ true → dataAllowed number (t .greatest) (length area) ≡ true
-    → 96 + length list + length area ≤ maxVolumeLength → 96 + length list + length area ≤ length out
-    → (n : ℕ) × (room : List ℕ) × (writeVolumeOf program number list area out ≡ (Written n, room))
+    → length (volumeBytes program number list area) ≤ maxVolumeLength → length (volumeBytes program number list area) ≤ length out
+    → writeVolumeOf program number list area out ≡ accepted (volumeBytes program number list area) out
 
 -- ---- "A volume written is, byte by byte, the one that Par 1.0, RFC 1321 and document 01 define."
 
@@ -89,7 +90,7 @@ abbrev pub WrittenRead : Type 0
 WrittenRead =
     (f : List ℕ) (p : Parts) (out : List ℕ) → Bytes f → readOf f ≡ Accepted p → length f ≤ length out
     → writeVolumeOf (p .program) (p .number) (take (p .«list_size») (drop 96 f)) (take (p .«data_size») (drop (p .«data_start») f)) out
-    ≡ (Written (length f), f ++ drop (length f) out)
+    ≡ accepted f out
 
 -- ---- the same for an entry
 
@@ -97,16 +98,21 @@ WrittenRead =
 abbrev pub EntryAccepted : Type 0
 EntryAccepted =
     (m : List ℕ) (status : ℕ) (name out : List ℕ) → fileSizeAllowed (length m) ≡ true → statusAllowed status ≡ true
-    → nameBytesAllowed name ≡ true → 56 + length name ≤ length out
-    → (n : ℕ) × (room : List ℕ) × (writeEntryOf m status name out ≡ (Written n, room))
+    → nameBytesAllowed name ≡ true → length (entryBytes m status name) ≤ length out
+    → writeEntryOf m status name out ≡ accepted (entryBytes m status name) out
 
--- whatever follows the entry; checking accepts the contents
 pub record EntryBack (e m : List ℕ) (status : ℕ) (name : List ℕ) : Type 0 where
+  -- at the front of a list, whatever follows
   pub first-is : (rest : List ℕ) → firstOf (e ++ rest) ≡ Entry (length e) status (length m)
   pub entries-are : (rest : List ℕ) → entriesOf (e ++ rest) ≡ before e (entriesOf rest)
+  -- its fields
+  pub status-is : statusOf e ≡ status
+  pub size-is : fileSizeOf e ≡ length m
   pub md5-is : md5Of e ≡ md5 m
   pub md5-first-is : md5Of16k e ≡ md5First m
   pub name-is : nameOf e ≡ name
+  -- alone it keeps the rules, and checking accepts the contents
+  pub lone-is : loneRefusal e ≡ 0
   pub check-is : checkOf e m ≡ 0
 
 -- the room has a length of 64 bits; proved: proofs/EntryWritten.antt, `entry-written`
