@@ -1,25 +1,31 @@
--- What holds of each piece of a list of pieces.
+-- What holds of each element of a list.
 --
---   all-nth       it holds of the piece at an index
---   all-append    what holds of each piece of two lists holds of each piece of both together
---   all-map       what follows from it holds of each piece too
+--   all-nth       it holds of the element at an index
+--   all-append    what holds of each element of two lists holds of each element of both together
+--   all-take      .. and of each of the first elements
+--   all-map       what follows from it holds of each element too
 -- Assumes nothing.
-use mathlib.Core.List.{List, [], _++_}
+use mathlib.Core.List.{List, _++_}
 use Prim.Native.Nat.{ℕ, zero, suc, _<_}
 use native.Mathlib.Omega.{arith}
-use lib.ListN.{length, getD}
-use Rattle.cut_lists.proofs.CutLaws.{All, all-none, all-more}
+use lib.ListN.{length, take, getD}
+use Rattle.cut_lists.specs.All.{All, all-none, all-more}
 
-module _ {P : List ℕ → Type 0} where
-  pub all-nth : {ps : List (List ℕ)} → All P ps → (k : ℕ) → k < length ps → P (getD ps k [])
-  all-nth all-none k h = absurd (omega arith)
-  all-nth (all-more x xs) zero h = x
-  all-nth (all-more x xs) (suc k) h = all-nth xs k (omega arith)
+module _ {A : Type 0} {P : A → Type 0} where
+  pub all-nth : {xs : List A} → All P xs → (k : ℕ) (d : A) → k < length xs → P (getD xs k d)
+  all-nth all-none k d h = absurd (omega arith)
+  all-nth (all-more p ps) zero d h = p
+  all-nth (all-more p ps) (suc k) d h = all-nth ps k d (omega arith)
 
-  pub all-append : {ps qs : List (List ℕ)} → All P ps → All P qs → All P (ps ++ qs)
-  all-append all-none ys = ys
-  all-append (all-more x xs) ys = all-more x (all-append xs ys)
+  pub all-append : {xs ys : List A} → All P xs → All P ys → All P (xs ++ ys)
+  all-append all-none qs = qs
+  all-append (all-more p ps) qs = all-more p (all-append ps qs)
 
-  pub all-map : {Q : List ℕ → Type 0} {ps : List (List ℕ)} → ((p : List ℕ) → P p → Q p) → All P ps → All Q ps
+  pub all-take : (k : ℕ) {xs : List A} → All P xs → All P (take k xs)
+  all-take zero ps = all-none
+  all-take (suc k) all-none = all-none
+  all-take (suc k) (all-more p ps) = all-more p (all-take k ps)
+
+  pub all-map : {Q : A → Type 0} {xs : List A} → ((x : A) → P x → Q x) → All P xs → All Q xs
   all-map f all-none = all-none
-  all-map f (all-more {p} x xs) = all-more (f p x) (all-map f xs)
+  all-map f (all-more {x} p ps) = all-more (f x p) (all-map f ps)

@@ -6,7 +6,6 @@
 --   cut-rest       the rest begins with no piece
 --   cut-length     the lengths of the pieces joined and of the rest add up to that of the list
 --   cut-count      there are no more pieces than elements
---   All P ps       P holds of each of the pieces ps
 --   cut-all        what holds of the first piece of any list holds of each piece
 --   after ps s     what remains of s after the pieces ps at its front
 --   Nth f s c k    piece k of the cut c of s is the first piece of what remains before it
@@ -20,6 +19,7 @@ use native.Mathlib.Nat.{le-refl}
 use native.Mathlib.Omega.{arith}
 use lib.ListN.{length, take, drop, getD, length-append, length-drop, take-append-drop}
 use lib.Seq.{drop-append-add}
+use Rattle.cut_lists.specs.All.{All, all-none, all-more}
 use Rattle.cut_lists.specs.Pieces.{Cut, none, before, ifZero, cutIn, cut}
 
 -- ---- cut, as equations
@@ -112,10 +112,6 @@ cut-count f =
     (λ s h k e. omega (arith, length-drop (f s) s))
 
 -- ---- each piece
-
-pub data All (P : List ℕ → Type 0) : List (List ℕ) → Type 0 where
-  all-none : All P []
-  all-more : {p : List ℕ} {ps : List (List ℕ)} → P p → All P ps → All P (p ∷ ps)
 
 pub cut-all : (f : List ℕ → ℕ) (P : List ℕ → Type 0) → ((s : List ℕ) → 0 < length s → 0 < f s → P (take (f s) s))
     → (s : List ℕ) → All P (cut f s .pieces)

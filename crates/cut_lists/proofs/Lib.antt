@@ -1,4 +1,4 @@
-mod AllLaws
+pub mod AllLaws
 pub mod CutLaws
 mod Examples
 mod WholeLaws

@@ -15,8 +15,9 @@ use Prim.Native.Nat.{ℕ, _≤_, _<_}
 use native.Mathlib.Omega.{arith}
 use lib.ListN.{length, take, length-append, length-take}
 use lib.Seq.{take-at, drop-at}
+use Rattle.cut_lists.specs.All.{All, all-none, all-more}
 use Rattle.cut_lists.specs.Pieces.{Cut, before, cut}
-use Rattle.cut_lists.proofs.CutLaws.{cut-none, cut-more, cut-joins, All, all-none, all-more, cut-all}
+use Rattle.cut_lists.proofs.CutLaws.{cut-none, cut-more, cut-joins, cut-all}
 
 -- it has an element or more, and f tells its length whatever follows
 pub record Whole (f : List ℕ → ℕ) (p : List ℕ) : Type 0 where
@@ -43,7 +44,7 @@ module _ {f : List ℕ → ℕ} where
       → cut f (flatten ps ++ t) ≡ prepend ps (cut f t)
   unfolding flatten
   cut-wholes all-none t = refl
-  cut-wholes (all-more {p} {ps} w ws) t =
+  cut-wholes (all-more {x = p} {xs = ps} w ws) t =
       ap (cut f) (append-assoc p (flatten ps) t) ∙ cut-whole w (flatten ps ++ t) ∙ ap (before p) (cut-wholes ws t)
 
   pub cut-flatten : {ps : List (List ℕ)} → All (Whole f) ps → cut f (flatten ps) ≡ record { pieces = ps; rest = [] }

@@ -1,5 +1,6 @@
 pub mod EntryLaws
 mod Examples
+pub mod KeepLaws
 pub mod NameLaws
-mod NumberingLaws
+pub mod NumberingLaws
 pub mod WalkLaws

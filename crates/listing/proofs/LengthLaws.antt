@@ -20,7 +20,8 @@ use Rattle.computed_tests.proofs.Tests.{and-both}
 use Rattle.lent_bytes.specs.Writing.{written}
 use Rattle.lent_bytes.specs.declared.Writing.the-variants.{Written}
 use Rattle.lent_bytes.proofs.WritingLaws.{written-fits}
-use Rattle.cut_lists.proofs.CutLaws.{All, all-none, all-more, cut-all, cut-count, cut-length}
+use Rattle.cut_lists.specs.All.{All, all-none, all-more}
+use Rattle.cut_lists.proofs.CutLaws.{cut-all, cut-count, cut-length}
 use Rattle.entries.specs.Entry.{entrySize, statusOf, fileSizeOf, nameOf, unitsOf, isSaved, entrySizeAllowed, fileSizeAllowed, bodyAllowed, entryAllowed, lengthOf}
 use Rattle.entries.specs.Walk.{faultNumber, walkOf}
 use Rattle.entries.specs.declared.Fault.{Fault}

@@ -1,4 +1,4 @@
 pub mod Coefficients
-mod Files
+pub mod Files
 pub mod Parities
 pub mod Volumes
