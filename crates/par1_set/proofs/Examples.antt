@@ -1,0 +1,51 @@
+-- Document 01, P6, as a set with a file between them that is not saved: "files (1, 2) and (3): volume 1 is (2, 2), volume 2 is (7, 2),
+-- volume 3 is (13, 2)".
+-- Assumes nothing.
+use mathlib.Core.Path.{_≡_, refl}
+use mathlib.Core.List.{List, [], _∷_, flatten}
+use Prim.Native.Nat.{ℕ}
+use native.Mathlib.Omega.{arith}
+use lib.ListN.{length, length-append}
+use Rattle.cut_lists.specs.All.{all-none, all-more}
+use Rattle.entries.specs.Entry.{isCounted, unitsOf, unitAllowed, nameAllowed}
+use Rattle.gf256.specs.Polynomial.{coeff, sumBelow, polyProduct, remainder}
+use Rattle.gf256.specs.Field.{product, power}
+use Rattle.little_endian.specs.Bytes.{fromLe, leAt}
+use Rattle.par1_write.specs.EntryWriting.{nameBytesAllowed}
+use Rattle.par1_write.proofs.EntryWritingLaws.{length-entry}
+use Rattle.parity.specs.Coefficient.{coefficient}
+use Rattle.parity.specs.Parity.{parityByte, listBelow, parity}
+use Rattle.par1_set.specs.Files.{File, listFor}
+use Rattle.par1_set.specs.Volume.{dataFor, VolumeRight}
+
+-- a file with the name "A"
+abbrev file : List ℕ → ℕ → File
+file contents status = record { contents = contents; status = status; name = 65 ∷ 0 ∷ [] }
+
+abbrev p6 : List File
+p6 = file (1 ∷ 2 ∷ []) 1 ∷ file (9 ∷ []) 0 ∷ file (3 ∷ []) 1 ∷ []
+
+p6-data :
+    (dataFor coefficient 1 p6 ≡ 2 ∷ 2 ∷ [])
+    × (dataFor coefficient 2 p6 ≡ 7 ∷ 2 ∷ [])
+    × (dataFor coefficient 3 p6 ≡ 13 ∷ 2 ∷ [])
+unfolding parity listBelow parityByte coefficient product power isCounted sumBelow polyProduct remainder coeff
+p6-data = (refl, refl, refl)
+
+p6-list : length (listFor p6) ≡ 174
+unfolding flatten
+p6-list = simp (length-append, length-entry)
+
+-- the set keeps the rules
+p6-right : VolumeRight 1 p6
+unfolding isCounted nameBytesAllowed nameAllowed unitsOf unitAllowed leAt fromLe
+p6-right =
+    record {
+      files-right = all-more (record { size-right = refl; status-right = refl; name-right = refl })
+          (all-more (record { size-right = refl; status-right = refl; name-right = refl })
+          (all-more (record { size-right = refl; status-right = refl; name-right = refl }) all-none));
+      volume-low = omega arith;
+      volume-high = omega arith;
+      count-low = omega arith;
+      length-right = omega (arith, p6-list);
+    }

@@ -1,0 +1,8 @@
+pub mod AcceptedCalls
+pub mod CallLaws
+mod Examples
+pub mod FileEntries
+pub mod Layouts
+mod Ranges
+pub mod SetLaws
+pub mod Sets

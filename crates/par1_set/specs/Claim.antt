@@ -1,0 +1,108 @@
+-- Condition 2 of the tender, over a whole set of files: what is written of them is what Par 1.0 and document 01 define, and is read back.
+--
+--   VolumeMade program v fs ks room out    what the calls give, for volume v of the files fs
+--   SetWritten                             they give it for every set that keeps the rules
+--   IndexMade, IndexWritten                the same of the index
+--   OnlyVolumes, OnlyIndices               they write nothing else
+--   FileBack x                             the entry of the file x says what x is
+--   FilesListed fs                         how the files fs stand in their list
+--   SetListed                              they stand so
+-- What excludes an empty reading: the rules ask for no more than the calls do (`OnlyVolumes`), a set with a file between that is not saved
+-- keeps them (proofs/Examples.antt, `p6-right`), and n files have an order to be taken in (parity, proofs/Files.antt, `once-descending`).
+-- The contracts of write_entry, coefficient, mul_add, write_volume, read and check cite writeEntryOf, coefficientAnswer, mulAdd,
+-- writeVolumeOf, readOf and checkOf.
+-- Assumes nothing.
+use mathlib.Core.Path.{_≡_}
+use mathlib.Core.Bool.{true}
+use mathlib.Core.List.{List, []}
+use Prim.Native.Nat.{ℕ, _^_, _<_, _≤_}
+use lib.ListN.{length, getD}
+use Rattle.cut_lists.specs.All.{All}
+use Rattle.entries.specs.Entry.{isSaved}
+use Rattle.entries.specs.Numbering.{savedOf, fileNumber}
+use Rattle.entries.specs.Walk.{entriesOf, greatestOf}
+use Rattle.gf256.specs.declared.ByteAnswer.the-variants.{Byte}
+use Rattle.lent_bytes.specs.Writing.{accepted}
+use Rattle.lent_bytes.specs.declared.Writing.the-variants.{Written}
+use Rattle.mul_add.specs.Once.{Once}
+use Rattle.par1.specs.Claim.{ReadBack, EntryBack}
+use Rattle.par1_rules.specs.Layout.{version}
+use Rattle.parity.specs.Coefficient.{coefficient, coefficientAnswer}
+use Rattle.parity.specs.Parity.{isFile}
+use Rattle.refusals.specs.Limits.{maxVolumeLength}
+use Rattle.par1_set.specs.Calls.{writeEntries, addFiles, writeSet}
+use Rattle.par1_set.specs.Files.{File, noFile, savedFiles, fileCount, contentsOf, entryFor, entriesFor, listFor, dataSizeFor, FileRight}
+use Rattle.par1_set.specs.Volume.{dataFor, volumeFor, indexFor, VolumeRight, IndexRight}
+
+-- ---- "A volume written is, byte by byte, the one that Par 1.0, RFC 1321 and document 01 define. Reading returns the parts it was
+-- ---- written from"
+
+pub record VolumeMade (program v : ℕ) (fs : List File) (ks room out : List ℕ) : Type 0 where
+  -- `write_entry` of each file, one after another, gives the list
+  pub list-is : writeEntries fs 0 room ≡ accepted (listFor fs) room
+  -- `coefficient` of each saved file gives its weight
+  pub coefficients-are : (f : ℕ) → isFile (fileCount fs) f ≡ true → coefficientAnswer f v ≡ Byte (coefficient f v)
+  -- `mul_add` of each saved file with its weight, into zeros, gives the data
+  pub data-is : addFiles coefficient v fs ks ≡ dataFor coefficient v fs
+  -- `write_volume` of the list and the data gives the volume
+  pub volume-is : writeSet program v fs (addFiles coefficient v fs ks) room out ≡ accepted (volumeFor version coefficient program v fs) out
+  -- `read` of the volume gives the parts
+  pub read-back : ReadBack (volumeFor version coefficient program v fs) program v (listFor fs) (dataFor coefficient v fs)
+
+-- ks is any order of the files 1 to n; there is room for the list and for the volume; the program identifier is a u32;
+-- proved: proofs/Sets.antt, `set-written`
+abbrev pub SetWritten : Type 0
+SetWritten =
+    (program v : ℕ) (fs : List File) (ks room out : List ℕ) → program < 2 ^ 32 → VolumeRight v fs → Once (isFile (fileCount fs)) ks
+    → length (listFor fs) ≤ length room → length (volumeFor version coefficient program v fs) ≤ length out
+    → VolumeMade program v fs ks room out
+
+pub record IndexMade (program : ℕ) (fs : List File) (comment room out : List ℕ) : Type 0 where
+  pub index-is : writeSet program 0 fs comment room out ≡ accepted (indexFor version program fs comment) out
+  pub read-back : ReadBack (indexFor version program fs comment) program 0 (listFor fs) comment
+
+-- proved: proofs/Sets.antt, `index-written`
+abbrev pub IndexWritten : Type 0
+IndexWritten =
+    (program : ℕ) (fs : List File) (comment room out : List ℕ) → program < 2 ^ 32 → IndexRight fs comment
+    → length (listFor fs) ≤ length room → length (indexFor version program fs comment) ≤ length out
+    → IndexMade program fs comment room out
+
+-- ---- nothing else is written
+
+-- whatever the files: where the calls accept them they keep the rules, and it is their volume that is written;
+-- proved: proofs/Sets.antt, `only-volumes`
+abbrev pub OnlyVolumes : Type 0
+OnlyVolumes =
+    (program v : ℕ) (fs : List File) (ks room out : List ℕ) (n : ℕ) (after : List ℕ) → 1 ≤ v → Once (isFile (fileCount fs)) ks
+    → writeSet program v fs (addFiles coefficient v fs ks) room out ≡ (Written n, after)
+    → VolumeRight v fs × ((Written n, after) ≡ accepted (volumeFor version coefficient program v fs) out)
+
+-- proved: proofs/Sets.antt, `only-indices`
+abbrev pub OnlyIndices : Type 0
+OnlyIndices =
+    (program : ℕ) (fs : List File) (comment room out : List ℕ) (n : ℕ) (after : List ℕ)
+    → writeSet program 0 fs comment room out ≡ (Written n, after)
+    → IndexRight fs comment × ((Written n, after) ≡ accepted (indexFor version program fs comment) out)
+
+-- ---- the files in their list
+
+abbrev pub FileBack : File → Type 0
+FileBack x = EntryBack (entryFor x) (x .contents) (x .status) (x .name)
+
+pub record FilesListed (fs : List File) : Type 0 where
+  -- "Entries fill the list area with nothing left over": one for each file, in order
+  pub entries-are : entriesOf (listFor fs) ≡ record { pieces = entriesFor fs; rest = [] }
+  -- each says what its file is, and `check` accepts the file by it
+  pub files-are : All FileBack fs
+  -- "Files are numbered 1 to n over the saved entries only, in list order"
+  pub saved-are : savedOf (entriesFor fs) ≡ entriesFor (savedFiles fs)
+  -- so the file that counts in the parity by the number of entry k is the file of entry k
+  pub numbered : (k : ℕ) → k < length fs → isSaved (getD fs k noFile .status) ≡ true
+      → contentsOf fs (fileNumber (entriesFor fs) k) ≡ getD fs k noFile .contents
+  -- "In a volume its size is the greatest file size in the list."
+  pub data-size : dataSizeFor fs ≡ greatestOf (entriesFor fs)
+
+-- proved: proofs/FileEntries.antt, `set-listed`
+abbrev pub SetListed : Type 0
+SetListed = (fs : List File) → All FileRight fs → length (listFor fs) ≤ maxVolumeLength → FilesListed fs
