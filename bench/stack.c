@@ -1,5 +1,5 @@
 /* The stack of each call of the C library: the stack below is filled with known bytes, and the deepest one that the call changed tells how
- * far down it went; what an empty call changes is taken off. Each call has an input that is accepted and makes it go its longest way. */
+ * far down it went; what an empty call changes is taken off. Each call has an input that is accepted. */
 #include "../include/par1.h"
 #include <stdio.h>
 #include <stdlib.h>
