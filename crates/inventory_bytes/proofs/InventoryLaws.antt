@@ -8,7 +8,7 @@ use Prim.Native.Nat.{ℕ, _*_}
 use native.Mathlib.Omega.{arith}
 use lib.ListN.{length, drop-of-length-le, length-append}
 use lib.Seq.{sets}
-use Rattle.lent_bytes.proofs.WritingLaws.{Stores, stored, stored-all, stores-flatten, sets-over}
+use Rattle.lent_bytes.proofs.StoreLaws.{Stores, stored, stored-all, stores-flatten, sets-over}
 use Rattle.little_endian.specs.Bytes.{numbers}
 use Rattle.little_endian.proofs.NumberLists.{length-numbers, numbers-append}
 

@@ -1,8 +1,8 @@
 -- The test whether two lists are equal.
 --
---   equal-refl, equal-same, equal-true      it passes for equal lists, and only for them
---   equal-lengths               it fails where the lengths differ
---   equal-end, equal-more       the test from a position on
+--   equal-same, equal-true   it passes for equal lists, and only for them
+--   equal-lengths            it fails where the lengths differ
+--   equal-end, equal-more    the test from a position on
 -- Assumes nothing.
 use mathlib.Core.Path.{_≡_, refl, sym, ap, ap₂, _∙_}
 use mathlib.Core.Bool.{true, false, _&&_, and-false}
@@ -17,7 +17,7 @@ use borrow.Author.Tests.{eqb-true, eq-eqb}
 use Rattle.computed_tests.proofs.Tests.{and-both}
 use Rattle.lent_bytes.specs.Equal.{equal}
 
-pub equal-refl : (s : List ℕ) → equal s s ≡ true
+equal-refl : (s : List ℕ) → equal s s ≡ true
 unfolding equal
 equal-refl [] = refl
 equal-refl (a ∷ s) = simp (eq-eqb a a refl, equal-refl s)

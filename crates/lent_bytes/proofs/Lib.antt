@@ -1,3 +1,5 @@
 pub mod EqualLaws
 pub mod PartLaws
+pub mod PartsInRow
+pub mod StoreLaws
 pub mod WritingLaws

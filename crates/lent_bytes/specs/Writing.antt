@@ -5,7 +5,7 @@
 --   written s out           the same; or 14, where out is shorter
 --   writtenUnless n s out   the same, after the tests that give n: the refusal n where it is one, 0 being none
 --   writingNumber w         the document's number of an answer, 0 where it is accepted
---   withNumber r            the same, where a call answers with the number alone
+--   withNumber r            what a call gives, where it answers with the number alone
 -- Assumes nothing.
 use Prim.Native.Nat.{ℕ}
 use mathlib.Core.Bool.{cond}

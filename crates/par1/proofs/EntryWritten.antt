@@ -33,7 +33,7 @@ use Rattle.par1.proofs.CheckingLaws.{check-lone}
 use Rattle.par1_write.proofs.EntryWritingLaws.{length-entry, EntryPassed, entry-passed}
 use Rattle.lent_bytes.proofs.EqualLaws.{equal-same}
 use Rattle.par1_rules.proofs.HashLaws.{length-md5}
-use Rattle.lent_bytes.proofs.PartLaws.{At, at-part, at-next, at-number, at-last}
+use Rattle.lent_bytes.proofs.PartsInRow.{At, at-part, at-next, at-number, at-last}
 
 -- ---- the fields of the bytes of an entry, and of what follows
 

@@ -16,7 +16,7 @@ use Rattle.par1_rules.specs.Layout.{signature, version, signatureOf, versionOf,
 use Rattle.par1_rules.specs.Hashes.{setHash}
 use Rattle.par1_write.specs.VolumeWriting.{numberBytes, bodyBytes, headBytes}
 use Rattle.par1_rules.proofs.HashLaws.{length-md5, length-set-hash}
-use Rattle.lent_bytes.proofs.PartLaws.{At, at-start, at-part, at-next, at-number, at-open, at-last}
+use Rattle.lent_bytes.proofs.PartsInRow.{At, at-start, at-part, at-next, at-number, at-open, at-last}
 use Rattle.par1_rules.proofs.RuleLaws.{signature-is}
 
 -- ---- the header

@@ -14,7 +14,8 @@ use lib.ListN.{length, length-append}
 use lib.Seq.{sets}
 use Rattle.lent_bytes.specs.Writing.{refused}
 use Rattle.lent_bytes.specs.declared.Writing.the-variants.{Written, Refused}
-use Rattle.lent_bytes.proofs.WritingLaws.{sets-over, written-fits, written-short, unless-none, unless-refused}
+use Rattle.lent_bytes.proofs.StoreLaws.{sets-over}
+use Rattle.lent_bytes.proofs.WritingLaws.{written-fits, written-short, unless-none, unless-refused}
 use Rattle.little_endian.proofs.Numbers.{length-toLe}
 use Rattle.entries.specs.Entry.{fileSizeAllowed}
 use Rattle.par1_write.specs.EntryWriting.{entryBytes, statusAllowed, nameBytesAllowed, entryRefusal, writeEntryOf}

@@ -15,7 +15,8 @@ use lib.ListN.{length, take, drop, length-append}
 use lib.Seq.{sets, sets-eq, length-sets, drop-at, length-take-le}
 use Rattle.lent_bytes.specs.Writing.{refused}
 use Rattle.lent_bytes.specs.declared.Writing.the-variants.{Written, Refused}
-use Rattle.lent_bytes.proofs.WritingLaws.{sets-over, written-fits, written-short, unless-none, unless-refused}
+use Rattle.lent_bytes.proofs.StoreLaws.{sets-over}
+use Rattle.lent_bytes.proofs.WritingLaws.{written-fits, written-short, unless-none, unless-refused}
 use Rattle.little_endian.proofs.Numbers.{length-toLe}
 use Rattle.little_endian.proofs.NumberLists.{length-numbers}
 use Rattle.little_endian.proofs.Stores.{part-sets}

@@ -6,7 +6,7 @@ use native.Mathlib.Omega.{arith}
 use lib.ListN.{length, take}
 use denote.Ref.{now}
 use lib.Seq.{sets, length-sets}
-use Rattle.lent_bytes.proofs.WritingLaws.{sets-more, sets-fitting}
+use Rattle.lent_bytes.proofs.StoreLaws.{sets-more, sets-fitting}
 use borrow.Author.Needs.{needs}
 use Rattle.lent_bytes.proofs.put.Statement.{statement}
 use Rattle.lent_bytes.proofs.put.Tie as tie
@@ -22,9 +22,6 @@ kept : (c : tie.At-loop Inv-loop μ-loop) → length (c .loop .out) ≡ length (
 kept c =
     let a = c .before .before .before .before .args in ap length (c .loop .inv .1) ∙ length-sets (now (a .out)) (a .at) (take (c .loop .i) (now (a .bytes)))
 
-fitting-requires : tie.Need-fitting-requires Inv-loop μ-loop
-fitting-requires c κs = search needs
-
 loop-holds : tie.Need-loop-holds Inv-loop μ-loop
 loop-holds c = (omega arith, refl)
 
@@ -36,12 +33,6 @@ add-out c = omega (arith, c .before .before .before .fitting .ensures)
 
 slice-write-out : tie.Need-slice-write-out Inv-loop μ-loop
 slice-write-out c = omega (arith, kept (c .before .before), c .before .before .before .fitting .ensures)
-
-add-i : tie.Need-add-i Inv-loop μ-loop
-add-i c = omega arith
-
-loop-less : tie.Need-loop-less Inv-loop μ-loop
-loop-less c = omega arith
 
 loop-again : tie.Need-loop-again Inv-loop μ-loop
 loop-again c =
@@ -66,13 +57,13 @@ put-spec =
     (tie.spec
     Inv-loop
     μ-loop
-    fitting-requires
+    (λ c κs. search needs)
     loop-holds
     shared-slice-read-out
     add-out
     slice-write-out
-    add-i
-    loop-less
+    (λ c. omega arith)
+    (λ c. omega arith)
     loop-again
     same-length
     returns)

@@ -3,7 +3,8 @@
 use mathlib.Core.Path.{refl, ap, _∙_}
 use denote.Ref.{now}
 use Rattle.lent_bytes.specs.Writing.{withNumber}
-use Rattle.lent_bytes.proofs.WritingLaws.{sets-over, written-fits, written-short}
+use Rattle.lent_bytes.proofs.StoreLaws.{sets-over}
+use Rattle.lent_bytes.proofs.WritingLaws.{written-fits, written-short}
 use borrow.Author.Needs.{needs}
 use Rattle.lent_bytes.proofs.write.Statement.{statement}
 use Rattle.lent_bytes.proofs.write.Tie as tie

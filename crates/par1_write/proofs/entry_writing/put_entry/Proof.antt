@@ -4,7 +4,7 @@ use mathlib.Core.Path.{refl, ap, _∙_}
 use Prim.Native.Nat.{ℕ}
 use mathlib.Core.List.{List}
 use denote.Ref.{now}
-use Rattle.lent_bytes.proofs.WritingLaws.{stored-all, stored, stored-as, stores-flatten}
+use Rattle.lent_bytes.proofs.StoreLaws.{stored-all, stored, stored-as, stores-flatten}
 use Rattle.little_endian.proofs.Numbers.{length-toLe}
 use Rattle.par1_rules.proofs.HashLaws.{length-md5}
 use Rattle.md5.specs.Digest.{md5}

@@ -1,7 +1,7 @@
 -- `par1_write::volume_writing::put_body` meets its contract: its parts, stored one after another.
 -- Assumes nothing.
 use mathlib.Core.Path.{refl}
-use Rattle.lent_bytes.proofs.WritingLaws.{stored-all, stored, stored-as, stores-flatten}
+use Rattle.lent_bytes.proofs.StoreLaws.{stored-all, stored, stored-as, stores-flatten}
 use Rattle.par1_write.specs.VolumeWriting.{bodyBytes}
 use Rattle.par1_rules.proofs.HashLaws.{length-set-hash}
 use Rattle.little_endian.proofs.NumberLists.{length-numbers}

@@ -1,7 +1,7 @@
 -- `par1_write::volume_writing::put_head` meets its contract: its fields, stored one after another.
 -- Assumes nothing.
 use mathlib.Core.Path.{sym, ap}
-use Rattle.lent_bytes.proofs.WritingLaws.{stored-all, stored, stored-as, stores-flatten}
+use Rattle.lent_bytes.proofs.StoreLaws.{stored-all, stored, stored-as, stores-flatten}
 use Rattle.little_endian.proofs.Numbers.{length-toLe}
 use Rattle.par1_rules.proofs.HashLaws.{length-md5}
 use Rattle.little_endian.specs.Bytes.{toLe}

@@ -1,0 +1,53 @@
+-- Lists that are parts, one after another.
+--
+--   At f i ps            from index i on the list f is the parts ps
+--   at-start             a list that is some parts, and a last one
+--   at-part, at-number   the first part, and the number that it is
+--   at-next              what follows the first part
+--   at-open              parts of the first part
+--   at-last              the last part
+-- Assumes nothing.
+use mathlib.Core.Path.{_≡_, refl, sym, ap, _∙_}
+use mathlib.Core.List.{List, [], _∷_, _++_, append-assoc, append-nil, flatten}
+use Prim.Native.Nat.{ℕ, _+_, _^_, _<_}
+use native.Mathlib.Nat.{mod-eq-of-lt}
+use lib.ListN.{length, take, drop}
+use lib.Seq.{take-at, drop-at, drop-drop}
+use Rattle.little_endian.specs.Bytes.{fromLe, toLe, leAt}
+use Rattle.little_endian.proofs.Numbers.{length-toLe, from-to}
+
+pub record At (f : List ℕ) (i : ℕ) (ps : List (List ℕ)) : Type 0 where
+  pub joined : drop i f ≡ flatten ps
+
+flatten-append : (ps qs : List (List ℕ)) → flatten (ps ++ qs) ≡ flatten ps ++ flatten qs
+unfolding flatten
+flatten-append [] qs = refl
+flatten-append (p ∷ ps) qs = ap (λ (l : List ℕ). p ++ l) (flatten-append ps qs) ∙ sym (append-assoc p (flatten ps) (flatten qs))
+
+pub at-start : {f : List ℕ} (ps : List (List ℕ)) (q : List ℕ) → f ≡ flatten ps ++ q → At f 0 (ps ++ (q ∷ []))
+unfolding flatten
+at-start ps q e =
+    record { joined = e ∙ ap (λ (l : List ℕ). flatten ps ++ l) (sym (append-nil q)) ∙ sym (flatten-append ps (q ∷ [])) }
+
+module _ {f : List ℕ} {i : ℕ} {ps : List (List ℕ)} where
+  pub at-part : {p : List ℕ} (k : ℕ) → length p ≡ k → At f i (p ∷ ps) → take k (drop i f) ≡ p
+  unfolding flatten
+  at-part {p} k size a = ap (take k) (a .joined) ∙ take-at p (flatten ps) k size
+
+  pub at-next : {p : List ℕ} (k : ℕ) → length p ≡ k → At f i (p ∷ ps) → At f (i + k) ps
+  unfolding flatten
+  at-next {p} k size a =
+      record { joined = sym (drop-drop k i f) ∙ ap (drop k) (a .joined) ∙ drop-at p (flatten ps) k size }
+
+  pub at-number : (k n : ℕ) → n < 256 ^ k → At f i (toLe k n ∷ ps) → leAt k f i ≡ n
+  unfolding leAt
+  at-number k n h a = ap fromLe (at-part k (length-toLe k n) a) ∙ from-to k n ∙ mod-eq-of-lt h
+
+  -- parts of a part
+  pub at-open : (qs : List (List ℕ)) → At f i (flatten qs ∷ ps) → At f i (qs ++ ps)
+  unfolding flatten
+  at-open qs a = record { joined = a .joined ∙ sym (flatten-append qs ps) }
+
+pub at-last : {f p : List ℕ} {i : ℕ} → At f i (p ∷ []) → drop i f ≡ p
+unfolding flatten
+at-last {f} {p} a = a .joined ∙ append-nil p
