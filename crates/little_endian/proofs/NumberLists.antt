@@ -54,7 +54,8 @@ unfolding numbersAt
 read-more k s ns i place m {x} size h g e f =
     let rest : ℕ = k - (i + 1) in
     let left : k - i ≡ suc rest = omega arith in
-    ap₂ _++_ (ap (λ (j : ℕ). take j (set ns i x)) (add-one i) ∙ take-suc-set ns i x (omega arith)) (ap (numbersAt rest s) f ∙ numbersAt-past rest s (place + 8) m h)
+    ap₂ _++_ (ap (λ (j : ℕ). take j (set ns i x)) (add-one i) ∙ take-suc-set ns i x (omega arith))
+    (ap (numbersAt rest s) f ∙ numbersAt-past rest s (place + 8) m h)
     ∙ append-assoc (take i ns) (x ∷ []) (numbersAt rest s (place + 8))
     ∙ ap (λ (y : ℕ). take i ns ++ y ∷ numbersAt rest s (place + 8)) e
     ∙ ap (λ (j : ℕ). take i ns ++ numbersAt j s place) (sym left)

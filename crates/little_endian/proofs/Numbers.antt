@@ -1,17 +1,16 @@
 -- A number and the list of its bytes, at any width.
 --
---   bytes-take, bytes-drop, bytes-append   parts of bytes, and bytes in a row, are bytes
+--   bytes-take,
+--   bytes-drop    parts of bytes are bytes
 --   length-toLe   the k lowest bytes are k
---   toLe-bytes    and each is a byte
 --   to-add        j + k bytes are the j lowest bytes, then the next k
 --   to-mod        only the number modulo 256 ^ k counts
---   fromLe-lt     the number of k bytes is below 256 ^ k
 --   from-to       a number turned into k bytes and back is the number modulo 256 ^ k
 --   to-from       bytes turned into a number and back are the same bytes
 -- Assumes nothing.
 use mathlib.Core.Path.{_≡_, refl, sym, ap, ap₂, _∙_}
 use Prim.Native.Nat.{ℕ, zero, suc, _+_, _*_, _/_, _%_, _^_, _<_}
-use native.Mathlib.Nat.{pow-suc, zero-lt-suc, zero-add, suc-add, mod-one, div-one, one-le-pow, mod-lt, div-div-eq-div-mul, pow-succ'}
+use native.Mathlib.Nat.{pow-suc, zero-lt-suc, zero-add, suc-add, mod-one, div-one, one-le-pow, div-div-eq-div-mul, pow-succ'}
 use native.Mathlib.Omega.{arith}
 use mathlib.Core.List.{List, [], _∷_, _++_}
 use lib.ListN.{length, take, drop}
@@ -30,11 +29,6 @@ bytes-take (suc n) (b ∷ s) h (suc i) = bytes-take n s (λ p. h (suc p)) i
 pub bytes-drop : (n : ℕ) (s : List ℕ) → Bytes s → Bytes (drop n s)
 bytes-drop n s h i = rw getD-drop (h (n + i))
 
-pub bytes-append : (s t : List ℕ) → Bytes s → Bytes t → Bytes (s ++ t)
-bytes-append [] t h k i = k i
-bytes-append (b ∷ s) t h k zero = h 0
-bytes-append (b ∷ s) t h k (suc i) = bytes-append s t (λ p. h (suc p)) k i
-
 -- ---- 256 ^ k
 
 pow-pos : (k : ℕ) → zero < 256 ^ k
@@ -51,12 +45,6 @@ unfolding toLe
 length-toLe zero n = refl
 length-toLe (suc k) n = ap suc (length-toLe k (n / 256))
 
-pub toLe-bytes : (k n : ℕ) → Bytes (toLe k n)
-unfolding toLe
-toLe-bytes zero n i = zero-lt-suc 255
-toLe-bytes (suc k) n zero = mod-lt n (zero-lt-suc 255)
-toLe-bytes (suc k) n (suc i) = toLe-bytes k (n / 256) i
-
 pub to-add : (j k n : ℕ) → toLe (j + k) n ≡ toLe j n ++ toLe k (n / 256 ^ j)
 unfolding toLe
 to-add zero k n = ap₂ toLe (zero-add k) (sym (div-one n))
@@ -69,13 +57,6 @@ to-mod (suc k) n =
     let low : n % 256 ^ suc k % 256 ≡ n % 256 = omega (arith, mod-suc k n) in
     let rest : n % 256 ^ suc k / 256 ≡ n / 256 % 256 ^ k = omega (arith, mod-suc k n) in
     rw (low, rest, to-mod k (n / 256))
-
--- ---- fromLe
-
-pub fromLe-lt : (s : List ℕ) → Bytes s → fromLe s < 256 ^ length s
-unfolding fromLe
-fromLe-lt [] h = zero-lt-suc 0
-fromLe-lt (b ∷ s) h = rw pow-suc (omega (arith, h 0, fromLe-lt s (λ i. h (suc i))))
 
 -- ---- both ways
 

@@ -2,7 +2,6 @@
 --
 --   leAt-zero, leAt-suc, leAt-byte   a number byte by byte
 --   leAt-add       a number of j + k bytes is that of its j low bytes, plus 256 ^ j times that of the next k
---   leAt-lt        a number of k bytes is below 256 ^ k
 --   leAt-out       past the end it is 0
 --   leAt-same      lists with the same bytes there have the same number there
 --   leAt-drop, leAt-append   a number of a part, and of the first of two lists in a row
@@ -11,7 +10,7 @@
 -- Assumes nothing.
 use mathlib.Core.Path.{_≡_, refl, sym, ap, ap₂, _∙_}
 use Prim.Native.Nat.{ℕ, zero, suc, _+_, _*_, _^_, _≤_, _<_, min}
-use native.Mathlib.Nat.{pow-zero, pow-suc, pow-succ', zero-add, add-zero, suc-add, mul-assoc}
+use native.Mathlib.Nat.{pow-zero, pow-succ', zero-add, add-zero, suc-add, mul-assoc}
 use native.Mathlib.Omega.{arith}
 use mathlib.Core.List.{List, [], _∷_, _++_}
 use lib.ListN.{length, take, drop, getD, length-drop, drop-of-length-le, List·getD-append}
@@ -22,7 +21,7 @@ use Rattle.little_endian.proofs.Past.{at-min}
 
 -- ---- byte by byte
 
-pub leAt-zero : (s : List ℕ) (i : ℕ) → leAt 0 s i ≡ 0
+leAt-zero : (s : List ℕ) (i : ℕ) → leAt 0 s i ≡ 0
 unfolding leAt fromLe
 leAt-zero s i = refl
 
@@ -36,11 +35,7 @@ leAt-suc k (b ∷ s) (suc i) = leAt-suc k s i
 pub leAt-byte : (s : List ℕ) (i : ℕ) → leAt 1 s i ≡ getD s i 0
 leAt-byte s i = leAt-suc 0 s i ∙ omega (arith, leAt-zero s (suc i))
 
-pub leAt-lt : (k : ℕ) (s : List ℕ) (i : ℕ) → Bytes s → leAt k s i < 256 ^ k
-leAt-lt zero s i h = omega (arith, leAt-zero s i, pow-zero 256)
-leAt-lt (suc k) s i h = rw pow-suc (omega (arith, leAt-suc k s i, h i, leAt-lt k s (suc i) h))
-
-pub leAt-same : (k : ℕ) (s t : List ℕ) (i : ℕ) → ((p : ℕ) → i ≤ p → p < i + k → getD s p 0 ≡ getD t p 0)
+leAt-same : (k : ℕ) (s t : List ℕ) (i : ℕ) → ((p : ℕ) → i ≤ p → p < i + k → getD s p 0 ≡ getD t p 0)
     → leAt k s i ≡ leAt k t i
 leAt-same zero s t i h = leAt-zero s i ∙ sym (leAt-zero t i)
 leAt-same (suc k) s t i h =
@@ -70,7 +65,7 @@ to-leAt k s i h fits =
 
 -- ---- by halves
 
-pub leAt-add : (j k : ℕ) (s : List ℕ) (i : ℕ) → leAt (j + k) s i ≡ leAt j s i + 256 ^ j * leAt k s (i + j)
+leAt-add : (j k : ℕ) (s : List ℕ) (i : ℕ) → leAt (j + k) s i ≡ leAt j s i + 256 ^ j * leAt k s (i + j)
 leAt-add zero k s i = rw (zero-add, add-zero, leAt-zero, pow-zero) (omega arith)
 leAt-add (suc j) k s i =
     let next : suc i + j ≡ i + suc j = omega arith in

@@ -4,15 +4,14 @@
 --   sets-out          past the end nothing changes
 --   sets-past         places may stop at a last one past the end
 --   part-sets         what was stored stands there
---   getD-sets-other   elements outside it stay
 -- Assumes nothing.
 use mathlib.Core.Path.{_≡_, refl, sym, ap, _∙_}
 use Prim.Native.Nat.{ℕ, suc, _+_, _≤_, min}
 use native.Mathlib.Nat.{add-zero, add-suc, suc-add}
 use native.Mathlib.Omega.{arith}
 use mathlib.Core.List.{List, [], _∷_, _++_, append-assoc}
-use lib.ListN.{length, take, drop, getD, set}
-use lib.Seq.{sets, sets-eq, set-out, getD-set-other, length-take-le, take-append-seam, drop-at}
+use lib.ListN.{length, take, drop, set}
+use lib.Seq.{sets, sets-eq, set-out, length-take-le, take-append-seam, drop-at}
 use Rattle.little_endian.proofs.Past.{at-min}
 
 module _ {A : Type 0} where
@@ -31,7 +30,7 @@ module _ {A : Type 0} where
   pub sets-past : (s : List A) (i m : ℕ) (v : List A) → length s ≤ m → sets s (min i m) v ≡ sets s i v
   sets-past s i m v h = at-min (λ p. sets s p v) i m (λ past. sets-out s m v h ∙ sym (sets-out s i v (omega arith)))
 
-  -- ---- what stands there, and elsewhere
+  -- ---- what stands there
 
   pub part-sets : (s : List A) (i : ℕ) (v : List A) → i + length v ≤ length s → take (length v) (drop i (sets s i v)) ≡ v
   part-sets s i v h =
@@ -39,10 +38,3 @@ module _ {A : Type 0} where
       ap (λ (t : List A). take (length v) (drop i t)) (sets-eq v s i h ∙ append-assoc (take i s) v rest)
       ∙ ap (take (length v)) (drop-at (take i s) (v ++ rest) i (length-take-le i s (omega arith)))
       ∙ take-append-seam v rest
-
-  pub getD-sets-other : (s : List A) (i : ℕ) (v : List A) (p : ℕ) (d : A) → (i ≤ p → i + length v ≤ p)
-      → getD (sets s i v) p d ≡ getD s p d
-  getD-sets-other s i [] p d h = refl
-  getD-sets-other s i (a ∷ v) p d h =
-      getD-sets-other (set s i a) (suc i) v p d (λ from. omega (arith, h (omega arith)))
-      ∙ getD-set-other s i p a d (λ e. omega (arith, h (omega arith)))

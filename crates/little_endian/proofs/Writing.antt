@@ -2,7 +2,6 @@
 --
 --   read-written    reading what was written gives the number modulo 256 ^ k
 --   write-read      writing what was read changes nothing
---   read-other      a number that the write does not touch stays
 --   write-byte      a write of one byte
 --   write-add       a write of j + k bytes is that of the j low ones, then that of the next k
 --   write-halves    a write of k + k bytes by halves, where places stop at a last one past the end
@@ -14,14 +13,15 @@ use native.Mathlib.Omega.{arith}
 use mathlib.Core.List.{List}
 use lib.ListN.{length, take, drop, getD, set}
 use lib.Seq.{sets, set-getD, length-sets}
-use Rattle.little_endian.specs.Bytes.{Bytes, fromLe, toLe, leAt}
+use Rattle.little_endian.specs.Bytes.{fromLe, toLe, leAt}
+use Rattle.little_endian.specs.Claim.{ReadWritten, WriteRead}
 use Rattle.little_endian.proofs.Numbers.{length-toLe, to-add, to-mod, from-to}
-use Rattle.little_endian.proofs.Reading.{leAt-suc, leAt-same}
-use Rattle.little_endian.proofs.Stores.{sets-append, sets-past, part-sets, getD-sets-other}
+use Rattle.little_endian.proofs.Reading.{leAt-suc}
+use Rattle.little_endian.proofs.Stores.{sets-append, sets-past, part-sets}
 
 -- ---- there and back
 
-pub read-written : (k n : ℕ) (s : List ℕ) (i : ℕ) → i + k ≤ length s → leAt k (sets s i (toLe k n)) i ≡ n % 256 ^ k
+pub read-written : ReadWritten
 unfolding leAt
 read-written k n s i h =
     let v = toLe k n in
@@ -29,7 +29,7 @@ read-written k n s i h =
     ∙ ap fromLe (part-sets s i v (omega (arith, length-toLe k n)))
     ∙ from-to k n
 
-pub write-read : (k : ℕ) (s : List ℕ) (i : ℕ) → Bytes s → sets s i (toLe k (leAt k s i)) ≡ s
+pub write-read : WriteRead
 unfolding toLe
 write-read zero s i h = refl
 write-read (suc k) s i h =
@@ -37,20 +37,13 @@ write-read (suc k) s i h =
     let rest : leAt (suc k) s i / 256 ≡ leAt k s (suc i) = omega (arith, leAt-suc k s i, h i) in
     rw (low, rest, set-getD, write-read k s (suc i) h)
 
--- ---- elsewhere
-
-pub read-other : (k : ℕ) (s : List ℕ) (i : ℕ) (v : List ℕ) (p : ℕ) → (i < p + k → i + length v ≤ p)
-    → leAt k (sets s i v) p ≡ leAt k s p
-read-other k s i v p h =
-    leAt-same k (sets s i v) s p (λ q from to. getD-sets-other s i v q 0 (λ z. omega (arith, h (omega arith))))
-
 -- ---- byte by byte, and by halves
 
 pub write-byte : (s : List ℕ) (i b : ℕ) → b < 256 → sets s i (toLe 1 b) ≡ set s i b
 unfolding toLe
 write-byte s i b h = ap (set s i) (mod-eq-of-lt h)
 
-pub write-add : (j k n : ℕ) (s : List ℕ) (i : ℕ) → sets s i (toLe (j + k) n) ≡ sets (sets s i (toLe j n)) (i + j) (toLe k (n / 256 ^ j))
+write-add : (j k n : ℕ) (s : List ℕ) (i : ℕ) → sets s i (toLe (j + k) n) ≡ sets (sets s i (toLe j n)) (i + j) (toLe k (n / 256 ^ j))
 write-add j k n s i = rw (to-add, sets-append, length-toLe)
 
 pub write-halves : (k n : ℕ) (s : List ℕ) (i m : ℕ) {t u : List ℕ} {next : ℕ} → length s ≤ m → t ≡ sets s i (toLe k (n % 256 ^ k))

@@ -6,9 +6,6 @@ ghost use lib.ListN.{length};
 ghost use lib.Seq.{sets};
 ghost use Rattle.little_endian.specs.Bytes.{toLe, leAt, numbers as numbersOf, numbersAt};
 
-// The greatest usize: no slice reaches it.
-const LAST: usize = 18446744073709551615;
-
 // The byte at `at`.
 pub fn read8(s: &[u8], at: usize) -> u8
     ensures { λ r. ⌜ r ≡ leAt 1 (now (s .entry)) at ⌝ }
@@ -108,9 +105,13 @@ pub fn write_numbers<'a, 'b>(out: &'a mut [u8], at: usize, numbers: &'b [u64])
     }
 }
 
-// The place `k` bytes after `at`, or the last one.
+// The place `k` bytes after `at`, or the last one, which no slice reaches.
 fn after(at: usize, k: usize) -> usize
     ensures { λ r. ⌜ r ≡ min (at + k) (2 ^ 64 - 1) ⌝ }
 {
-    if at <= LAST - k { at + k } else { LAST }
+    if at <= usize::MAX - k {
+        at + k
+    } else {
+        usize::MAX
+    }
 }

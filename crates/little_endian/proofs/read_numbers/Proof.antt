@@ -27,31 +27,14 @@ loop-holds c =
     let a = c .before .before .args in
     (omega arith, refl, ap (λ (k : ℕ). numbersAt k (now (a .s)) (a .at)) (sub-zero (length (now (a .numbers)))))
 
-read64-requires : tie.Need-read64-requires Inv-loop μ-loop
-read64-requires c κs = search needs
-
-mul-numbers : tie.Need-mul-numbers Inv-loop μ-loop
-mul-numbers c = omega arith
-
-slice-write-numbers : tie.Need-slice-write-numbers Inv-loop μ-loop
-slice-write-numbers c = omega arith
-
-after-requires : tie.Need-after-requires Inv-loop μ-loop
-after-requires c κs = search needs
-
-add-i : tie.Need-add-i Inv-loop μ-loop
-add-i c = omega arith
-
-loop-less : tie.Need-loop-less Inv-loop μ-loop
-loop-less c = omega arith
-
 loop-again : tie.Need-loop-again Inv-loop μ-loop
 loop-again c =
     let r = c .before .read64 in
     let l = c .before .before .before .loop in
     let a = c .before .before .before .before .before .before .args in
     let more =
-    read-more (length (now (a .numbers))) (now (a .s)) (l .numbers) (l .i) (l .place) _ (l .inv .1) (omega arith) (omega arith) (r .ensures) (c .after .ensures) in
+    read-more (length (now (a .numbers))) (now (a .s)) (l .numbers) (l .i) (l .place) _ (l .inv .1) (omega arith) (omega arith)
+    (r .ensures) (c .after .ensures) in
     (omega arith, length-set (l .numbers) (l .i) (r .result) ∙ l .inv .1, more ∙ l .inv .2)
 
 same-length : tie.Need-same-length Inv-loop μ-loop
@@ -73,12 +56,12 @@ read-numbers-spec =
     Inv-loop
     μ-loop
     loop-holds
-    read64-requires
-    mul-numbers
-    slice-write-numbers
-    after-requires
-    add-i
-    loop-less
+    (λ c κs. search needs)
+    (λ c. omega arith)
+    (λ c. omega arith)
+    (λ c κs. search needs)
+    (λ c. omega arith)
+    (λ c. omega arith)
     loop-again
     same-length
     returns)

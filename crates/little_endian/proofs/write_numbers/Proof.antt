@@ -23,30 +23,13 @@ abbrev μ-loop : tie.MeasureT-loop
 loop-holds : tie.Need-loop-holds Inv-loop μ-loop
 loop-holds c = (omega arith, refl, refl)
 
-mul-write64 : tie.Need-mul-write64 Inv-loop μ-loop
-mul-write64 c = omega arith
-
-shared-slice-read-write64 : tie.Need-shared-slice-read-write64 Inv-loop μ-loop
-shared-slice-read-write64 c = omega arith
-
-write64-requires : tie.Need-write64-requires Inv-loop μ-loop
-write64-requires c κs = search needs
-
-after-requires : tie.Need-after-requires Inv-loop μ-loop
-after-requires c κs = search needs
-
-add-i : tie.Need-add-i Inv-loop μ-loop
-add-i c = omega arith
-
-loop-less : tie.Need-loop-less Inv-loop μ-loop
-loop-less c = omega arith
-
 loop-again : tie.Need-loop-again Inv-loop μ-loop
 loop-again c =
     let w = c .before .before .before .write64 in
     let l = c .before .before .before .before .before .before .before .loop in
     let a = c .before .before .before .before .before .before .before .before .before .before .args in
-    (omega arith, ap length (w .ensures) ∙ simp length-sets (l .inv .1), write-more (l .out) (now (a .numbers)) (l .i) (l .place) _ (omega arith) (omega arith) (w .ensures) (c .after .ensures) ∙ l .inv .2)
+    let more = write-more (l .out) (now (a .numbers)) (l .i) (l .place) _ (omega arith) (omega arith) (w .ensures) (c .after .ensures) in
+    (omega arith, ap length (w .ensures) ∙ simp length-sets (l .inv .1), more ∙ l .inv .2)
 
 same-length : tie.Need-same-length Inv-loop μ-loop
 same-length c = c .before .loop .inv .1
@@ -65,12 +48,12 @@ write-numbers-spec =
     Inv-loop
     μ-loop
     loop-holds
-    mul-write64
-    shared-slice-read-write64
-    write64-requires
-    after-requires
-    add-i
-    loop-less
+    (λ c. omega arith)
+    (λ c. omega arith)
+    (λ c κs. search needs)
+    (λ c κs. search needs)
+    (λ c. omega arith)
+    (λ c. omega arith)
     loop-again
     same-length
     returns)
