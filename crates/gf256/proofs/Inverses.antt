@@ -1,24 +1,22 @@
--- Inverses of bytes, and what follows from them.
+-- Inverses of bytes.
 --
---   inverse-byte                    an inverse is a byte
---   inverse-unique                  a byte whose product with a is 1 is the inverse of a
---   inverse-right, inverse-left     the product of a byte other than 0 and its inverse is 1
---   inverse-power                   the inverse is the power 254
---   inverse-pos                     an inverse is not 0
---   one-inverse                     each byte other than 0 has one inverse
---   inverse-undoes                  the inverse takes a factor away
---   product-cancel                  a common factor cancels
---   no-zero-divisors, product-pos   a product is 0 only where a factor is
+--   inverse-byte     an inverse is a byte
+--   inverse-unique   a byte whose product with a is 1 is the inverse of a
+--   inverse-power    the inverse is the power 254
+--   inverse-right,
+--   inverse-left     the product of a byte other than 0 and its inverse is 1
+--   one-inverse      each byte other than 0 has one inverse
 -- Assumes nothing.
 use mathlib.Core.Path.{_≡_, sym, ap, _∙_, subst}
 use mathlib.Core.Bool.{Bool, true, false, cond}
-use mathlib.Core.Logic.{⊎-elim, _⊎_, inl, inr}
+use mathlib.Core.Logic.{⊎-elim}
 use Prim.Native.Nat.{ℕ, zero, suc, _<_, _≤_}
-use native.Mathlib.Nat.{le-of-suc-le-suc, not-suc-le-zero, pos-of-ne-zero, eq-zero-or-pos, eq-or-lt-of-le}
+use native.Mathlib.Nat.{le-of-suc-le-suc, not-suc-le-zero, eq-or-lt-of-le}
 use native.Mathlib.Omega.{arith}
-use lib.Dec.{T, eqb, eqb→eq, lit<}
+use lib.Dec.{T, eqb, eqb→eq}
 use Rattle.gf256.specs.Field.{product, power, inverse, inverseBelow}
-use Rattle.gf256.proofs.Products.{product-comm, product-assoc, product-one-l, product-one-r, product-zero-r}
+use Rattle.gf256.specs.Claim.{OneInverse}
+use Rattle.gf256.proofs.Products.{product-comm, product-assoc, product-one-l, product-one-r}
 use Rattle.gf256.proofs.Powers.{power-byte, power-one, power-add}
 use Rattle.gf256.proofs.Squares.{power-255}
 
@@ -59,7 +57,7 @@ found (suc n) a b hn ha hb e =
 
 -- ---- inverses
 
-pub inverse-unique : (a b : ℕ) → a < 256 → b < 256 → product a b ≡ 1 → inverse a ≡ b
+inverse-unique : (a b : ℕ) → a < 256 → b < 256 → product a b ≡ 1 → inverse a ≡ b
 unfolding inverse
 inverse-unique a b ha hb e = found 256 a b (omega arith) ha hb e
 
@@ -70,38 +68,11 @@ power-254 a h pos =
 pub inverse-power : (a : ℕ) → a < 256 → 0 < a → inverse a ≡ power a 254
 inverse-power a h pos = inverse-unique a (power a 254) h (power-byte a 254 h) (power-254 a h pos)
 
-pub inverse-right : (a : ℕ) → a < 256 → 0 < a → product a (inverse a) ≡ 1
+inverse-right : (a : ℕ) → a < 256 → 0 < a → product a (inverse a) ≡ 1
 inverse-right a h pos = ap (product a) (inverse-power a h pos) ∙ power-254 a h pos
 
 pub inverse-left : (a : ℕ) → a < 256 → 0 < a → product (inverse a) a ≡ 1
 inverse-left a h pos = product-comm (inverse a) a (inverse-byte a) h ∙ inverse-right a h pos
 
-pub inverse-pos : (a : ℕ) → a < 256 → 0 < a → 0 < inverse a
-inverse-pos a h pos =
-    pos-of-ne-zero
-    (λ e. let z : _≡_ {A = ℕ} 0 1 = sym (product-zero-r a) ∙ ap (product a) (sym e) ∙ inverse-right a h pos in omega arith)
-
--- "Each non-zero byte has one inverse"
-pub one-inverse : (a : ℕ) → a < 256 → 0 < a
-    → (inverse a < 256) × (product a (inverse a) ≡ 1) × ((b : ℕ) → b < 256 → product a b ≡ 1 → b ≡ inverse a)
+pub one-inverse : OneInverse
 one-inverse a h pos = (inverse-byte a, inverse-right a h pos, λ b hb e. sym (inverse-unique a b h hb e))
-
--- ---- cancelling
-
-pub inverse-undoes : (a b : ℕ) → a < 256 → 0 < a → b < 256 → product (inverse a) (product a b) ≡ b
-inverse-undoes a b ha pos hb =
-    sym (product-assoc (inverse a) a b (inverse-byte a) ha hb)
-    ∙ ap (λ (x : ℕ). product x b) (inverse-left a ha pos) ∙ product-one-l b hb
-
-pub product-cancel : (a b c : ℕ) → a < 256 → 0 < a → b < 256 → c < 256 → product a b ≡ product a c → b ≡ c
-product-cancel a b c ha pos hb hc e =
-    sym (inverse-undoes a b ha pos hb) ∙ ap (product (inverse a)) e ∙ inverse-undoes a c ha pos hc
-
-pub no-zero-divisors : (a b : ℕ) → a < 256 → b < 256 → product a b ≡ 0 → (a ≡ 0) ⊎ (b ≡ 0)
-no-zero-divisors a b ha hb e =
-    ⊎-elim (λ (z : a ≡ 0). inl z)
-    (λ (pos : 0 < a). inr (product-cancel a b 0 ha pos hb (lit< tt) (e ∙ sym (product-zero-r a)))) (eq-zero-or-pos a)
-
-pub product-pos : (a b : ℕ) → a < 256 → 0 < a → b < 256 → 0 < b → 0 < product a b
-product-pos a b ha pa hb pb =
-    pos-of-ne-zero (λ e. ⊎-elim (λ (z : a ≡ 0). omega arith) (λ (z : b ≡ 0). omega arith) (no-zero-divisors a b ha hb e))

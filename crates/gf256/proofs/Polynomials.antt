@@ -28,20 +28,20 @@ pub coeff-bit : (p i : ℕ) → coeff p i < 2
 unfolding coeff
 coeff-bit p i = mod-lt (p / 2 ^ i) (zero-lt-suc 1)
 
-pub coeff-xor : (p q i : ℕ) → coeff (bitXor p q) i ≡ bitXor (coeff p i) (coeff q i)
+coeff-xor : (p q i : ℕ) → coeff (bitXor p q) i ≡ bitXor (coeff p i) (coeff q i)
 unfolding coeff
 coeff-xor p q i = ap (λ (x : ℕ). x % 2) (xor-shr p q i) ∙ xor-mod (p / 2 ^ i) (q / 2 ^ i) 1
 
-pub coeff-above : (p n i : ℕ) → p < 2 ^ n → n ≤ i → coeff p i ≡ 0
+coeff-above : (p n i : ℕ) → p < 2 ^ n → n ≤ i → coeff p i ≡ 0
 unfolding coeff
 coeff-above p n i hp hi = ap (λ (x : ℕ). x % 2) (div-eq-of-lt (lt-of-lt-of-le hp (pow-mono hi)))
 
 -- the coefficients of c · X^k
-pub coeff-at : (c k : ℕ) → c < 2 → coeff (c * 2 ^ k) k ≡ c
+coeff-at : (c k : ℕ) → c < 2 → coeff (c * 2 ^ k) k ≡ c
 unfolding coeff
 coeff-at c k h = ap (λ (x : ℕ). x % 2) (shl-shr c k) ∙ mod-eq-of-lt h
 
-pub coeff-under : (c k i : ℕ) → i < k → coeff (c * 2 ^ k) i ≡ 0
+coeff-under : (c k i : ℕ) → i < k → coeff (c * 2 ^ k) i ≡ 0
 unfolding coeff
 coeff-under c k i h =
     let d = k - suc i in
@@ -52,14 +52,14 @@ coeff-under c k i h =
 
 -- ---- bits times a polynomial
 
-pub bits-times : (x y m : ℕ) → x < 2 → y < 2 → bitXor x y * m ≡ bitXor (x * m) (y * m)
+bits-times : (x y m : ℕ) → x < 2 → y < 2 → bitXor x y * m ≡ bitXor (x * m) (y * m)
 bits-times x y m hx hy =
     bit-cases (λ (x : ℕ). bitXor x y * m ≡ bitXor (x * m) (y * m)) (ap (λ (z : ℕ). bitXor z (y * m)) (sym (zero-mul m)))
     (bit-cases (λ (y : ℕ). bitXor 1 y * m ≡ bitXor (1 * m) (y * m))
     (sym (ap (bitXor (1 * m)) (zero-mul m) ∙ xor-zero-r (1 * m))) (zero-mul m ∙ sym (xor-self (1 * m))) y hy)
     x hx
 
-pub bit-times : (x a b : ℕ) → x < 2 → x * bitXor a b ≡ bitXor (x * a) (x * b)
+bit-times : (x a b : ℕ) → x < 2 → x * bitXor a b ≡ bitXor (x * a) (x * b)
 bit-times x a b =
     bit-cases (λ (x : ℕ). x * bitXor a b ≡ bitXor (x * a) (x * b))
     (zero-mul (bitXor a b) ∙ sym (ap₂ bitXor (zero-mul a) (zero-mul b)))
@@ -161,9 +161,4 @@ polyProduct-wider n m a b hb h =
 pub remainder-xor : (n p q : ℕ) → remainder n (bitXor p q) ≡ bitXor (remainder n p) (remainder n q)
 unfolding remainder
 remainder-xor zero p q = refl
-remainder-xor (suc k) p q =
-    let m = 285 * 2 ^ k in
-    let c = coeff p (k + 8) * m in
-    let d = coeff q (k + 8) * m in
-    ap (λ (x : ℕ). remainder k (bitXor (bitXor p q) x)) (coeff-xor-times p q (k + 8) m)
-    ∙ ap (remainder k) (xor-swap p q c d) ∙ remainder-xor k (bitXor p c) (bitXor q d)
+remainder-xor (suc k) p q = rw (coeff-xor-times p q (k + 8), xor-swap p q, remainder-xor k)

@@ -2,24 +2,23 @@
 --
 --   power-byte                    a power of a byte is a byte
 --   power-one, power-two          the first power, and the square
---   power-of-zero, power-of-one   powers of 0 and of 1
+--   power-of-zero                 powers of 0
 --   power-add, power-mul          powers of one byte: their product, and a power of a power
---   power-product                 powers of a product
 --   power-odd, power-even         a power by squares, one bit of the exponent further
 -- Assumes nothing.
-use mathlib.Core.Path.{_≡_, refl, sym, ap, _∙_}
+use mathlib.Core.Path.{_≡_, sym, ap, _∙_}
 use Prim.Native.Nat.{ℕ, zero, suc, _+_, _*_, _/_, _%_, _<_}
 use native.Mathlib.Nat.{zero-add, suc-add, mul-zero, mul-suc, add-comm, mul-comm, div-add-mod', not-suc-le-zero}
 use lib.Dec.{lit<}
 use Rattle.gf256.specs.Field.{product, power}
-use Rattle.gf256.proofs.Products.{product-byte, product-comm, product-assoc, product-one-l, product-one-r, product-zero-l}
+use Rattle.gf256.proofs.Products.{product-byte, product-assoc, product-one-l, product-one-r, product-zero-l}
 
 pub power-byte : (a n : ℕ) → a < 256 → power a n < 256
 unfolding power
 power-byte a zero h = lit< tt
 power-byte a (suc n) h = product-byte a (power a n) h (power-byte a n h)
 
--- ---- small exponents, and powers of 0 and 1
+-- ---- small exponents, and powers of 0
 
 pub power-one : (a : ℕ) → a < 256 → power a 1 ≡ a
 unfolding power
@@ -33,11 +32,6 @@ pub power-of-zero : (n : ℕ) → 0 < n → power 0 n ≡ 0
 unfolding power
 power-of-zero zero h = absurd (not-suc-le-zero h)
 power-of-zero (suc n) h = product-zero-l (power 0 n)
-
-pub power-of-one : (n : ℕ) → power 1 n ≡ 1
-unfolding power
-power-of-one zero = refl
-power-of-one (suc n) = ap (product 1) (power-of-one n) ∙ product-one-l 1 (lit< tt)
 
 -- ---- products of powers, and powers of powers
 
@@ -54,21 +48,6 @@ power-mul a m zero h = ap (power a) (sym (mul-zero m))
 power-mul a m (suc n) h =
     ap (product (power a m)) (power-mul a m n h) ∙ sym (power-add a m (m * n) h)
     ∙ ap (power a) (add-comm m (m * n) ∙ sym (mul-suc m n))
-
-pub power-product : (a b n : ℕ) → a < 256 → b < 256 → power (product a b) n ≡ product (power a n) (power b n)
-unfolding power
-power-product a b zero ha hb = sym (product-one-l 1 (lit< tt))
-power-product a b (suc n) ha hb =
-    let p = power a n in
-    let q = power b n in
-    let hp = power-byte a n ha in
-    let hq = power-byte b n hb in
-    ap (product (product a b)) (power-product a b n ha hb)
-    ∙ product-assoc a b (product p q) ha hb (product-byte p q hp hq)
-    ∙ ap (product a)
-    (sym (product-assoc b p q hb hp hq) ∙ ap (λ (x : ℕ). product x q) (product-comm b p hb hp)
-    ∙ product-assoc p b q hp hb hq)
-    ∙ sym (product-assoc a p (product b q) ha hp (product-byte b q hb hq))
 
 -- ---- a power by squares
 

@@ -6,14 +6,17 @@
 --   product-byte                      the product of two bytes is a byte
 --   product-comm, product-assoc       the order of the factors, and their grouping
 --   product-one-l, product-one-r      by 1
+--   field-laws                        all of them, with those of sums
 -- Assumes nothing.
 use mathlib.Core.Path.{_≡_, refl, ap, _∙_}
 use Prim.Native.Nat.{ℕ, _<_}
-use lib.Bits.{bitXor, xor-self}
+use lib.Bits.{bitXor, xor-comm, xor-self, xor-zero-r}
 use lib.Dec.{lit<}
 use Rattle.gf256.specs.Polynomial.{coeff, sumBelow, polyProduct, remainder}
 use Rattle.gf256.specs.Field.{product}
+use Rattle.gf256.specs.Claim.{FieldLaws}
 use Rattle.computed_tests.proofs.Tests.{Function}
+use Rattle.gf256.proofs.Xor.{xor-assoc, xor-byte}
 use Rattle.gf256.proofs.Polynomials.{polyProduct-xor-l, polyProduct-xor-r, remainder-xor}
 use Rattle.gf256.proofs.Remainder.{product-is-remainder}
 use Rattle.gf256.proofs.Linear.{Linear, SameAtPowers, agree}
@@ -97,3 +100,20 @@ product-one-l = agree 1 (product 1) (λ a. a) (product-linear .1 1) (λ a b. ref
 
 pub product-one-r : (a : ℕ) → a < 256 → product a 1 ≡ a
 product-one-r a ha = product-comm a 1 ha (lit< tt) ∙ product-one-l a ha
+
+-- ---- the field
+
+pub field-laws : FieldLaws
+field-laws = record {
+  sum-byte = λ a b ha hb. xor-byte ha hb;
+  sum-comm = xor-comm;
+  sum-assoc = xor-assoc;
+  sum-zero = xor-zero-r;
+  sum-self = xor-self;
+  product-byte = product-byte;
+  product-comm = product-comm;
+  product-assoc = product-assoc;
+  product-one = product-one-r;
+  product-zero = product-zero-r;
+  product-sum = product-xor-r;
+}

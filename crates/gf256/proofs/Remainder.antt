@@ -1,6 +1,5 @@
 -- The product of two bytes is the remainder of their polynomial product by 285, in the sense of division with remainder.
 --
---   IsRemainder p r         p is 285 times some polynomial, plus r, and r is of degree below 8
 --   product-is-remainder    the product of two bytes is a remainder of their polynomial product, and there is no other
 --   remainder-is            `remainder n p` is one of any p of degree below n + 8
 --   remainder-only          no polynomial has two
@@ -12,19 +11,12 @@ use native.Mathlib.Omega.{arith}
 use lib.Bits.{bitXor, xor-comm, xor-self, xor-shr, xor-zero-r, xor-lt}
 use lib.Dec.{lit<}
 use lib.Pow.{pow-pos, pow-mono, shl-lt, shr-lt, shl-shr, shr-shr}
-use Rattle.gf256.specs.Polynomial.{coeff, sumBelow, polyProduct, remainder}
+use Rattle.gf256.specs.Polynomial.{coeff, sumBelow, polyProduct, remainder, IsRemainder}
 use Rattle.gf256.specs.Field.{product}
+use Rattle.gf256.specs.Claim.{ProductIsRemainder}
 use Rattle.computed_tests.proofs.Tests.{equal-below}
 use Rattle.gf256.proofs.Xor.{xor-swap, xor-twice, xor-equal, xor-byte}
 use Rattle.gf256.proofs.Polynomials.{coeff-bit, polyProduct-xor-r, polyProduct-lt, polyProduct-term, polyProduct-wider}
-
--- the quotient is any polynomial: its degree is below some width
-pub record IsRemainder (p r : ℕ) : Type 0 where
-  pub width : ℕ
-  pub quotient : ℕ
-  pub quotient-below : quotient < 2 ^ width
-  pub divided : p ≡ bitXor (polyProduct width 285 quotient) r
-  pub byte : r < 256
 
 -- ---- remainders of bytes, of multiples of 285, and of sums
 
@@ -86,7 +78,7 @@ lowered k p h =
     subst (λ (n : ℕ). lower < n) (one-mul (2 ^ (k + 8)))
     (div-lt-iff-lt-mul (pow-pos (k + 8)) .0 (subst (λ (x : ℕ). x < 1) (sym (taken-off k p h)) (zero-lt-suc 0)))
 
-pub remainder-is : (n p : ℕ) → p < 2 ^ (n + 8) → IsRemainder p (remainder n p)
+remainder-is : (n p : ℕ) → p < 2 ^ (n + 8) → IsRemainder p (remainder n p)
 unfolding remainder
 remainder-is zero p h = of-byte p h
 remainder-is (suc k) p h =
@@ -124,14 +116,13 @@ of-zero r x =
     let e : multiple ≡ r = xor-equal multiple r (sym (x .divided)) in
     sym e ∙ small-multiple (x .width) (x .quotient) (subst (λ (y : ℕ). y < 256) (sym e) (x .byte))
 
-pub remainder-only : (p r s : ℕ) → IsRemainder p r → IsRemainder p s → r ≡ s
+remainder-only : (p r s : ℕ) → IsRemainder p r → IsRemainder p s → r ≡ s
 remainder-only p r s x y =
     xor-equal r s (of-zero (bitXor r s) (subst (λ (z : ℕ). IsRemainder z (bitXor r s)) (xor-self p) (of-sum x y)))
 
 -- ---- the product of bytes
 
-pub product-is-remainder : (a b : ℕ) → a < 256 → b < 256
-    → IsRemainder (polyProduct 8 a b) (product a b) × ((r : ℕ) → IsRemainder (polyProduct 8 a b) r → r ≡ product a b)
+pub product-is-remainder : ProductIsRemainder
 unfolding product
 product-is-remainder a b ha hb =
     let is = remainder-is 7 (polyProduct 8 a b) (polyProduct-lt 8 7 a b ha) in

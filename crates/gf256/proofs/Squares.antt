@@ -25,7 +25,7 @@ use Rattle.gf256.proofs.Powers.{power-byte, power-one, power-two, power
 
 -- ---- squares
 
-pub square-xor : (a b : ℕ) → a < 256 → b < 256 → product (bitXor a b) (bitXor a b) ≡ bitXor (product a a) (product b b)
+square-xor : (a b : ℕ) → a < 256 → b < 256 → product (bitXor a b) (bitXor a b) ≡ bitXor (product a a) (product b b)
 square-xor a b ha hb =
     let s = product a a in
     let m = product a b in
@@ -61,7 +61,7 @@ same-squared : (i : ℕ) → i < 8 → squared 8 (2 ^ i) ≡ 2 ^ i
 unfolding squared product polyProduct sumBelow coeff remainder
 same-squared = equal-below 8 1 (λ i. squared 8 (2 ^ i)) (λ i. 2 ^ i) refl
 
-pub power-256 : (a : ℕ) → a < 256 → power a 256 ≡ a
+power-256 : (a : ℕ) → a < 256 → power a 256 ≡ a
 power-256 a h =
     sym (squared-power 8 a h)
     ∙ sums (λ (x : ℕ). (x < 256) × (squared 8 x ≡ x))

@@ -1,3 +1,4 @@
 pub mod Polynomial
 pub mod Field
 pub mod Answer
+pub mod Claim

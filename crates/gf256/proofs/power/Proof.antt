@@ -24,15 +24,6 @@ loop-holds c =
     let h : c .args .a < 256 = search needs in
     (product-one-l (power (c .args .a) (c .args .n)) (power-byte (c .args .a) (c .args .n) h), search needs, h)
 
-product-requires : tie.Need-product-requires Inv-loop μ-loop
-product-requires c κs = search needs
-
-product-requires-2 : tie.Need-product-requires-2 Inv-loop μ-loop
-product-requires-2 c κs = search needs
-
-loop-less : tie.Need-loop-less Inv-loop μ-loop
-loop-less c = omega arith
-
 loop-again : tie.Need-loop-again Inv-loop μ-loop
 loop-again c =
     let l = c .before .before .before .loop in
@@ -65,8 +56,8 @@ power-spec =
     Inv-loop
     μ-loop
     loop-holds
-    product-requires
-    product-requires-2
-    loop-less
+    (λ c κs. search needs)
+    (λ c κs. search needs)
+    (λ c. omega arith)
     loop-again
     returns)

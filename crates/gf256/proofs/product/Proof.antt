@@ -23,12 +23,6 @@ abbrev μ-loop : tie.MeasureT-loop
 loop-holds : tie.Need-loop-holds Inv-loop μ-loop
 loop-holds c = (refl, search needs, search needs)
 
-double-requires : tie.Need-double-requires Inv-loop μ-loop
-double-requires c κs = search needs
-
-loop-less : tie.Need-loop-less Inv-loop μ-loop
-loop-less c = omega arith
-
 loop-again : tie.Need-loop-again Inv-loop μ-loop
 loop-again c =
     let l = c .before .before .before .loop in
@@ -55,4 +49,4 @@ returns c =
 
 pub product-spec : {M : Type 1} → statement M
 product-spec =
-    tie.close (tie.spec Inv-loop μ-loop loop-holds double-requires loop-less loop-again returns)
+    tie.close (tie.spec Inv-loop μ-loop loop-holds (λ c κs. search needs) (λ c. omega arith) loop-again returns)
