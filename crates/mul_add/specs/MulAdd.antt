@@ -2,6 +2,7 @@
 --
 --   mulAdd w fragment buffer              one fragment, with the weight w
 --   mulAddAll weight fragment ks buffer   for each number k in ks, one after another, fragment k with weight k
+--   sumBytes xs ys                        the sum of two equally long lists, byte by byte
 -- Assumes nothing.
 use Prim.Native.Nat.{ℕ}
 use mathlib.Core.List.{List, [], _∷_}
@@ -18,3 +19,9 @@ mulAdd w (x ∷ fragment) (b ∷ buffer) = bitXor b (product w x) ∷ mulAdd w f
 unfoldable pub mulAddAll : (ℕ → ℕ) → (ℕ → List ℕ) → List ℕ → List ℕ → List ℕ
 mulAddAll weight fragment [] buffer = buffer
 mulAddAll weight fragment (k ∷ ks) buffer = mulAddAll weight fragment ks (mulAdd (weight k) (fragment k) buffer)
+
+-- "Sum is exclusive or"
+unfoldable pub sumBytes : List ℕ → List ℕ → List ℕ
+sumBytes [] ys = []
+sumBytes (x ∷ xs) [] = []
+sumBytes (x ∷ xs) (y ∷ ys) = bitXor x y ∷ sumBytes xs ys

@@ -60,10 +60,9 @@ module _ (rule : ℕ → ℕ → ℕ) (n : ℕ) (X : Contents) (v : ℕ) where
       ∙ product-zero-r (rule (suc i) v))
       ∙ sumBelow-none n
 
-  pub parityByte-byte : ((f : ℕ) → 0 < f → f ≤ n → rule f v < 256)
-      → ((f : ℕ) → 0 < f → f ≤ n → (p : ℕ) → getD (X f) p 0 < 256) → (p : ℕ) → parityByte rule n X v p < 256
+  pub parityByte-byte : (p : ℕ) → ((f : ℕ) → 0 < f → f ≤ n → rule f v < 256)
+      → ((f : ℕ) → getD (X f) p 0 < 256) → parityByte rule n X v p < 256
   unfolding parityByte
-  parityByte-byte hr hX p =
+  parityByte-byte p hr hX =
       sumBelow-lt n 8 (λ i. product (rule (suc i) v) (getD (X (suc i)) p 0))
-      (λ i l.
-      product-byte (rule (suc i) v) (getD (X (suc i)) p 0) (hr (suc i) (omega arith) l) (hX (suc i) (omega arith) l p))
+      (λ i l. product-byte (rule (suc i) v) (getD (X (suc i)) p 0) (hr (suc i) (omega arith) l) (hX (suc i)))

@@ -1,8 +1,9 @@
 -- What a volume's data is, over any rule for the coefficients.
 --
---   files-parity    every file, times its coefficient, added to zeros in any order: the parity
---   shares-parity   two shares of the files, each added to zeros, and summed: the parity
---   volume-data     `files-parity` at document 01's coefficients
+--   files-parity                every file, times its coefficient, added to zeros in any order: the parity
+--   volume-data                 the same at document 01's coefficients
+--   volume-shares               and in two shares
+--   parity-bytes, parity-ends   at these coefficients the parity of bytes is a byte, and past the greatest size it is 0
 -- Assumes nothing.
 use mathlib.Core.Path.{_≡_, sym, ap, ap₂, _∙_}
 use mathlib.Core.Bool.{Bool, cond}
@@ -14,18 +15,19 @@ use lib.ListN.{length, getD, replicate, length-replicate, getD-replicate}
 use lib.Seq.{ext-getD}
 use Rattle.gf256.specs.Field.{product}
 use Rattle.gf256.proofs.Polynomials.{sumBelow-same}
-use Rattle.parity.specs.Claim.{VolumeData}
-use Rattle.parity.specs.Coefficient.{coefficient}
 use Rattle.mul_add.specs.MulAdd.{mulAddAll}
 use Rattle.mul_add.specs.Once.{Once}
-use Rattle.parity.specs.Parity.{Contents, isFile, parityByte, parity}
-use Rattle.mul_add.proofs.MulAdds.{sumBytes, length-mulAddAll, mulAddAll-shares}
-use Rattle.parity.proofs.Files.{isFile-in, isFile-inside}
 use Rattle.mul_add.proofs.AnyOrder.{mulAddAll-once}
-use Rattle.parity.proofs.Parities.{length-parity, parity-at}
+use Rattle.mul_add.proofs.MulAdds.{length-mulAddAll, mulAddAll-shares}
+use Rattle.parity.specs.Claim.{VolumeData, VolumeShares, ParityBytes, ParityEnds}
+use Rattle.parity.specs.Coefficient.{coefficient}
+use Rattle.parity.specs.Parity.{Contents, isFile, parityByte, parity}
+use Rattle.parity.proofs.Coefficients.{coefficient-byte}
+use Rattle.parity.proofs.Files.{isFile-in, isFile-inside}
+use Rattle.parity.proofs.Parities.{length-parity, parity-at, parityByte-byte, parityByte-end}
 
 module _ (rule : ℕ → ℕ → ℕ) (n : ℕ) (X : Contents) (v m : ℕ) where
-  pub files-parity : (ks : List ℕ) → Once (isFile n) ks
+  files-parity : (ks : List ℕ) → Once (isFile n) ks
       → mulAddAll (λ f. rule f v) X ks (replicate m 0) ≡ parity rule n X v m
   unfolding parityByte
   files-parity ks once =
@@ -43,10 +45,15 @@ module _ (rule : ℕ → ℕ → ℕ) (n : ℕ) (X : Contents) (v m : ℕ) where
       (λ i l. ap (λ (t : Bool). cond t (byte (suc i)) 0) (isFile-in n (suc i) (omega arith) l)))
       ∙ sym (parity-at rule n X v m p inside))
 
-  pub shares-parity : (ks ls : List ℕ) → Once (isFile n) (ks ++ ls)
-      → sumBytes (mulAddAll (λ f. rule f v) X ks (replicate m 0)) (mulAddAll (λ f. rule f v) X ls (replicate m 0))
-      ≡ parity rule n X v m
-  shares-parity ks ls once = mulAddAll-shares (λ f. rule f v) X ks ls m ∙ files-parity (ks ++ ls) once
-
 pub volume-data : VolumeData
 volume-data = files-parity coefficient
+
+pub volume-shares : VolumeShares
+volume-shares n X v m ks ls once = mulAddAll-shares (λ f. coefficient f v) X ks ls m ∙ volume-data n X v m (ks ++ ls) once
+
+pub parity-bytes : ParityBytes
+parity-bytes n X v p h hX =
+    parityByte-byte coefficient n X v p (λ f pos l. coefficient-byte f v (omega arith)) (λ f. hX f p)
+
+pub parity-ends : ParityEnds
+parity-ends n X v p h = parityByte-end coefficient n X v p h

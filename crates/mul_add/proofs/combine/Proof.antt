@@ -23,27 +23,6 @@ loop-holds : tie.Need-loop-holds Inv-loop μ-loop
 unfolding sumBelow
 loop-holds c = (omega arith, refl)
 
-sub-if-high : tie.Need-sub-if-high Inv-loop μ-loop
-sub-if-high c = omega arith
-
-cast-if-high : tie.Need-cast-if-high Inv-loop μ-loop
-cast-if-high c = omega arith
-
-shl-if-high : tie.Need-shl-if-high Inv-loop μ-loop
-shl-if-high c = omega arith
-
-array-read-if-high : tie.Need-array-read-if-high Inv-loop μ-loop
-array-read-if-high c = omega arith
-
-if-high-requires : tie.Need-if-high-requires Inv-loop μ-loop
-if-high-requires c κs = search needs
-
-add-i : tie.Need-add-i Inv-loop μ-loop
-add-i c = omega arith
-
-loop-less : tie.Need-loop-less Inv-loop μ-loop
-loop-less c = omega arith
-
 loop-again : tie.Need-loop-again Inv-loop μ-loop
 unfolding sumBelow
 loop-again c =
@@ -68,12 +47,12 @@ combine-spec =
     Inv-loop
     μ-loop
     loop-holds
-    sub-if-high
-    cast-if-high
-    shl-if-high
-    array-read-if-high
-    if-high-requires
-    add-i
-    loop-less
+    (λ c. omega arith)
+    (λ c. omega arith)
+    (λ c. omega arith)
+    (λ c. omega arith)
+    (λ c κs. search needs)
+    (λ c. omega arith)
+    (λ c. omega arith)
     loop-again
     returns)

@@ -19,34 +19,10 @@ Inv-loop weight fragment buffer₀ multiples n p₀ buffer p =
 abbrev μ-loop : tie.MeasureT-loop
 μ-loop weight fragment buffer₀ multiples n p₀ buffer p = n - p
 
-multiples-requires : tie.Need-multiples-requires Inv-loop μ-loop
-multiples-requires c κs = search needs
-
-least-requires : tie.Need-least-requires Inv-loop μ-loop
-least-requires c κs = search needs
-
 loop-holds : tie.Need-loop-holds Inv-loop μ-loop
 loop-holds c =
     let a = c .before .before .before .before .args in
     (omega arith, mulAdd-none (a .weight) (a .fragment .now) (a .buffer .now), refl)
-
-slice-read-buffer : tie.Need-slice-read-buffer Inv-loop μ-loop
-slice-read-buffer c = omega arith
-
-shared-slice-read-combine : tie.Need-shared-slice-read-combine Inv-loop μ-loop
-shared-slice-read-combine c = omega arith
-
-combine-requires : tie.Need-combine-requires Inv-loop μ-loop
-combine-requires c κs = search needs
-
-slice-write-buffer : tie.Need-slice-write-buffer Inv-loop μ-loop
-slice-write-buffer c = omega arith
-
-add-p : tie.Need-add-p Inv-loop μ-loop
-add-p c = omega arith
-
-loop-less : tie.Need-loop-less Inv-loop μ-loop
-loop-less c = omega arith
 
 loop-again : tie.Need-loop-again Inv-loop μ-loop
 loop-again c =
@@ -77,15 +53,15 @@ mul-add-spec =
     (tie.spec
     Inv-loop
     μ-loop
-    multiples-requires
-    least-requires
+    (λ c κs. search needs)
+    (λ c κs. search needs)
     loop-holds
-    slice-read-buffer
-    shared-slice-read-combine
-    combine-requires
-    slice-write-buffer
-    add-p
-    loop-less
+    (λ c. omega arith)
+    (λ c. omega arith)
+    (λ c κs. search needs)
+    (λ c. omega arith)
+    (λ c. omega arith)
+    (λ c. omega arith)
     loop-again
     same-length
     returns)
