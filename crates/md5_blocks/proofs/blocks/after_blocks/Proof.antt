@@ -17,7 +17,9 @@ unfolding sines
 blocks-requires-2 c κs = refl
 
 returns : tie.Need-returns
-returns c = c .blocks3 .ensures ∙ ap (λ (w : Words). allBlocks w (now (c .before .before .before .before .before .before .args .more))) (c .before .before .blocks2 .ensures)
+returns c =
+    let more = now (c .before .before .before .before .before .before .args .more) in
+    c .blocks3 .ensures ∙ ap (λ (w : Words). allBlocks w more) (c .before .before .blocks2 .ensures)
 
 pub after-blocks-spec : {M : Type 1} → statement M
 after-blocks-spec = tie.close (tie.spec blocks-requires blocks-requires-2 returns)

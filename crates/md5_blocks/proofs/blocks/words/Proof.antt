@@ -22,24 +22,6 @@ loop-holds : tie.Need-loop-holds Inv-loop μ-loop
 unfolding wordsOf
 loop-holds c = (omega arith, refl, refl)
 
-mul-read32 : tie.Need-mul-read32 Inv-loop μ-loop
-mul-read32 c = omega arith
-
-read32-requires : tie.Need-read32-requires Inv-loop μ-loop
-read32-requires c κs = search needs
-
-mul-x : tie.Need-mul-x Inv-loop μ-loop
-mul-x c = omega arith
-
-array-write-x : tie.Need-array-write-x Inv-loop μ-loop
-array-write-x c = omega arith
-
-add-k : tie.Need-add-k Inv-loop μ-loop
-add-k c = omega arith
-
-loop-less : tie.Need-loop-less Inv-loop μ-loop
-loop-less c = omega arith
-
 loop-again : tie.Need-loop-again Inv-loop μ-loop
 unfolding wordsOf
 loop-again c =
@@ -60,11 +42,11 @@ words-spec =
     Inv-loop
     μ-loop
     loop-holds
-    mul-read32
-    read32-requires
-    mul-x
-    array-write-x
-    add-k
-    loop-less
+    (λ c. omega arith)
+    (λ c κs. search needs)
+    (λ c. omega arith)
+    (λ c. omega arith)
+    (λ c. omega arith)
+    (λ c. omega arith)
     loop-again
     returns)

@@ -12,10 +12,14 @@ rotl-requires c κs = rw (c .shift .ensures) (shift-range (c .before .before .be
 
 returns : tie.Need-returns
 returns c =
-    let a = c .before .before .before .before .before .before .before .before .before .before .args in
-    operation-is (now (a .t)) (now (a .x)) (a .j) (a .a) (a .b) (a .c) (a .d) (c .before .before .before .before .before .before .before .before .before .before .pre) (c .before .before .before .before .before .before .before .before .before .word .ensures .1) (c .before .before .before .before .before .before .before .before .auxiliary .ensures)
-    (c .before .before .before .before .before .before .before .wrapping-add-u32 .ensures) (c .before .before .before .before .wrapping-add-u322 .ensures) (c .before .before .before .wrapping-add-u323 .ensures) (c .before .before .shift .ensures)
-    (c .before .rotl .ensures) (c .wrapping-add-u324 .ensures)
+    let summed = c .before .before .before in
+    let left = summed .before .before .before .before in
+    let found = left .before .before in
+    let start = found .before in
+    let a = start .args in
+    operation-is (now (a .t)) (now (a .x)) (a .j) (a .a) (a .b) (a .c) (a .d) (start .pre) (found .word .ensures .1)
+    (left .before .auxiliary .ensures) (left .wrapping-add-u32 .ensures) (summed .before .wrapping-add-u322 .ensures)
+    (summed .wrapping-add-u323 .ensures) (c .before .before .shift .ensures) (c .before .rotl .ensures) (c .wrapping-add-u324 .ensures)
 
 pub operation-spec : {M : Type 1} → statement M
 operation-spec =
