@@ -1,6 +1,6 @@
 -- The padding of a message.
 --
---   padding-aligns   a padded message is whole blocks: its length before the last 8 bytes is 56, modulo 64
+--   padding-aligns   a padded message is whole blocks, by as few zeros as can be
 --   padding-mod      only the length modulo 2 ^ 64 counts
 --   padding-is       what the code's buffer holds in its first bytes
 -- Assumes nothing.
@@ -14,10 +14,11 @@ use lib.Seq.{sets, sets-eq, take-at}
 use Rattle.little_endian.specs.Bytes.{toLe}
 use Rattle.little_endian.proofs.Numbers.{length-toLe, to-mod}
 use Rattle.md5.specs.Padding.{zeros, padding}
+use Rattle.md5.specs.Claim.{PaddingAligns}
 
-pub padding-aligns : (n : ℕ) → (n + 1 + zeros n) % 64 ≡ 56
+pub padding-aligns : PaddingAligns
 unfolding zeros
-padding-aligns n = omega arith
+padding-aligns n = (omega arith, omega arith)
 
 pub padding-mod : (n : ℕ) → padding (n % 2 ^ 64) ≡ padding n
 unfolding padding zeros

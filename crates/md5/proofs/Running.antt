@@ -3,17 +3,16 @@
 --   push-state     a push after the message m
 --   run-state      any run of pushes
 --   finish-state   the end after the message m
+--   whole-digest   the end of one push: the digest of the bytes
 --   run-digest     the end of any run of pushes: the digest of the parts, joined
---   digest-whole   the end of one push: the digest of the bytes
 --   push-short, push-long   a push, as the code works it out: all the bytes wait, or the tail is filled and whole blocks follow
 -- Assumes nothing.
 use mathlib.Core.Path.{_≡_, sym, ap, ap₂, _∙_}
 use Prim.Native.Nat.{ℕ, _+_, _-_, _*_, _/_, _%_, _^_, _≤_, _<_}
-use native.Mathlib.Nat.{le-of-eq}
 use native.Mathlib.Omega.{arith}
 use mathlib.Core.List.{List, [], _∷_, _++_, append-assoc, append-nil, flatten}
-use lib.ListN.{length, take, drop, replicate, length-append, length-drop, take-append-drop}
-use lib.Seq.{paste, take-all, length-take-le}
+use lib.ListN.{length, take, drop, replicate, length-append, take-append-drop}
+use lib.Seq.{paste, length-take-le}
 use Rattle.md5_blocks.specs.declared.rounds.Words.{Words}
 use Rattle.md5_blocks.specs.Blocks.{allBlocks, rest}
 use Rattle.md5_blocks.proofs.BlockLaws.{all-short, all-one, all-cons, all-join, rest-short, rest-cons, rest-join, length-rest}
@@ -21,6 +20,7 @@ use Rattle.md5.specs.declared.Md5.{Md5}
 use Rattle.md5.specs.Padding.{padding, padded}
 use Rattle.md5.specs.Digest.{start, output, md5}
 use Rattle.md5.specs.Running.{tailOf, stateOf, waiting, pushed, finished, pushedAll}
+use Rattle.md5.specs.Claim.{WholeDigest, RunDigest}
 use Rattle.md5.proofs.PaddingLaws.{padding-mod}
 use Rattle.md5.proofs.Tail.{tail-fill, tail-first, tail-full, take-tail}
 
@@ -40,7 +40,7 @@ push-state m bs =
     let total : (length m % 2 ^ 64 + length bs) % 2 ^ 64 ≡ length (m ++ bs) % 2 ^ 64 = omega (arith, length-append m bs) in
     cc (words, left, total)
 
-pub run-state : (m : List ℕ) (ps : List (List ℕ)) → pushedAll (stateOf m) ps ≡ stateOf (m ++ flatten ps)
+run-state : (m : List ℕ) (ps : List (List ℕ)) → pushedAll (stateOf m) ps ≡ stateOf (m ++ flatten ps)
 unfolding flatten
 run-state m [] = ap stateOf (sym (append-nil m))
 run-state m (p ∷ ps) =
@@ -53,11 +53,11 @@ finish-state m =
     (ap₂ (λ (l p : List ℕ). allBlocks (allBlocks start m) (l ++ p)) (waiting-state m) (padding-mod (length m))
     ∙ sym (all-join (padding (length m)) start m))
 
-pub run-digest : (ps : List (List ℕ)) → finished (pushedAll (stateOf []) ps) ≡ md5 (flatten ps)
-run-digest ps = ap finished (run-state [] ps) ∙ finish-state (flatten ps)
+pub whole-digest : WholeDigest
+whole-digest m = ap finished (push-state [] m) ∙ finish-state m
 
-pub digest-whole : (m : List ℕ) {none all : Md5} → none ≡ stateOf [] → all ≡ pushed none m → finished all ≡ md5 m
-digest-whole m e f = ap finished (f ∙ ap (λ (h : Md5). pushed h m) e ∙ push-state [] m) ∙ finish-state m
+pub run-digest : RunDigest
+run-digest ps = ap finished (run-state [] ps) ∙ finish-state (flatten ps)
 
 -- ---- a push, as the code works it out
 
@@ -73,7 +73,8 @@ module _ (h : Md5) (bs : List ℕ) (tailed : length (h .tail) ≡ 64) {clean : L
       let m : List ℕ = waiting h ++ bs in
       let small : length m < 64 = omega (arith, length-append (waiting h) bs, length-waiting) in
       let words : h .words ≡ allBlocks (h .words) m = sym (all-short (h .words) m small) in
-      let left : tail ≡ tailOf (rest m) = tail-fill (waiting h) bs length-waiting (tail-first (waiting h) cleaned) filled ∙ ap tailOf (sym (rest-short m small)) in
+      let kept : tail ≡ tailOf m = tail-fill (waiting h) bs length-waiting (tail-first (waiting h) cleaned) filled in
+      let left : tail ≡ tailOf (rest m) = kept ∙ ap tailOf (sym (rest-short m small)) in
       cc (words, left, counted)
 
   pub push-long : {first tail : List ℕ} {words : Words} (more last : List ℕ) → 64 - h .total % 64 ≤ length bs

@@ -11,7 +11,9 @@ returns c =
     let second = c .before .before .before .before .before .before .before .before .before .before in
     let first = second .before .before .before .before in
     let a = first .before .before .before .args in
-    output-stores (a .w) (now (a .out)) (first .write32 .ensures) (second .write322 .ensures) (c .before .before .before .before .before .before .write323 .ensures) (c .before .before .write324 .ensures)
+    let third = c .before .before .before .before .before .before in
+    output-stores (a .w) (now (a .out)) (first .write32 .ensures) (second .write322 .ensures) (third .write323 .ensures)
+    (c .before .before .write324 .ensures)
 
 pub put-words-spec : {M : Type 1} → statement M
 put-words-spec =

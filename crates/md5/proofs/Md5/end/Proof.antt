@@ -26,7 +26,8 @@ returns : tie.Need-returns
 unfolding pushed
 returns c =
     let s = c .before .before .before .before .before .args .self in
-    ap (λ (h : Md5). h .words) (c .before .push .ensures) ∙ ap (λ (p : List ℕ). allBlocks (s .words) (waiting s ++ p)) (c .before .before .before .before .padding-of .ensures .1)
+    ap (λ (h : Md5). h .words) (c .before .push .ensures)
+    ∙ ap (λ (p : List ℕ). allBlocks (s .words) (waiting s ++ p)) (c .before .before .before .before .padding-of .ensures .1)
 
 pub end-spec : {M : Type 1} → statement M
 end-spec =

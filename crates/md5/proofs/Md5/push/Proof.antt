@@ -28,7 +28,8 @@ fill-requires c κs = simp length-take (omega (arith, tailed (c .before .before 
 returns : tie.Need-returns
 returns c =
     let s = c .before .before .before .before .before .before .before .before in
-    push-short (s .args .self) (now (s .args .bytes)) (tailed s) (c .before .before .fill .ensures) (c .before .before .before .before .wrapping-add-u64 .ensures) (c .before .if1 .taken) (c .fill2 .ensures)
+    push-short (s .args .self) (now (s .args .bytes)) (tailed s) (c .before .before .fill .ensures)
+    (c .before .before .before .before .wrapping-add-u64 .ensures) (c .before .if1 .taken) (c .fill2 .ensures)
 
 slice-aggregate-fill-2 : tie.Need-slice-aggregate-fill-2
 slice-aggregate-fill-2 c = simp length-take (omega arith)
@@ -38,13 +39,16 @@ fill-requires-3 c κs = simp length-take (omega arith)
 
 returns-2 : tie.Need-returns-2
 returns-2 c =
-    let s = c .before .before .before .before .before .before .before .before .before .before .before .before .before .before in
+    let long = c .before .before .before .before .before .before .before in
+    let filled = long .before in
+    let s = filled .before .before .before .before .before .before in
     let bs : List ℕ = now (s .args .bytes) in
     let k : ℕ = 64 - s .args .self .total % 64 in
     let more : List ℕ = take (length bs - k) (drop k bs) in
     let m : ℕ = length more / 64 * 64 in
-    push-long (s .args .self) bs (tailed s) (c .before .before .before .before .before .before .before .before .fill .ensures) (c .before .before .before .before .before .before .before .before .before .before .wrapping-add-u64 .ensures) more (take (length more - m) (drop m more))
-    (c .before .before .before .before .before .before .before .if1 .left) (c .before .before .before .before .before .fill3 .ensures) (part-to-end bs k) (part-to-end more m) (c .before .before .fill4 .ensures) (c .after-blocks .ensures)
+    push-long (s .args .self) bs (tailed s) (filled .fill .ensures) (filled .before .before .wrapping-add-u64 .ensures) more
+    (take (length more - m) (drop m more)) (long .if1 .left) (c .before .before .before .before .before .fill3 .ensures)
+    (part-to-end bs k) (part-to-end more m) (c .before .before .fill4 .ensures) (c .after-blocks .ensures)
 
 pub push-spec : {M : Type 1} → statement M
 push-spec =
