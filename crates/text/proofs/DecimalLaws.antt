@@ -2,19 +2,14 @@
 --
 --   decimal-one, decimal-more    decimal, as equations: one digit, and the last of several
 --   decimal-induct    what holds of a digit, and of a number with one digit more, holds of every number
---   withDigit v c     the number v with one digit more
---   valueOf w         the number that the digits w spell
---   decimal-value     a number's digits spell the number
 --   decimal-length    a number below 10 ^ (k + 1) has at most k + 1 digits
---   isDigit c, allDigits w     whether a character is a decimal digit, whether all of them are
---   isDecimal w       w is one or more decimal digits, with no leading zero but in "0" itself
---   decimal-shape     a number's digits have no leading zero
---   value-decimal     digits with no leading zero are those of the number that they spell
+--   decimal-spells    a number's digits spell the number, with no leading zero
+--   decimal-only      digits with no leading zero are those of the number that they spell
 -- Assumes nothing.
 use mathlib.Core.Path.{_≡_, refl, sym, ap, ap₂, _∙_, subst}
 use mathlib.Core.Bool.{Bool, true, false, not, _&&_, and-true, and-assoc, false≢true}
 use mathlib.Core.List.{List, [], _∷_, _++_, append-nil, foldl, foldl-append}
-use Prim.Native.Nat.{ℕ, zero, suc, _+_, _-_, _*_, _/_, _%_, _^_, _≤_, _<_}
+use Prim.Native.Nat.{ℕ, zero, suc, _+_, _-_, _/_, _%_, _^_, _≤_, _<_}
 use native.Mathlib.Nat.{lt-suc-self, pow-succ'}
 use native.Mathlib.Omega.{arith}
 use borrow.Author.Tests.{ltb-true, ltb-false, leb-true, eqb-false, lt-ltb, le-ltb, le-leb, ne-eqb, not-true}
@@ -22,7 +17,8 @@ use lib.ListN.{length, length-append}
 use lib.Seq.{append-snoc}
 use lib.Dec.{leb, ltb, eqb}
 use Rattle.computed_tests.proofs.Tests.{and-both}
-use Rattle.text.specs.Decimal.{digit, decimalIn, decimal}
+use Rattle.text.specs.Decimal.{digit, decimalIn, decimal, withDigit, valueOf, isDigit, allDigits, isDecimal}
+use Rattle.text.specs.Claim.{DecimalSpells, DecimalOnly}
 
 -- ---- decimal, as equations
 
@@ -59,19 +55,12 @@ module _ (P : ℕ → List ℕ → Type 0)
       by true e r = let g = ltb-true n 10 e in subst (P n) (sym (decimal-one n g)) (one n g)
       by false e r = let g = ltb-false n 10 e in subst (P n) (sym (decimal-more n g)) (more n _ g (r (n / 10) (omega arith)))
 
-  pub decimal-induct : (n : ℕ) → P n (decimal n)
+  decimal-induct : (n : ℕ) → P n (decimal n)
   decimal-induct n = induct-in (suc n) n (lt-suc-self n)
 
 -- ---- the value
 
--- v, and after its digits the digit c
-abbrev pub withDigit : ℕ → ℕ → ℕ
-withDigit v c = v * 10 + (c - 48)
-
-unfoldable pub valueOf : List ℕ → ℕ
-valueOf w = foldl withDigit 0 w
-
-pub decimal-value : (n : ℕ) → valueOf (decimal n) ≡ n
+decimal-value : (n : ℕ) → valueOf (decimal n) ≡ n
 unfolding valueOf
 decimal-value =
     decimal-induct (λ n w. valueOf w ≡ n) (λ n h. omega arith)
@@ -90,20 +79,6 @@ decimal-length = decimal-induct (λ n w. (k : ℕ) → n < 10 ^ suc k → length
         omega (arith, length-append w (digit (n % 10) ∷ []), r k q)
 
 -- ---- the shape
-
--- c is one of the characters 0 to 9
-abbrev pub isDigit : ℕ → Bool
-isDigit c = leb 48 c && leb c 57
-
-unfoldable pub allDigits : List ℕ → Bool
-allDigits [] = true
-allDigits (c ∷ w) = isDigit c && allDigits w
-
--- one digit, or more of which the first is not 0
-unfoldable pub isDecimal : List ℕ → Bool
-isDecimal [] = false
-isDecimal (c ∷ []) = isDigit c
-isDecimal (c ∷ d ∷ w) = not (eqb c 48) && allDigits (c ∷ d ∷ w)
 
 digit-is : (d : ℕ) → d < 10 → isDigit (digit d) ≡ true
 digit-is d h = simp (le-leb 48 (48 + d) (omega arith), le-leb (48 + d) 57 (omega arith))
@@ -148,10 +123,13 @@ decimal-led [] e f = f
 decimal-led (c ∷ []) e f = sym (and-true (isDigit c)) ∙ e
 decimal-led (c ∷ d ∷ w) e f = simp (f, e)
 
-pub decimal-shape : (n : ℕ) → isDecimal (decimal n) ≡ true
+decimal-shape : (n : ℕ) → isDecimal (decimal n) ≡ true
 unfolding isDecimal decimal decimalIn
 decimal-shape zero = refl
 decimal-shape (suc n) = let z = spells (suc n) in decimal-led (decimal (suc n)) (z .digits) (z .led (omega arith))
+
+pub decimal-spells : DecimalSpells
+decimal-spells n = (decimal-value n, decimal-shape n)
 
 -- ---- from the digits
 
@@ -182,11 +160,11 @@ decimal-on v (c ∷ w) h e =
     ∙ ap (λ (u : List ℕ). u ++ w) (decimal-with c (b .0) v h)
     ∙ append-snoc (decimal v) c w
 
-pub value-decimal : (w : List ℕ) → isDecimal w ≡ true → decimal (valueOf w) ≡ w
+pub decimal-only : DecimalOnly
 unfolding isDecimal allDigits valueOf
-value-decimal [] e = absurd (false≢true e)
-value-decimal (c ∷ []) e = decimal-digit c e
-value-decimal (c ∷ d ∷ w) e =
+decimal-only [] e = absurd (false≢true e)
+decimal-only (c ∷ []) e = decimal-digit c e
+decimal-only (c ∷ d ∷ w) e =
     let b = and-both (not (eqb c 48)) (allDigits (c ∷ d ∷ w)) e in
     let g = and-both (isDigit c) (allDigits (d ∷ w)) (b .1) in
     let low = digit-within c (g .0) in

@@ -5,7 +5,7 @@
 --   put b t      b after the text t: what lies inside is written, what lies past the end is only counted
 -- Assumes nothing.
 use mathlib.Core.List.{List}
-use Prim.Native.Nat.{ℕ, _+_, min}
+use Prim.Native.Nat.{ℕ, _+_, _-_, _^_, min}
 use lib.ListN.{length}
 use lib.Seq.{sets}
 
@@ -18,7 +18,7 @@ buffer bytes at = record { bytes = bytes; at = at }
 
 -- the greatest position, at which counting stops
 abbrev pub usizeMax : ℕ
-usizeMax = 18446744073709551615
+usizeMax = 2 ^ 64 - 1
 
 -- `sets l i t` stores the elements of t in l from index i on; a store past the end of l changes nothing
 unfoldable pub put : Buffer → List ℕ → Buffer

@@ -3,15 +3,18 @@
 --   digit d        the character of the digit d
 --   digitsBy b n front, decimalIn k n     the digits of n, where b says whether it is one digit; at most k of them
 --   decimal n      the digits of n, the greatest place first, with no leading zero; 0 is "0"
--- `decimal-value`, `decimal-shape` and `value-decimal` (proofs/DecimalLaws) show that these digits spell n and have no leading
--- zero, and that no others do both.
+--   withDigit v c  the number v with one digit more
+--   valueOf w      the number that the digits w spell
+--   isDigit c, allDigits w     whether a character is a decimal digit, whether all of them are
+--   isDecimal w    whether w is one or more decimal digits, with no leading zero but in "0" itself
 -- Assumes nothing.
-use mathlib.Core.Bool.{Bool, true, false}
-use mathlib.Core.List.{List, [], _∷_, _++_}
-use Prim.Native.Nat.{ℕ, zero, suc, _+_, _/_, _%_}
-use lib.Dec.{ltb}
+use mathlib.Core.Bool.{Bool, true, false, not, _&&_}
+use mathlib.Core.List.{List, [], _∷_, _++_, foldl}
+use Prim.Native.Nat.{ℕ, zero, suc, _+_, _-_, _*_, _/_, _%_}
+use lib.Dec.{leb, ltb, eqb}
 
--- the character of the digit d
+-- ---- the digits of a number
+
 abbrev pub digit : ℕ → ℕ
 digit d = 48 + d
 
@@ -28,3 +31,26 @@ decimalIn (suc k) n = digitsBy (ltb n 10) n (λ m. decimalIn k m)
 -- n has no more than n + 1 digits
 unfoldable pub decimal : ℕ → List ℕ
 decimal n = decimalIn (suc n) n
+
+-- ---- what digits spell
+
+-- v, and after its digits the digit c
+abbrev pub withDigit : ℕ → ℕ → ℕ
+withDigit v c = v * 10 + (c - 48)
+
+unfoldable pub valueOf : List ℕ → ℕ
+valueOf w = foldl withDigit 0 w
+
+-- c is one of the characters 0 to 9
+abbrev pub isDigit : ℕ → Bool
+isDigit c = leb 48 c && leb c 57
+
+unfoldable pub allDigits : List ℕ → Bool
+allDigits [] = true
+allDigits (c ∷ w) = isDigit c && allDigits w
+
+-- one digit, or more of which the first is not 0
+unfoldable pub isDecimal : List ℕ → Bool
+isDecimal [] = false
+isDecimal (c ∷ []) = isDigit c
+isDecimal (c ∷ d ∷ w) = not (eqb c 48) && allDigits (c ∷ d ∷ w)

@@ -2,11 +2,12 @@
 --
 --   hexDigit d     the character of the digit d
 --   hexByte b      the two digits of the byte b
--- `hex-value` (proofs/HexLaws) shows that the digits of a byte spell it.
+--   hexDigitValue c     the digit of the character c
+--   hexValue w     the number that the digits w spell
 -- Assumes nothing.
 use mathlib.Core.Bool.{cond}
-use mathlib.Core.List.{List, [], _∷_}
-use Prim.Native.Nat.{ℕ, _+_, _/_, _%_}
+use mathlib.Core.List.{List, [], _∷_, foldl}
+use Prim.Native.Nat.{ℕ, _+_, _-_, _*_, _/_, _%_}
 use lib.Dec.{ltb}
 
 -- the character of the digit d: 0 to 9, then a to f
@@ -15,3 +16,10 @@ hexDigit d = cond (ltb d 10) (48 + d) (87 + d)
 
 abbrev pub hexByte : ℕ → List ℕ
 hexByte b = hexDigit (b / 16) ∷ hexDigit (b % 16) ∷ []
+
+-- the digit of the character c
+unfoldable pub hexDigitValue : ℕ → ℕ
+hexDigitValue c = cond (ltb c 97) (c - 48) (c - 87)
+
+unfoldable pub hexValue : List ℕ → ℕ
+hexValue w = foldl (λ v c. v * 16 + hexDigitValue c) 0 w

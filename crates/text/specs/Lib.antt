@@ -1,4 +1,5 @@
 pub mod Ascii
 pub mod Buffer
+pub mod Claim
 pub mod Decimal
 pub mod Hex

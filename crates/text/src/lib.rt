@@ -3,12 +3,9 @@
 ghost use mathlib.Core.Path.{_≡_};
 ghost use mathlib.Core.List.{[], _∷_};
 ghost use Prim.Native.Nat.{_+_, _<_, min};
-ghost use Rattle.text.specs.Buffer.{buffer, usizeMax};
-ghost use Rattle.text.specs.Buffer.{put as putOf};
+ghost use Rattle.text.specs.Buffer.{buffer, usizeMax, put as putOf};
 ghost use Rattle.text.specs.Decimal.{decimal};
 ghost use Rattle.text.specs.Hex.{hexDigit, hexByte};
-
-const USIZE_MAX: usize = 18446744073709551615;
 
 // One byte at position `at`. Like every put, it answers the position after what it put.
 pub fn put(out: &mut [u8], at: usize, byte: u8) -> usize
@@ -57,7 +54,7 @@ pub fn put_hex(out: &mut [u8], at: usize, byte: u8) -> usize
 fn next(at: usize) -> usize
     ensures { λ r. ⌜ r ≡ min (at + 1) usizeMax ⌝ }
 {
-    if at < USIZE_MAX { at + 1 } else { at }
+    if at < usize::MAX { at + 1 } else { at }
 }
 
 // The character of the hexadecimal digit `d`.
