@@ -1,5 +1,5 @@
-// Refusals (document 01, "What comes back"): the numbers of its table, the limits that they test (document 01, "Sizes"), and tests one
-// after another.
+// Refusals: the limits (document 01, "Sizes"), the numbers of the table of refusals (document 01, "What comes back"), and tests one after
+// another.
 ghost use mathlib.Core.Path.{_≡_};
 ghost use Rattle.refusals.specs.Tests.{test, orElse};
 
