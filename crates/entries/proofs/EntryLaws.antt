@@ -3,20 +3,19 @@
 --   Sized n m, sized   an entry of n bytes may stand at the front of m bytes, in numbers
 --   first-end, first-size, first-file-size, first-name, first-entry     firstOf, by what the tests found
 --   IsEntry, IsFault, is-end, is-entry, is-fault      what each answer of firstOf tells
---   EntryAt, entry-at, end-at, fault-at               the same at a position of a list
+--   EntryAt, entry-at                                 an entry at a position of a list, as a loop over it meets it
 -- Assumes nothing.
 use mathlib.Core.Path.{_≡_, refl, sym, ap, _∙_, subst}
 use mathlib.Core.Bool.{Bool, true, false, cond, _&&_}
 use mathlib.Core.List.{List, [], _∷_}
-use Prim.Native.Nat.{ℕ, _+_, _-_, _%_, _≤_, _<_}
+use Prim.Native.Nat.{ℕ, _+_, _%_, _≤_, _<_}
 use native.Mathlib.Omega.{arith}
 use lib.Dec.{leb, eqb}
 use lib.ListN.{length, take, drop, length-drop}
-use lib.Seq.{length-take-le}
+use lib.Seq.{length-take-le, drop-drop}
 use borrow.Author.Tests.{leb-true, eqb-true}
 use Rattle.computed_tests.proofs.Tests.{and-both}
-use Rattle.lent_bytes.proofs.PartLaws.{part-to-end}
-use Rattle.entries.specs.Entry.{entrySize, statusOf, fileSizeOf, nameOf, unitsOf, nameAllowed, fileSizeAllowed, entrySizeAllowed, bodyAllowed, entryAllowed, lengthOf}
+use Rattle.entries.specs.Entry.{entrySize, statusOf, fileSizeOf, nameOf, nameAllowed, fileSizeAllowed, entrySizeAllowed, bodyAllowed, entryAllowed, lengthOf}
 use Rattle.entries.specs.Walk.{faultOf, itemOf, firstOf}
 use Rattle.entries.specs.declared.Fault.{Fault}
 use Rattle.entries.specs.declared.Fault.the-variants as fault
@@ -61,11 +60,11 @@ module _ (s : List ℕ) (some : 0 < length s) {n : ℕ} (size-is : n ≡ entrySi
     first-file-size f = first-some s some ∙ simp (sym size-is, size, f)
 
     module _ (file-size : fileSizeAllowed (fileSizeOf (take n s)) ≡ true) where
-      pub first-name : nameAllowed (unitsOf (nameOf (take n s))) ≡ false → firstOf s ≡ item.Fault fault.Name
+      pub first-name : nameAllowed (nameOf (take n s)) ≡ false → firstOf s ≡ item.Fault fault.Name
       unfolding entryAllowed bodyAllowed faultOf
       first-name r = first-some s some ∙ simp (sym size-is, size, file-size, r)
 
-      pub first-entry : nameAllowed (unitsOf (nameOf (take n s))) ≡ true → firstOf s ≡ itemOf (take n s)
+      pub first-entry : nameAllowed (nameOf (take n s)) ≡ true → firstOf s ≡ itemOf (take n s)
       unfolding entryAllowed bodyAllowed
       first-entry r = first-some s some ∙ simp (sym size-is, size, file-size, r)
 
@@ -149,25 +148,22 @@ module _ {s : List ℕ} where
       by : View s (item.Fault f) → IsFault s f
       by (view-fault i) = i
 
--- ---- at a position of a list, as a loop over it meets them
+-- ---- at a position of a list
 
 -- an entry of n bytes stands at the position
 pub record EntryAt (s : List ℕ) (at n status size : ℕ) : Type 0 where
   pub entry : IsEntry (drop at s) n status size
   pub low : 58 ≤ n
   pub fits : at + n ≤ length s
+  pub next : drop n (drop at s) ≡ drop (at + n) s
 
-module _ (s : List ℕ) (at : ℕ) {i : Item} (answer : i ≡ firstOf (take (length s - at) (drop at s))) where
-  answer-is : i ≡ firstOf (drop at s)
-  answer-is = answer ∙ ap firstOf (part-to-end s at)
-
-  pub entry-at : {n status size : ℕ} → i ≡ item.Entry n status size → EntryAt s at n status size
-  entry-at e =
-      let found = is-entry (sym e ∙ answer-is) in
-      record { entry = found; low = found .low; fits = omega (arith, found .low, found .high, length-drop at s) }
-
-  pub end-at : i ≡ item.End → drop at s ≡ []
-  end-at e = is-end (sym e ∙ answer-is)
-
-  pub fault-at : {f : Fault} → i ≡ item.Fault f → IsFault (drop at s) f
-  fault-at e = is-fault (sym e ∙ answer-is)
+pub entry-at : (s : List ℕ) (at : ℕ) {n status size : ℕ} {i : Item} → i ≡ firstOf (drop at s) → i ≡ item.Entry n status size
+    → EntryAt s at n status size
+entry-at s at {n} answer e =
+    let found = is-entry (sym e ∙ answer) in
+    record {
+      entry = found;
+      low = found .low;
+      fits = omega (arith, found .low, found .high, length-drop at s);
+      next = drop-drop n at s;
+    }

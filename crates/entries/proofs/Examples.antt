@@ -5,7 +5,7 @@ use mathlib.Core.List.{List, [], _∷_, _++_}
 use Prim.Native.Nat.{ℕ}
 use lib.ListN.{replicate}
 use Rattle.little_endian.specs.Bytes.{fromLe, toLe, leAt}
-use Rattle.entries.specs.Entry.{unitsOf, unitAllowed, nameAllowed, entrySizeAllowed, bodyAllowed, entryAllowed}
+use Rattle.entries.specs.Entry.{unitsOf, unitAllowed, unitsAllowed, nameAllowed, entrySizeAllowed, bodyAllowed, entryAllowed}
 use Rattle.entries.specs.Numbering.{fileNumber}
 use Rattle.entries.specs.Walk.{faultOf, firstOf}
 use Rattle.entries.specs.declared.Fault.the-variants as fault
@@ -24,7 +24,7 @@ edges :
     × (firstOf (entry 58 16777217 65) ≡ Fault fault.FileSize)
     × (firstOf (entry 58 0 47) ≡ Fault fault.Name)
     × (firstOf (entry 58 0 92) ≡ Fault fault.Name)
-unfolding entry fromLe toLe leAt unitsOf unitAllowed nameAllowed entrySizeAllowed bodyAllowed entryAllowed faultOf firstOf
+unfolding entry fromLe toLe leAt unitsOf unitAllowed unitsAllowed nameAllowed entrySizeAllowed bodyAllowed entryAllowed faultOf firstOf
 edges = (refl, refl, refl, refl, refl, refl, refl, refl)
 
 -- no more than a status, which tells whether the entry is saved

@@ -1,7 +1,7 @@
 -- The name rule, unit by unit, at a position of a name.
 --
 --   units-none, units-more   the units from a position on: none where less than a unit is left, else the unit there and the others
---   name-end, name-more      the same of the rule
+--   rule-none, rule-more     the same of the rule on the units
 -- Assumes nothing.
 use mathlib.Core.Path.{_≡_, refl, sym, ap, _∙_}
 use mathlib.Core.Bool.{Bool, true, _&&_}
@@ -13,7 +13,7 @@ use lib.ListN.{length, drop, length-drop}
 use lib.Seq.{drop-drop}
 use Rattle.little_endian.specs.Bytes.{leAt}
 use Rattle.little_endian.proofs.Reading.{leAt-drop}
-use Rattle.entries.specs.Entry.{unitsOf, unitAllowed, nameAllowed}
+use Rattle.entries.specs.Entry.{unitsOf, unitAllowed, unitsAllowed}
 
 units-short : (s : List ℕ) → length s < 2 → unitsOf s ≡ []
 unfolding unitsOf
@@ -35,11 +35,11 @@ module _ (s : List ℕ) (at : ℕ) where
   units-more h =
       units-long (drop at s) (omega (arith, length-drop at s)) ∙ rw (leAt-drop, add-zero, drop-drop)
 
-  pub name-end : length s < at + 2 → nameAllowed (unitsOf (drop at s)) ≡ true
-  unfolding nameAllowed
-  name-end h = ap nameAllowed (units-none h)
+  pub rule-none : length s < at + 2 → unitsAllowed (unitsOf (drop at s)) ≡ true
+  unfolding unitsAllowed
+  rule-none h = ap unitsAllowed (units-none h)
 
-  pub name-more : {r : Bool} → at + 2 ≤ length s → r ≡ unitAllowed (leAt 2 s at)
-      → nameAllowed (unitsOf (drop at s)) ≡ (r && nameAllowed (unitsOf (drop (at + 2) s)))
-  unfolding nameAllowed
-  name-more {r} h e = ap nameAllowed (units-more h) ∙ ap (λ (b : Bool). b && nameAllowed (unitsOf (drop (at + 2) s))) (sym e)
+  pub rule-more : {r : Bool} → at + 2 ≤ length s → r ≡ unitAllowed (leAt 2 s at)
+      → unitsAllowed (unitsOf (drop at s)) ≡ (r && unitsAllowed (unitsOf (drop (at + 2) s)))
+  unfolding unitsAllowed
+  rule-more {r} h e = ap unitsAllowed (units-more h) ∙ ap (λ (b : Bool). b && unitsAllowed (unitsOf (drop (at + 2) s))) (sym e)

@@ -1,7 +1,9 @@
 -- The walk over a list, entry by entry.
 --
 --   entries-more   an entry at the front is the first entry
+--   entries-none   there is none where the front is the end or a fault
 --   walkFrom t c   the totals t and those of the entries c, where nothing is left after them; or the fault there
+--   saved-most     an entry is one saved entry at most
 --   walk-start     the walk from no entries at all
 --   walk-more, walk-end, walk-fault    a step of the walk, by what is at the front
 --   Filled s t     the entries of s fill it, and t are their totals
@@ -11,25 +13,38 @@
 -- Assumes nothing.
 use mathlib.Core.Path.{_≡_, refl, sym, ap, ap₂, _∙_}
 use mathlib.Core.Bool.{Bool, true, false, cond}
+use mathlib.Core.Logic.{inl, inr}
 use mathlib.Core.List.{List, [], _∷_, map, foldr}
 use Prim.Native.Nat.{ℕ, _+_, _≤_, _<_, max}
 use native.Mathlib.Omega.{arith}
 use lib.ListN.{length, take, drop}
+use types.Run.{OneOf}
+use denote.Enum.Declared.{tagOf}
+use Rattle.entries.proofs.Item.{the-type}
 use Rattle.cut_lists.specs.Pieces.{Cut, before}
 use Rattle.cut_lists.proofs.CutLaws.{cut-none, cut-stop, cut-more}
-use Rattle.entries.specs.Entry.{statusOf, fileSizeOf, isSaved, isCounted, lengthOf}
+use Rattle.entries.specs.Entry.{statusOf, fileSizeOf, isSaved, savedCount, isCounted, lengthOf}
 use Rattle.entries.specs.Numbering.{keep, savedOf}
-use Rattle.entries.specs.Walk.{faultOf, entriesOf, totalsOf, addEntry, walkedTo, walkOf}
+use Rattle.entries.specs.Walk.{faultOf, firstOf, entriesOf, totalsOf, addEntry, walkedTo, walkOf}
 use Rattle.entries.specs.declared.Fault.{Fault}
+use Rattle.entries.specs.declared.Item.{Item}
+use Rattle.entries.specs.declared.Item.the-variants as item
 use Rattle.entries.specs.declared.Totals.{Totals}
 use Rattle.entries.specs.declared.Walked.{Walked}
 use Rattle.entries.specs.declared.Walked.the-variants as walked
-use Rattle.entries.proofs.EntryLaws.{IsEntry, IsFault}
+use Rattle.entries.proofs.EntryLaws.{IsEntry, IsFault, is-end, is-fault}
 
 pub entries-more : {s : List ℕ} {n status size : ℕ} → IsEntry s n status size → entriesOf s ≡ before (take n s) (entriesOf (drop n s))
 entries-more {s} i =
     cut-more lengthOf s (omega (arith, i .low, i .high)) (omega (arith, i .low, i .length-is))
     ∙ ap (λ (k : ℕ). before (take k s) (entriesOf (drop k s))) (i .length-is)
+
+-- no entry more: the item at the front is the end or a fault, as the else of `let Item::Entry { .. } = item else` tells
+pub entries-none : (s : List ℕ) (i : Item) → i ≡ firstOf s → OneOf (1 ∷ 2 ∷ []) (tagOf the-type i) → entriesOf s .pieces ≡ []
+entries-none s (item.Entry n status size) e (inl k) = absurd (omega arith)
+entries-none s (item.Entry n status size) e (inr k) = absurd (omega arith)
+entries-none s item.End e k = ap (λ (t : List ℕ). entriesOf t .pieces) (is-end e) ∙ ap (λ (c : Cut). c .pieces) (cut-none lengthOf)
+entries-none s (item.Fault f) e k = ap (λ (c : Cut). c .pieces) (cut-stop lengthOf s (is-fault e .length-zero))
 
 -- ---- totals
 
@@ -49,9 +64,9 @@ abbrev greatest : List (List ℕ) → ℕ
 greatest es = foldr max 0 (map (λ e. fileSizeOf e) es)
 
 plus-saved : (b : Bool) (n : ℕ) (e : List ℕ) (es : List (List ℕ))
-    → cond b (n + 1) n + length es ≡ n + length (cond b (e ∷ es) es)
+    → n + cond b 1 0 + length es ≡ n + length (cond b (e ∷ es) es)
 plus-saved true n e es = omega arith
-plus-saved false n e es = refl
+plus-saved false n e es = omega arith
 
 plus-greatest : (b : Bool) (n : ℕ) (e : List ℕ) (es : List (List ℕ))
     → max (cond b (max n (fileSizeOf e)) n) (greatest es) ≡ max n (greatest (cond b (e ∷ es) es))
@@ -65,9 +80,12 @@ plus-entry t e es =
     same (omega arith) (plus-saved (isSaved (statusOf e)) (t .saved) e (savedOf es))
     (plus-greatest (isCounted (statusOf e)) (t .greatest) e (keep (λ e. isCounted (statusOf e)) es))
 
-one-most : (b : Bool) (n : ℕ) → cond b (n + 1) n ≤ n + 1
-one-most true n = omega arith
-one-most false n = omega arith
+pub saved-most : (status : ℕ) → savedCount status ≤ 1
+saved-most status = by (isSaved status)
+  where
+    by : (b : Bool) → cond b 1 0 ≤ 1
+    by true = omega arith
+    by false = omega arith
 
 -- what an entry more changes
 pub record Added (t u : Totals) : Type 0 where
@@ -76,7 +94,7 @@ pub record Added (t u : Totals) : Type 0 where
 
 pub add-added : (t : Totals) (status size : ℕ) → Added t (addEntry t status size)
 unfolding addEntry
-add-added t status size = record { entries-is = refl; saved-most = one-most (isSaved status) (t .saved) }
+add-added t status size = record { entries-is = refl; saved-most = omega (arith, saved-most status) }
 
 -- ---- the walk, step by step
 

@@ -5,7 +5,9 @@
 --   statusOf e, fileSizeOf e, md5Of e, md5Of16k e, nameOf e     the fields of the entry e; the name in bytes
 --   unitsOf n           the 16-bit units of the bytes n
 --   isSaved st, isCounted st   whether an entry with the status st is saved in the parity, and whether it counts for the data size
---   unitAllowed u, nameAllowed us     whether a unit may stand in a name, and whether the units us may be one
+--   savedCount st       how many saved entries an entry with the status st is: 1, or 0
+--   unitAllowed u, unitsAllowed us    whether a unit may stand in a name, and whether each of the units us may
+--   nameAllowed n       whether the bytes n are a name
 --   entrySizeAllowed n m     whether an entry of n bytes may stand at the front of m bytes
 --   fileSizeAllowed n   whether a listed file may have n bytes
 --   bodyAllowed e       whether what the entry e says, but for its size, keeps the rules
@@ -50,6 +52,9 @@ unitsOf (a ∷ b ∷ s) = leAt 2 (a ∷ b ∷ s) 0 ∷ unitsOf s
 abbrev pub isSaved : ℕ → Bool
 isSaved status = eqb (status % 2) 1
 
+abbrev pub savedCount : ℕ → ℕ
+savedCount status = cond (isSaved status) 1 0
+
 -- "In a volume its size is the greatest file size in the list": every entry counts
 unfoldable pub isCounted : ℕ → Bool
 isCounted status = true
@@ -60,9 +65,13 @@ isCounted status = true
 unfoldable pub unitAllowed : ℕ → Bool
 unitAllowed u = not (eqb u 47) && not (eqb u 92)
 
+unfoldable pub unitsAllowed : List ℕ → Bool
+unitsAllowed [] = true
+unitsAllowed (u ∷ us) = unitAllowed u && unitsAllowed us
+
+-- "a name has one unit or more", and whole units
 unfoldable pub nameAllowed : List ℕ → Bool
-nameAllowed [] = true
-nameAllowed (u ∷ us) = unitAllowed u && nameAllowed us
+nameAllowed name = leb 2 (length name) && eqb (length name % 2) 0 && unitsAllowed (unitsOf name)
 
 -- "A listed file: 0 to 16,777,216 bytes"
 abbrev pub fileSizeAllowed : ℕ → Bool
@@ -74,7 +83,7 @@ entrySizeAllowed n m = eqb (n % 2) 0 && leb 58 n && leb n m
 
 -- the rules on what an entry says
 unfoldable pub bodyAllowed : List ℕ → Bool
-bodyAllowed e = fileSizeAllowed (fileSizeOf e) && nameAllowed (unitsOf (nameOf e))
+bodyAllowed e = fileSizeAllowed (fileSizeOf e) && nameAllowed (nameOf e)
 
 unfoldable pub entryAllowed : List ℕ → Bool
 entryAllowed s = entrySizeAllowed (entrySize s) (length s) && bodyAllowed (take (entrySize s) s)

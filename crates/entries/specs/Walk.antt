@@ -16,7 +16,7 @@ use mathlib.Core.Bool.{cond}
 use mathlib.Core.List.{List, [], _∷_, map, foldr}
 use lib.ListN.{length, take}
 use Rattle.cut_lists.specs.Pieces.{Cut, cut}
-use Rattle.entries.specs.Entry.{entrySize, statusOf, fileSizeOf, isSaved, isCounted, entrySizeAllowed, fileSizeAllowed, entryAllowed, lengthOf}
+use Rattle.entries.specs.Entry.{entrySize, statusOf, fileSizeOf, savedCount, isCounted, entrySizeAllowed, fileSizeAllowed, entryAllowed, lengthOf}
 use Rattle.entries.specs.Numbering.{keep, savedOf}
 use Rattle.entries.specs.declared.Fault.{Fault}
 use Rattle.entries.specs.declared.Fault.the-variants.{Size, FileSize, Name}
@@ -58,7 +58,7 @@ unfoldable pub addEntry : Totals → ℕ → ℕ → Totals
 addEntry t status size =
     record {
       entries = t .entries + 1;
-      saved = cond (isSaved status) (t .saved + 1) (t .saved);
+      saved = t .saved + savedCount status;
       greatest = cond (isCounted status) (max (t .greatest) size) (t .greatest);
     }
 

@@ -2,7 +2,8 @@
 ghost use mathlib.Core.Path.{_≡_};
 ghost use mathlib.Core.Bool.{cond};
 ghost use Prim.Native.Nat.{_+_, _<_, _^_, max};
-ghost use Rattle.entries.specs.Entry.{unitAllowed, nameAllowed, unitsOf, entrySizeAllowed, isSaved, isCounted};
+ghost use lib.ListN.{drop};
+ghost use Rattle.entries.specs.Entry.{unitAllowed, unitsAllowed, nameAllowed, unitsOf, entrySizeAllowed, isSaved, savedCount, isCounted};
 ghost use Rattle.entries.specs.Walk.{faultNumber, firstOf, addEntry, walkOf};
 
 // The shortest entry: 56 bytes of fields, and a name of one unit.
@@ -78,6 +79,16 @@ pub fn first(list: &[u8]) -> Item
     }
 }
 
+// What stands at the place `from` of `list`: an entry, or the end of the list, or a fault. Past the end there is nothing.
+pub fn at(list: &[u8], from: usize) -> Item
+    ensures { λ r. ⌜ r ≡ firstOf (drop from (now (list .entry))) ⌝ }
+{
+    if list.len() < from {
+        return Item::End;
+    }
+    first(&list[from..])
+}
+
 // The totals of the entries of `list`.
 pub fn walk(list: &[u8]) -> Walked
     ensures { λ r. ⌜ r ≡ walkOf (now (list .entry)) ⌝ }
@@ -87,16 +98,16 @@ pub fn walk(list: &[u8]) -> Walked
         saved: 0,
         greatest: 0,
     };
-    let mut at: usize = 0;
+    let mut from: usize = 0;
     loop {
-        match first(&list[at..]) {
+        match at(list, from) {
             Item::Entry {
                 length,
                 status,
                 size,
             } => {
                 totals = added(totals, status, size);
-                at += length;
+                from += length;
             }
             Item::End => return Walked::Entries(totals),
             Item::Fault(fault) => return Walked::Fault(fault),
@@ -104,18 +115,17 @@ pub fn walk(list: &[u8]) -> Walked
     }
 }
 
-// Whether a name is allowed in an entry.
+// Whether the bytes of a name are allowed: one unit or more, whole units, each of them allowed.
 pub fn name_allowed(name: &[u8]) -> bool
-    ensures { λ r. ⌜ r ≡ nameAllowed (unitsOf (now (name .entry))) ⌝ }
+    ensures { λ r. ⌜ r ≡ nameAllowed (now (name .entry)) ⌝ }
 {
-    let mut at: usize = 0;
-    while 2 <= name.len() - at {
-        if !unit_allowed(little_endian::read16(name, at)) {
-            return false;
-        }
-        at += 2;
+    if name.len() < 2 {
+        return false;
     }
-    true
+    if name.len() % 2 != 0 {
+        return false;
+    }
+    units_allowed(name)
 }
 
 // Whether an entry with this status is saved in the parity.
@@ -123,6 +133,13 @@ pub fn is_saved(status: u64) -> bool
     ensures { λ r. ⌜ r ≡ isSaved status ⌝ }
 {
     status % 2 == 1
+}
+
+// How many saved entries an entry with this status is: 1, or 0.
+pub fn saved_count(status: u64) -> u64
+    ensures { λ r. ⌜ r ≡ savedCount status ⌝ }
+{
+    if is_saved(status) { 1 } else { 0 }
 }
 
 // The number of the refusal for a fault.
@@ -149,6 +166,20 @@ fn entry_size_allowed(size: u64, room: usize) -> bool
     size <= room as u64
 }
 
+// Whether each unit of a name is allowed.
+fn units_allowed(name: &[u8]) -> bool
+    ensures { λ r. ⌜ r ≡ unitsAllowed (unitsOf (now (name .entry))) ⌝ }
+{
+    let mut at: usize = 0;
+    while 2 <= name.len() - at {
+        if !unit_allowed(little_endian::read16(name, at)) {
+            return false;
+        }
+        at += 2;
+    }
+    true
+}
+
 // Whether a unit may stand in a name: any but a slash and a backslash.
 fn unit_allowed(unit: u16) -> bool
     ensures { λ r. ⌜ r ≡ unitAllowed unit ⌝ }
@@ -166,20 +197,9 @@ fn added(totals: Totals, status: u64, size: u64) -> Totals
 {
     Totals {
         entries: totals.entries + 1,
-        saved: saved_after(totals.saved, status),
+        saved: totals.saved + saved_count(status),
         greatest: greatest_after(totals.greatest, status, size),
     }
-}
-
-// The number of saved entries with one entry more.
-fn saved_after(saved: u64, status: u64) -> u64
-    requires { ⌜ saved + 1 < 2 ^ 64 ⌝ }
-    ensures { λ r. ⌜ r ≡ cond (isSaved status) (saved + 1) saved ⌝ }
-{
-    if is_saved(status) {
-        return saved + 1;
-    }
-    saved
 }
 
 // The greatest size that counts, with one entry more.

@@ -4,8 +4,8 @@
 --   lines-most            the lines of entries are no longer than the entries
 --   refusal-most          reading refuses with a number of one digit
 --   listing-shorter       the listing of an accepted file is shorter than the file
---   input-listing-most    the listing of any input has at most 65,536 bytes
---   input-listing-fits    so room of 65,536 bytes is never too short for it
+--   input-most            the listing of any input has at most 65,536 bytes
+--   input-fits            so room of 65,536 bytes is never too short for it
 -- Assumes nothing.
 use mathlib.Core.Path.{_≡_, refl, sym, ap, _∙_, subst}
 use mathlib.Core.Bool.{Bool, true, false, cond, _&&_, _||_}
@@ -16,20 +16,19 @@ use lib.Dec.{leb, eqb}
 use lib.ListN.{length, take, drop, length-append, length-take, length-drop, length-map}
 use lib.Seq.{length-take-le}
 use borrow.Author.Tests.{leb-true, eqb-true}
+use Rattle.refusals.specs.Limits.{maxFileSize, maxVolumeLength, maxFiles, maxListedLength}
 use Rattle.computed_tests.proofs.Tests.{and-both}
-use Rattle.lent_bytes.specs.Writing.{written}
-use Rattle.lent_bytes.specs.declared.Writing.the-variants.{Written}
 use Rattle.lent_bytes.proofs.WritingLaws.{written-fits}
 use Rattle.cut_lists.specs.All.{All, all-none, all-more}
 use Rattle.cut_lists.proofs.CutLaws.{cut-all, cut-count, cut-length}
-use Rattle.entries.specs.Entry.{entrySize, statusOf, fileSizeOf, nameOf, unitsOf, isSaved, entrySizeAllowed, fileSizeAllowed, bodyAllowed, entryAllowed, lengthOf}
+use Rattle.entries.specs.Entry.{entrySize, statusOf, fileSizeOf, nameOf, unitsOf, isSaved, savedCount, entrySizeAllowed, fileSizeAllowed, bodyAllowed, entryAllowed, lengthOf}
 use Rattle.entries.specs.Walk.{faultNumber, walkOf}
 use Rattle.entries.specs.declared.Fault.{Fault}
 use Rattle.entries.specs.declared.Fault.the-variants.{Size, FileSize, Name}
 use Rattle.entries.specs.declared.Walked.{Walked}
 use Rattle.entries.specs.declared.Walked.the-variants as walked
 use Rattle.entries.proofs.EntryLaws.{sized}
-use Rattle.entries.proofs.WalkLaws.{walk-count, walk-saved}
+use Rattle.entries.proofs.WalkLaws.{saved-most, walk-count, walk-saved}
 use Rattle.text.specs.Ascii.{ascii}
 use Rattle.text.specs.Decimal.{decimal}
 use Rattle.text.proofs.DecimalLaws.{decimal-length}
@@ -43,9 +42,9 @@ use Rattle.par1_read.specs.declared.reading.Parts.{Parts}
 use Rattle.par1_read.specs.declared.reading.Reading.{Reading}
 use Rattle.par1_read.specs.declared.reading.Reading.the-variants.{Accepted}
 use Rattle.par1_read.proofs.ReadingLaws.{refusalOf, partsOf, Passed, read-accepted, read-refused, read-tells}
-use Rattle.listing.specs.Lines.{refusedLine, headLine, label, lineOf, entryLine, savedAfter, entryLines}
+use Rattle.listing.specs.Claim.{InputFits}
+use Rattle.listing.specs.Lines.{refusedLine, headLine, label, lineOf, entryLine, entryLines}
 use Rattle.listing.specs.Listing.{listingBy, listingOf, inputListing}
-use Rattle.listing.proofs.LineLaws.{saved-most}
 
 -- ---- lines
 
@@ -86,7 +85,7 @@ refused-most n h = simp length-append (omega (arith, eight-digits n h))
 -- the rules of an entry that bound its line
 record Listed (e : List ℕ) : Type 0 where
   long : 58 ≤ length e
-  small : fileSizeOf e ≤ 16777216
+  small : fileSizeOf e ≤ maxFileSize
 
 listed-first : (s : List ℕ) → 0 < length s → 0 < lengthOf s → Listed (take (lengthOf s) s)
 unfolding lengthOf entryAllowed bodyAllowed
@@ -105,19 +104,19 @@ lines-most : (k : ℕ) (es : List (List ℕ)) → All Listed es → k + length e
 unfolding entryLines flatten
 lines-most k [] all-none h = omega arith
 lines-most k (e ∷ es) (all-more l ls) h =
-    let n : ℕ = savedAfter k (statusOf e) in
-    let more : n ≤ k + 1 = saved-most k (statusOf e) in
+    let n : ℕ = k + savedCount (statusOf e) in
+    let more : n ≤ k + 1 = omega (arith, saved-most (statusOf e)) in
     let one = line-most (statusOf e) n (fileSizeOf e) (nameOf e) (omega arith) (omega (arith, l .small)) in
     omega
     (arith, one, lines-most n es ls (omega arith), length-append (entryLine n e) (entryLines n es), length-append e (flatten es), length-drop 56 e, l .long)
 
 -- ---- the numbers of an accepted file
 
-number-most : (v n : ℕ) → numberAllowed v n ≡ true → (v ≤ 255) × (n ≤ 254)
+number-most : (v n : ℕ) → numberAllowed v n ≡ true → (v ≤ 255) × (n ≤ maxFiles)
 unfolding numberAllowed
 number-most v n e =
-    let both = and-both (leb n 254) (eqb v 0 || leb 1 n && leb (v + n) 255) e in
-    (by (eqb v 0) refl (both .1), leb-true n 254 (both .0))
+    let both = and-both (leb n maxFiles) (eqb v 0 || leb 1 n && leb (v + n) 255) e in
+    (by (eqb v 0) refl (both .1), leb-true n maxFiles (both .0))
   where
     by : (b : Bool) → eqb v 0 ≡ b → (b || leb 1 n && leb (v + n) 255) ≡ true → v ≤ 255
     by true z e = omega (arith, eqb-true v 0 z)
@@ -129,7 +128,7 @@ accepted-shorter f tests =
     let list : length (listOf f) ≤ listSizeOf f = omega (arith, length-take (listSizeOf f) (drop 96 f)) in
     let fits : 96 + listSizeOf f ≤ length f = omega (arith, tests .header .layout .data-start, tests .header .layout .data-end) in
     let few : length es ≤ length (listOf f) = cut-count lengthOf (listOf f) in
-    let most : length f ≤ 33554432 = tests .header .size .high in
+    let most : length f ≤ maxVolumeLength = tests .header .size .high in
     let small = number-most (volumeNumberOf f) (tests .totals-of .saved) (tests .totals .number-right) in
     let count : countOf f ≡ length es = sym (tests .totals .count-is) ∙ walk-count (listOf f) (tests .walk-is) in
     let saved = walk-saved (listOf f) (tests .walk-is) in
@@ -184,20 +183,20 @@ listing-shorter f p e =
     let told = read-tells f p e in
     subst (λ (r : Reading). length (listingBy r f) < length f) (sym (e ∙ ap Accepted (told .parts-are))) (accepted-shorter f (told .tests))
 
-by-refusal : (s : List ℕ) → length s ≤ 65536 → (n : ℕ) → n ≡ refusalOf s → length (listingOf s) ≤ 65536
+by-refusal : (s : List ℕ) → length s ≤ maxListedLength → (n : ℕ) → n ≡ refusalOf s → length (listingOf s) ≤ maxListedLength
 unfolding listingOf
 by-refusal s h zero e = omega (arith, listing-shorter s (partsOf s) (read-accepted s (sym e)))
 by-refusal s h (suc n) e =
     let few : suc n ≤ 9 = omega (arith, refusal-most s) in
     rw (read-refused s e (λ z. omega arith)) (omega (arith, refused-most (suc n) (omega arith)))
 
-pub input-listing-most : (s : List ℕ) → length (inputListing s) ≤ 65536
+pub input-most : (s : List ℕ) → length (inputListing s) ≤ maxListedLength
 unfolding inputListing
-input-listing-most s = by (leb (length s) 65536) refl
+input-most s = by (leb (length s) maxListedLength) refl
   where
-    by : (b : Bool) → leb (length s) 65536 ≡ b → length (cond b (listingOf s) (refusedLine 1)) ≤ 65536
-    by true e = by-refusal s (leb-true (length s) 65536 e) (refusalOf s) refl
+    by : (b : Bool) → leb (length s) maxListedLength ≡ b → length (cond b (listingOf s) (refusedLine 1)) ≤ maxListedLength
+    by true e = by-refusal s (leb-true (length s) maxListedLength e) (refusalOf s) refl
     by false e = omega (arith, refused-most 1 (omega arith))
 
-pub input-listing-fits : (s out : List ℕ) → 65536 ≤ length out → written (inputListing s) out ≡ (Written (length (inputListing s)), inputListing s ++ drop (length (inputListing s)) out)
-input-listing-fits s out h = sym (written-fits (inputListing s) out (omega (arith, input-listing-most s)) refl refl)
+pub input-fits : InputFits
+input-fits input out h = sym (written-fits (inputListing input) out (omega (arith, input-most input)) refl refl)

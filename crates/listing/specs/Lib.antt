@@ -1,2 +1,3 @@
+pub mod Claim
 pub mod Lines
 pub mod Listing

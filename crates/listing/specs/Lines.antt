@@ -7,7 +7,6 @@
 --   label st n          the label of an entry with the status st: the file number n, or "-"
 --   lineOf st n k name  the line of an entry with this status, file number, file size and name
 --   entryLine n e       the line of the entry e, whose file number is n if it is saved
---   savedAfter k st     how many saved entries there are with an entry of the status st more, where there were k
 --   entryLines k es     the lines of the entries es, where k saved ones stand before them
 -- Assumes nothing.
 use Prim.Native.Nat.{ℕ, _+_}
@@ -15,7 +14,7 @@ use Prim.Native.Char.{code}
 use mathlib.Core.Bool.{cond, _&&_}
 use mathlib.Core.List.{List, [], _∷_, _++_, map, flatten}
 use lib.Dec.{leb}
-use Rattle.entries.specs.Entry.{statusOf, fileSizeOf, nameOf, unitsOf, isSaved}
+use Rattle.entries.specs.Entry.{statusOf, fileSizeOf, nameOf, unitsOf, isSaved, savedCount}
 use Rattle.text.specs.Ascii.{ascii}
 use Rattle.text.specs.Decimal.{decimal}
 
@@ -53,10 +52,7 @@ abbrev pub entryLine : ℕ → List ℕ → List ℕ
 entryLine number e = lineOf (statusOf e) number (fileSizeOf e) (nameOf e)
 
 -- "Files are numbered 1 to n over the saved entries only, in list order"
-abbrev pub savedAfter : ℕ → ℕ → ℕ
-savedAfter k status = cond (isSaved status) (k + 1) k
-
 unfoldable pub entryLines : ℕ → List (List ℕ) → List ℕ
 entryLines k [] = []
 entryLines k (e ∷ es) =
-    let number : ℕ = savedAfter k (statusOf e) in entryLine number e ++ entryLines number es
+    let number : ℕ = k + savedCount (statusOf e) in entryLine number e ++ entryLines number es

@@ -1,11 +1,10 @@
 // The lines of a listing, each put into a buffer.
 ghost use mathlib.Core.Path.{_≡_};
 ghost use mathlib.Core.List.{map};
-ghost use Prim.Native.Nat.{_+_, _<_, _^_};
 ghost use Rattle.entries.specs.Entry.{unitsOf};
 ghost use Rattle.entries.specs.Walk.{entriesOf};
 ghost use Rattle.text.specs.Buffer.{buffer, put as putOf};
-ghost use Rattle.listing.specs.Lines.{shown as shownOf, field, refusedLine, headLine, label, lineOf, savedAfter, entryLines};
+ghost use Rattle.listing.specs.Lines.{shown as shownOf, field, refusedLine, headLine, label, lineOf, entryLines};
 use entries::Item;
 
 // The line of a refused file.
@@ -34,20 +33,18 @@ pub fn put_entries<'a, 'b>(out: &'a mut [u8], start: usize, list: &'b [u8]) -> u
     let mut saved: u64 = 0;
     let mut from: usize = 0;
     loop {
-        match entries::first(&list[from..]) {
-            Item::Entry {
-                length,
-                status,
-                size,
-            } => {
-                let entry = &list[from..from + length];
-                saved = saved_after(saved, status);
-                at = put_line(out, at, status, saved, size, &entry[entries::NAME_AT..]);
-                from += length;
-            }
-            Item::End => return at,
-            Item::Fault(_) => return at,
-        }
+        let Item::Entry {
+            length,
+            status,
+            size,
+        } = entries::at(list, from)
+        else {
+            return at;
+        };
+        let name = &list[from + entries::NAME_AT..from + length];
+        saved += entries::saved_count(status);
+        at = put_line(out, at, status, saved, size, name);
+        from += length;
     }
 }
 
@@ -111,15 +108,4 @@ fn shown(unit: u16) -> u8
         return b'?';
     }
     unit as u8
-}
-
-// How many saved entries there are with one entry more, where there were k.
-fn saved_after(k: u64, status: u64) -> u64
-    requires { ⌜ k + 1 < 2 ^ 64 ⌝ }
-    ensures { λ r. ⌜ r ≡ savedAfter k status ⌝ }
-{
-    if entries::is_saved(status) {
-        return k + 1;
-    }
-    k
 }

@@ -20,7 +20,8 @@ use Rattle.little_endian.specs.Bytes.{toLe}
 use Rattle.little_endian.proofs.Numbers.{length-toLe}
 use Rattle.little_endian.proofs.Reading.{leAt-append}
 use Rattle.md5.specs.Digest.{md5}
-use Rattle.entries.specs.Entry.{entrySize, statusOf, fileSizeOf, md5Of, md5Of16k, nameOf, unitsOf, nameAllowed, fileSizeAllowed, entrySizeAllowed}
+use Rattle.refusals.specs.Limits.{maxFileSize}
+use Rattle.entries.specs.Entry.{entrySize, statusOf, fileSizeOf, md5Of, md5Of16k, nameOf, unitsOf, unitsAllowed, nameAllowed, fileSizeAllowed, entrySizeAllowed}
 use Rattle.entries.specs.Walk.{firstOf, entriesOf}
 use Rattle.entries.specs.declared.Item.the-variants.{Entry}
 use Rattle.entries.proofs.EntryLaws.{first-entry, is-entry}
@@ -28,7 +29,7 @@ use Rattle.entries.proofs.WalkLaws.{entries-more}
 use Rattle.par1_rules.specs.Hashes.{md5First}
 use Rattle.par1.specs.Claim.{EntryAccepted, EntryBack, EntryWritten}
 use Rattle.par1.specs.Checking.{itemRefusal, loneRefusal, checkOf}
-use Rattle.par1_write.specs.EntryWriting.{entryBytes, nameBytesAllowed, entryRefusal, writeEntryOf}
+use Rattle.par1_write.specs.EntryWriting.{entryBytes, entryRefusal, writeEntryOf}
 use Rattle.par1.proofs.CheckingLaws.{check-lone}
 use Rattle.par1_write.proofs.EntryWritingLaws.{length-entry, EntryPassed, entry-passed}
 use Rattle.lent_bytes.proofs.EqualLaws.{equal-same}
@@ -70,14 +71,14 @@ entry-fields m status name s n k =
 record Named (name : List ℕ) : Type 0 where
   some : 2 ≤ length name
   even : length name % 2 ≡ 0
-  allowed : nameAllowed (unitsOf name) ≡ true
+  allowed : nameAllowed name ≡ true
 
-named-right : (name : List ℕ) → nameBytesAllowed name ≡ true → Named name
-unfolding nameBytesAllowed
+named-right : (name : List ℕ) → nameAllowed name ≡ true → Named name
+unfolding nameAllowed
 named-right name e =
-    let both = and-both (leb 2 (length name) && eqb (length name % 2) 0) (nameAllowed (unitsOf name)) e in
+    let both = and-both (leb 2 (length name) && eqb (length name % 2) 0) (unitsAllowed (unitsOf name)) e in
     let two = and-both (leb 2 (length name)) (eqb (length name % 2) 0) (both .0) in
-    record { some = leb-true _ _ (two .0); even = eqb-true _ _ (two .1); allowed = both .1 }
+    record { some = leb-true _ _ (two .0); even = eqb-true _ _ (two .1); allowed = e }
 
 size-right : (n m : ℕ) → n % 2 ≡ 0 → 58 ≤ n → n ≤ m → entrySizeAllowed n m ≡ true
 unfolding entrySizeAllowed
@@ -92,8 +93,8 @@ module _ {e m : List ℕ} {status : ℕ} {name : List ℕ} (size : length e ≡ 
       let own : take (length e) s ≡ e = take-append-seam e rest in
       let told : length e ≡ entrySize s = sym (leAt-append 8 e rest 0 (omega (arith, right .some)) ∙ d .entry-size ∙ sym size) in
       let allowed = size-right (length e) (length s) (omega (arith, right .even)) (omega (arith, right .some)) (omega arith) in
-      let file-size = ap (λ (l : List ℕ). fileSizeAllowed (fileSizeOf l)) own ∙ ap fileSizeAllowed (d .size-is) ∙ short in
-      let name-right = ap (λ (l : List ℕ). nameAllowed (unitsOf (nameOf l))) own ∙ ap (λ (l : List ℕ). nameAllowed (unitsOf l)) (d .named) ∙ right .allowed in
+      let file-size : fileSizeAllowed (fileSizeOf (take (length e) s)) ≡ true = ap (λ (l : List ℕ). fileSizeAllowed (fileSizeOf l)) own ∙ ap fileSizeAllowed (d .size-is) ∙ short in
+      let name-right = ap (λ (l : List ℕ). nameAllowed (nameOf l)) own ∙ ap nameAllowed (d .named) ∙ right .allowed in
       first-entry s (omega (arith, right .some)) told allowed file-size name-right
       ∙ ap (λ (l : List ℕ). Entry (length l) (statusOf l) (fileSizeOf l)) own
       ∙ ap₂ (λ (x y : ℕ). Entry (length e) x y) (d .status-is) (d .size-is)

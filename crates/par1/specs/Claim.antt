@@ -21,7 +21,7 @@ use Rattle.lent_bytes.specs.declared.Writing.the-variants.{Written}
 use Rattle.refusals.specs.Limits.{maxVolumeLength}
 use Rattle.cut_lists.specs.Pieces.{before}
 use Rattle.little_endian.specs.Bytes.{Bytes}
-use Rattle.entries.specs.Entry.{statusOf, fileSizeOf, md5Of, md5Of16k, nameOf, fileSizeAllowed}
+use Rattle.entries.specs.Entry.{statusOf, fileSizeOf, md5Of, md5Of16k, nameOf, nameAllowed, fileSizeAllowed}
 use Rattle.entries.specs.Numbering.{savedOf}
 use Rattle.entries.specs.Walk.{firstOf, entriesOf, walkOf}
 use Rattle.entries.specs.declared.Totals.{Totals}
@@ -35,7 +35,7 @@ use Rattle.par1_read.specs.Reading.{readOf}
 use Rattle.par1_read.specs.declared.reading.Parts.{Parts}
 use Rattle.par1_read.specs.declared.reading.Reading.the-variants.{Accepted}
 use Rattle.par1_write.specs.VolumeWriting.{volumeBytes, writeVolumeOf}
-use Rattle.par1_write.specs.EntryWriting.{entryBytes, statusAllowed, nameBytesAllowed, writeEntryOf}
+use Rattle.par1_write.specs.EntryWriting.{entryBytes, statusAllowed, writeEntryOf}
 use Rattle.par1.specs.Checking.{loneRefusal, checkOf}
 
 -- ---- nothing else is refused
@@ -98,7 +98,7 @@ WrittenRead =
 abbrev pub EntryAccepted : Type 0
 EntryAccepted =
     (m : List ℕ) (status : ℕ) (name out : List ℕ) → fileSizeAllowed (length m) ≡ true → statusAllowed status ≡ true
-    → nameBytesAllowed name ≡ true → length (entryBytes m status name) ≤ length out
+    → nameAllowed name ≡ true → length (entryBytes m status name) ≤ length out
     → writeEntryOf m status name out ≡ accepted (entryBytes m status name) out
 
 pub record EntryBack (e m : List ℕ) (status : ℕ) (name : List ℕ) : Type 0 where

@@ -4,13 +4,12 @@
 --   pushedOver h es   the running hash h after the entries es
 --   set-start         from no bytes at all, its end is the set hash
 --   hash-part         the part of a list that is the hash of the entry at a position
---   set-more, set-end, set-fault    an entry more; no entry more
+--   set-more, set-none    an entry more; no entry more
 -- Assumes nothing.
-use mathlib.Core.Path.{_≡_, refl, sym, ap, ap₂, _∙_}
+use mathlib.Core.Path.{_≡_, refl, sym, ap, _∙_}
 use mathlib.Core.Bool.{Bool, true, false, cond}
 use mathlib.Core.List.{List, [], _∷_, _++_, append-assoc, append-nil, map, flatten}
-use Prim.Native.Nat.{ℕ, _+_, _-_, _≤_}
-use native.Mathlib.Omega.{arith}
+use Prim.Native.Nat.{ℕ, _+_, _≤_}
 use lib.ListN.{length, take, drop}
 use lib.Seq.{drop-drop}
 use Rattle.md5.specs.declared.Md5.{Md5}
@@ -18,12 +17,10 @@ use Rattle.md5.specs.Digest.{md5}
 use Rattle.md5.specs.Running.{stateOf, pushed, finished}
 use Rattle.md5.proofs.Output.{length-output}
 use Rattle.md5.proofs.Running.{push-state, finish-state}
-use Rattle.cut_lists.proofs.CutLaws.{cut-stop, cut-none}
-use Rattle.entries.specs.declared.Fault.{Fault}
-use Rattle.entries.specs.Entry.{statusOf, isSaved, md5Of, lengthOf}
+use Rattle.entries.specs.Entry.{statusOf, isSaved, md5Of}
 use Rattle.entries.specs.Numbering.{savedOf}
 use Rattle.entries.specs.Walk.{entriesOf}
-use Rattle.entries.proofs.EntryLaws.{IsEntry, IsFault}
+use Rattle.entries.proofs.EntryLaws.{IsEntry}
 use Rattle.entries.proofs.WalkLaws.{entries-more}
 use Rattle.par1_rules.specs.Hashes.{setHash}
 use Rattle.lent_bytes.proofs.PartLaws.{part-take}
@@ -67,24 +64,18 @@ pub set-start : (es : List (List ℕ)) → finished (pushedOver (stateOf []) es)
 unfolding setHash joined
 set-start es = ap finished (over-state [] es) ∙ finish-state (joined (savedOf es))
 
-module _ (h : Md5) {s : List ℕ} where
-  pub set-more : {n status size : ℕ} → IsEntry s n status size
+module _ (h : Md5) where
+  pub set-more : {s : List ℕ} {n status size : ℕ} → IsEntry s n status size
       → pushedOver (cond (isSaved status) (pushed h (md5Of (take n s))) h) (entriesOf (drop n s) .pieces) ≡ pushedOver h (entriesOf s .pieces)
   unfolding pushedOver
-  set-more {n} i =
+  set-more {s} {n} i =
       ap (λ (x : ℕ). pushedOver (cond (isSaved x) (pushed h (md5Of (take n s))) h) (entriesOf (drop n s) .pieces)) (i .status-is)
       ∙ ap (λ c. pushedOver h (c .pieces)) (sym (entries-more i))
 
-  pub set-end : s ≡ [] → pushedOver h (entriesOf s .pieces) ≡ h
+  pub set-none : {es : List (List ℕ)} → es ≡ [] → pushedOver h es ≡ h
   unfolding pushedOver
-  set-end e = ap (λ (t : List ℕ). pushedOver h (entriesOf t .pieces)) e ∙ ap (λ c. pushedOver h (c .pieces)) (cut-none lengthOf)
-
-  pub set-fault : {f : Fault} → IsFault s f → pushedOver h (entriesOf s .pieces) ≡ h
-  unfolding pushedOver
-  set-fault i = ap (λ c. pushedOver h (c .pieces)) (cut-stop lengthOf s (i .length-zero))
+  set-none e = simp e
 
 -- the part of a list that is the hash of the entry there
-pub hash-part : (s : List ℕ) (at n : ℕ) → 40 ≤ n → take (at + 40 - (at + 24)) (drop (at + 24) s) ≡ md5Of (take n (drop at s))
-hash-part s at n h =
-    let k : at + 40 - (at + 24) ≡ 16 = omega arith in
-    ap₂ (λ (j : ℕ) (t : List ℕ). take j t) k (sym (drop-drop 24 at s)) ∙ sym (part-take 24 16 n (drop at s) h)
+pub hash-part : (s : List ℕ) (at n : ℕ) → 40 ≤ n → take 16 (drop (at + 24) s) ≡ md5Of (take n (drop at s))
+hash-part s at n h = ap (take 16) (sym (drop-drop 24 at s)) ∙ sym (part-take 24 16 n (drop at s) h)

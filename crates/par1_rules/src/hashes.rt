@@ -8,6 +8,7 @@ ghost use Rattle.md5.specs.Digest.{md5};
 ghost use Rattle.md5.specs.Running.{pushed};
 ghost use Rattle.lent_bytes.specs.Equal.{equal};
 ghost use Rattle.par1_rules.specs.Hashes.{setHash};
+use crate::layout;
 use entries::Item;
 use md5::Md5;
 
@@ -37,24 +38,19 @@ pub fn of_set(list: &[u8]) -> [u8; 16]
     ensures { λ r. ⌜ r ≡ setHash (entriesOf (now (list .entry)) .pieces) ⌝ }
 {
     let mut hash = Md5::new();
-    let mut at: usize = 0;
+    let mut from: usize = 0;
     loop {
-        match entries::first(&list[at..]) {
-            Item::Entry {
-                length,
-                status,
-                size: _,
-            } => {
-                hash = with_entry(
-                    hash,
-                    status,
-                    &list[at + entries::MD5_AT..at + entries::MD5_16K_AT],
-                );
-                at += length;
-            }
-            Item::End => return hash.finish(),
-            Item::Fault(_) => return hash.finish(),
-        }
+        let Item::Entry {
+            length,
+            status,
+            size: _,
+        } = entries::at(list, from)
+        else {
+            return hash.finish();
+        };
+        let md5 = layout::part(list, from + entries::MD5_AT, layout::HASH_LENGTH);
+        hash = with_entry(hash, status, md5);
+        from += length;
     }
 }
 

@@ -17,8 +17,8 @@ use Rattle.lent_bytes.specs.declared.Writing.the-variants.{Written, Refused}
 use Rattle.lent_bytes.proofs.StoreLaws.{sets-over}
 use Rattle.lent_bytes.proofs.WritingLaws.{written-fits, written-short, unless-none, unless-refused}
 use Rattle.little_endian.proofs.Numbers.{length-toLe}
-use Rattle.entries.specs.Entry.{fileSizeAllowed}
-use Rattle.par1_write.specs.EntryWriting.{entryBytes, statusAllowed, nameBytesAllowed, entryRefusal, writeEntryOf}
+use Rattle.entries.specs.Entry.{nameAllowed, fileSizeAllowed}
+use Rattle.par1_write.specs.EntryWriting.{entryBytes, statusAllowed, entryRefusal, writeEntryOf}
 use Rattle.par1_rules.proofs.HashLaws.{length-md5}
 use Rattle.refusals.proofs.TestLaws.{test-passed}
 
@@ -31,14 +31,14 @@ length-entry m status name = simp (length-append, length-toLe, length-md5) (omeg
 pub record EntryPassed (size status : ℕ) (name : List ℕ) : Type 0 where
   pub size-right : fileSizeAllowed size ≡ true
   pub status-right : statusAllowed status ≡ true
-  pub name-right : nameBytesAllowed name ≡ true
+  pub name-right : nameAllowed name ≡ true
 
 pub entry-passed : (size status : ℕ) (name : List ℕ) → entryRefusal size status name ≡ 0 → EntryPassed size status name
 unfolding entryRefusal
 entry-passed size status name e =
     let one = test-passed _ (fileSizeAllowed size) _ (omega arith) e in
     let two = test-passed _ (statusAllowed status) _ (omega arith) (one .1) in
-    let three = test-passed _ (nameBytesAllowed name) _ (omega arith) (two .1) in
+    let three = test-passed _ (nameAllowed name) _ (omega arith) (two .1) in
     record { size-right = one .0; status-right = two .0; name-right = three .0 }
 
 -- ---- what writing gives, from the number n that the tests gave

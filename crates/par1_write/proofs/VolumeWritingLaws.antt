@@ -31,37 +31,37 @@ use Rattle.par1_rules.proofs.RuleLaws.{Between, between, long-enough}
 
 -- ---- lengths
 
-pub length-body : (n number : ℕ) (list area : List ℕ) → length (bodyBytes n number list area) ≡ 64 + length list + length area
+pub length-body : (n number : ℕ) (list «data» : List ℕ) → length (bodyBytes n number list «data») ≡ 64 + length list + length «data»
 unfolding bodyBytes flatten
-length-body n number list area = simp (length-append, length-set-hash, length-numbers) (omega arith)
+length-body n number list «data» = simp (length-append, length-set-hash, length-numbers) (omega arith)
 
 pub length-head : (program : ℕ) (body : List ℕ) → length (headBytes program body) ≡ 32
 unfolding headBytes flatten
 length-head program body = simp (length-append, length-toLe, length-md5)
 
-pub length-volume : (program number : ℕ) (list area : List ℕ) → length (volumeBytes program number list area) ≡ 96 + length list + length area
+pub length-volume : (program number : ℕ) (list «data» : List ℕ) → length (volumeBytes program number list «data») ≡ 96 + length list + length «data»
 unfolding volumeBytes
-length-volume program number list area = simp (length-append, length-head, length-body) (omega arith)
+length-volume program number list «data» = simp (length-append, length-head, length-body) (omega arith)
 
 -- ---- the tests
 
-pub record VolumePassed (number : ℕ) (t : Totals) (list area : ℕ) : Type 0 where
+pub record VolumePassed (number : ℕ) (t : Totals) (list-len data-len : ℕ) : Type 0 where
   pub number-right : numberAllowed number (t .saved) ≡ true
-  pub data-right : dataAllowed number (t .greatest) area ≡ true
-  pub size : Between (96 + list + area)
+  pub data-right : dataAllowed number (t .greatest) data-len ≡ true
+  pub size : Between (96 + list-len + data-len)
 
-pub volume-passed : (number : ℕ) (t : Totals) (list area : ℕ) → volumeRefusal number t list area ≡ 0 → VolumePassed number t list area
+pub volume-passed : (number : ℕ) (t : Totals) (list-len data-len : ℕ) → volumeRefusal number t list-len data-len ≡ 0 → VolumePassed number t list-len data-len
 unfolding volumeRefusal
-volume-passed number t list area e =
+volume-passed number t list-len data-len e =
     let seven = test-passed 7 (numberAllowed number (t .saved)) _ (omega arith) e in
-    let nine = test-passed 9 (dataAllowed number (t .greatest) area) _ (omega arith) (seven .1) in
-    let one = test-passed 1 (lengthAllowed (96 + list + area)) _ (omega arith) (nine .1) in
+    let nine = test-passed 9 (dataAllowed number (t .greatest) data-len) _ (omega arith) (seven .1) in
+    let one = test-passed 1 (lengthAllowed (96 + list-len + data-len)) _ (omega arith) (nine .1) in
     record { number-right = seven .0; data-right = nine .0; size = between _ (one .0) }
 
-pub volume-none : (number : ℕ) (t : Totals) (list area : ℕ) → VolumePassed number t list area → volumeRefusal number t list area ≡ 0
+pub volume-none : (number : ℕ) (t : Totals) (list-len data-len : ℕ) → VolumePassed number t list-len data-len → volumeRefusal number t list-len data-len ≡ 0
 unfolding volumeRefusal
-volume-none number t list area p =
-    simp (p .number-right, p .data-right, long-enough (96 + list + area) (p .size .low) (p .size .high))
+volume-none number t list-len data-len p =
+    simp (p .number-right, p .data-right, long-enough (96 + list-len + data-len) (p .size .low) (p .size .high))
 
 -- ---- what writing gives, from the number n that the tests gave
 
@@ -83,31 +83,31 @@ two-steps program body out {total} {t} {u} size fits wrote headed =
     ∙ ap (λ (k : ℕ). head ++ drop k t) h ∙ ap (λ (l : List ℕ). head ++ l) after ∙ sym (append-assoc head body rest)
     ∙ ap (λ (k : ℕ). head ++ body ++ drop k out) (sym size)
 
-module _ (program number : ℕ) (list area out : List ℕ) {n : ℕ} {w : Walked} (walked : w ≡ walkOf list)
-    (e : n ≡ walkRefusal number w (length list) (length area)) where
-  told : n ≡ walkRefusal number (walkOf list) (length list) (length area)
-  told = e ∙ ap (λ (w : Walked). walkRefusal number w (length list) (length area)) walked
+module _ (program number : ℕ) (list «data» out : List ℕ) {n : ℕ} {w : Walked} (walked : w ≡ walkOf list)
+    (e : n ≡ walkRefusal number w (length list) (length «data»)) where
+  told : n ≡ walkRefusal number (walkOf list) (length list) (length «data»)
+  told = e ∙ ap (λ (w : Walked). walkRefusal number w (length list) (length «data»)) walked
 
-  pub volume-refused : {u : List ℕ} → (n ≡ 0 → ⊥) → u ≡ out → (Refused n, u) ≡ writeVolumeOf program number list area out
+  pub volume-refused : {u : List ℕ} → (n ≡ 0 → ⊥) → u ≡ out → (Refused n, u) ≡ writeVolumeOf program number list «data» out
   unfolding writeVolumeOf
-  volume-refused h same = unless-refused (volumeBytes program number list area) out told h same
+  volume-refused h same = unless-refused (volumeBytes program number list «data») out told h same
 
-  pub volume-short : n ≡ 0 → length out < 96 + length list + length area → refused 14 out ≡ writeVolumeOf program number list area out
+  pub volume-short : n ≡ 0 → length out < 96 + length list + length «data» → refused 14 out ≡ writeVolumeOf program number list «data» out
   unfolding writeVolumeOf
   volume-short z h =
-      let s : List ℕ = volumeBytes program number list area in
-      unless-none s out told z (written-short s out (omega (arith, length-volume program number list area)))
+      let s : List ℕ = volumeBytes program number list «data» in
+      unless-none s out told z (written-short s out (omega (arith, length-volume program number list «data»)))
 
-  pub volume-over : {k : ℕ} {t u : List ℕ} → n ≡ 0 → 96 + length list + length area ≤ length out → k ≡ length (entriesOf list .pieces)
-      → t ≡ sets out 32 (bodyBytes k number list area)
-      → u ≡ sets t 0 (headBytes program (take (96 + length list + length area - 32) (drop 32 t)))
-      → (Written (96 + length list + length area), u) ≡ writeVolumeOf program number list area out
+  pub volume-over : {k : ℕ} {t u : List ℕ} → n ≡ 0 → 96 + length list + length «data» ≤ length out → k ≡ length (entriesOf list .pieces)
+      → t ≡ sets out 32 (bodyBytes k number list «data»)
+      → u ≡ sets t 0 (headBytes program (take (96 + length list + length «data» - 32) (drop 32 t)))
+      → (Written (96 + length list + length «data»), u) ≡ writeVolumeOf program number list «data» out
   unfolding writeVolumeOf volumeBytes
   volume-over z h count wrote headed =
       let k : ℕ = length (entriesOf list .pieces) in
-      let body : List ℕ = bodyBytes k number list area in
+      let body : List ℕ = bodyBytes k number list «data» in
       let s : List ℕ = headBytes program body ++ body in
-      let size : 96 + length list + length area ≡ length s = sym (length-volume program number list area) in
-      let total : 96 + length list + length area ≡ 32 + length body = omega (arith, length-body k number list area) in
-      let over = two-steps program body out total h (wrote ∙ ap (λ (j : ℕ). sets out 32 (bodyBytes j number list area)) count) headed in
+      let size : 96 + length list + length «data» ≡ length s = sym (length-volume program number list «data») in
+      let total : 96 + length list + length «data» ≡ 32 + length body = omega (arith, length-body k number list «data») in
+      let over = two-steps program body out total h (wrote ∙ ap (λ (j : ℕ). sets out 32 (bodyBytes j number list «data»)) count) headed in
       unless-none s out told z (written-fits s out (omega arith) size (over ∙ ap (λ (j : ℕ). s ++ drop j out) size))

@@ -3,20 +3,19 @@
 --
 --   entryBytes m st name            the entry of a file with the contents m and the status st
 --   statusAllowed st                whether entries are written with the status st
---   nameBytesAllowed name           whether the bytes are a name
 --   entryRefusal n st name          the refusal of contents of n bytes by the tests before 14, 0 where there is none
 --   writeEntryOf m st name out      what writing gives
 -- Assumes nothing.
-use Prim.Native.Nat.{ℕ, _+_, _%_}
-use mathlib.Core.Bool.{Bool, _&&_}
+use Prim.Native.Nat.{ℕ, _+_}
+use mathlib.Core.Bool.{Bool}
 use mathlib.Core.List.{List, [], _∷_, flatten}
-use lib.Dec.{leb, eqb}
+use lib.Dec.{leb}
 use lib.ListN.{length}
 use Rattle.lent_bytes.specs.Writing.{writtenUnless}
 use Rattle.lent_bytes.specs.declared.Writing.{Writing}
 use Rattle.little_endian.specs.Bytes.{toLe}
 use Rattle.md5.specs.Digest.{md5}
-use Rattle.entries.specs.Entry.{unitsOf, nameAllowed, fileSizeAllowed}
+use Rattle.entries.specs.Entry.{nameAllowed, fileSizeAllowed}
 use Rattle.entries.specs.Walk.{faultNumber}
 use Rattle.entries.specs.declared.Fault.the-variants as fault
 use Rattle.par1_rules.specs.Hashes.{md5First}
@@ -32,17 +31,13 @@ entryBytes m status name =
 abbrev pub statusAllowed : ℕ → Bool
 statusAllowed status = leb status 3
 
--- one unit or more, in whole units, each of them allowed
-unfoldable pub nameBytesAllowed : List ℕ → Bool
-nameBytesAllowed name = leb 2 (length name) && eqb (length name % 2) 0 && nameAllowed (unitsOf name)
-
 -- "6 (contents too long, status above 3, bad name)": an entry's faults have none for the status,
 -- so it takes the number of the file size's
 unfoldable pub entryRefusal : ℕ → ℕ → List ℕ → ℕ
 entryRefusal size status name =
     test (faultNumber fault.FileSize) (fileSizeAllowed size)
     (test (faultNumber fault.FileSize) (statusAllowed status)
-    (test (faultNumber fault.Name) (nameBytesAllowed name) 0))
+    (test (faultNumber fault.Name) (nameAllowed name) 0))
 
 unfoldable pub writeEntryOf : List ℕ → ℕ → List ℕ → List ℕ → Writing × List ℕ
 writeEntryOf m status name out =

@@ -2,13 +2,13 @@
 -- data tests 6 (the list's rules; it makes the count itself), 7, 9, 1 (the total), 14").
 --
 --   numberBytes v n l d                 the six numbers of volume v with n entries, l bytes of list and d bytes of data
---   bodyBytes n v list area             the bytes of volume v from 32 to the end, with n entries in the list
+--   bodyBytes n v list data             the bytes of volume v from 32 to the end, with n entries in the list
 --   headBytes p body                    the bytes before body, which the program p writes
---   volumeBytes p v list area           the bytes of volume v, written by the program p
+--   volumeBytes p v list data           the bytes of volume v, written by the program p
 --   volumeRefusal v t l d               the refusal by the tests 7, 9 and 1, where the walk over the list gave the totals t, and list and
 --                                       data have l and d bytes
 --   walkRefusal v w l d                 the refusal by the tests before 14, from the walk w over the list, 0 where there is none
---   writeVolumeOf p v list area out     what writing gives
+--   writeVolumeOf p v list data out     what writing gives
 -- Assumes nothing.
 use Prim.Native.Nat.{ℕ, _+_}
 use mathlib.Core.List.{List, [], _∷_, _++_, flatten}
@@ -29,12 +29,12 @@ use Rattle.par1_rules.specs.Rules.{lengthAllowed, numberAllowed, dataAllowed}
 -- "Then six 64-bit numbers: at 48 volume number (0 for the index), at 56 number of entries, at 64 list start, at 72 list size, at 80 data
 -- start, at 88 data size"
 abbrev pub numberBytes : ℕ → ℕ → ℕ → ℕ → List ℕ
-numberBytes number n list area = numbers (number ∷ n ∷ 96 ∷ list ∷ (96 + list) ∷ area ∷ [])
+numberBytes number n list-len data-len = numbers (number ∷ n ∷ 96 ∷ list-len ∷ (96 + list-len) ∷ data-len ∷ [])
 
 -- "At 32: set hash." Then the numbers, the list and the data
 unfoldable pub bodyBytes : ℕ → ℕ → List ℕ → List ℕ → List ℕ
-bodyBytes n number list area =
-    flatten (setHash (entriesOf list .pieces) ∷ numberBytes number n (length list) (length area) ∷ list ∷ area ∷ [])
+bodyBytes n number list «data» =
+    flatten (setHash (entriesOf list .pieces) ∷ numberBytes number n (length list) (length «data») ∷ list ∷ «data» ∷ [])
 
 -- "At 0: "PAR" and five zero bytes. At 8: 32-bit version, 65,536. At 12: 32-bit program identifier, any. At 16: control hash, the MD5 of
 -- all bytes from 32 to the end."
@@ -42,19 +42,19 @@ unfoldable pub headBytes : ℕ → List ℕ → List ℕ
 headBytes program body = flatten (toLe 8 signature ∷ toLe 4 version ∷ toLe 4 program ∷ md5 body ∷ [])
 
 unfoldable pub volumeBytes : ℕ → ℕ → List ℕ → List ℕ → List ℕ
-volumeBytes program number list area =
-    let body : List ℕ = bodyBytes (length (entriesOf list .pieces)) number list area in headBytes program body ++ body
+volumeBytes program number list «data» =
+    let body : List ℕ = bodyBytes (length (entriesOf list .pieces)) number list «data» in headBytes program body ++ body
 
 unfoldable pub volumeRefusal : ℕ → Totals → ℕ → ℕ → ℕ
-volumeRefusal number t list area =
+volumeRefusal number t list-len data-len =
     test 7 (numberAllowed number (t .saved))
-    (test 9 (dataAllowed number (t .greatest) area)
-    (test 1 (lengthAllowed (96 + list + area)) 0))
+    (test 9 (dataAllowed number (t .greatest) data-len)
+    (test 1 (lengthAllowed (96 + list-len + data-len)) 0))
 
 abbrev pub walkRefusal : ℕ → Walked → ℕ → ℕ → ℕ
-walkRefusal number (walked.Entries t) list area = volumeRefusal number t list area
-walkRefusal number (walked.Fault fault) list area = faultNumber fault
+walkRefusal number (walked.Entries t) list-len data-len = volumeRefusal number t list-len data-len
+walkRefusal number (walked.Fault fault) list-len data-len = faultNumber fault
 
 unfoldable pub writeVolumeOf : ℕ → ℕ → List ℕ → List ℕ → List ℕ → Writing × List ℕ
-writeVolumeOf program number list area out =
-    writtenUnless (walkRefusal number (walkOf list) (length list) (length area)) (volumeBytes program number list area) out
+writeVolumeOf program number list «data» out =
+    writtenUnless (walkRefusal number (walkOf list) (length list) (length «data»)) (volumeBytes program number list «data») out

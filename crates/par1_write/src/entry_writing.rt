@@ -3,10 +3,11 @@ ghost use mathlib.Core.Path.{_≡_};
 ghost use Prim.Native.Nat.{_+_, _≤_};
 ghost use lib.ListN.{length};
 ghost use lib.Seq.{sets};
-ghost use Rattle.par1_write.specs.EntryWriting.{entryBytes, nameBytesAllowed, entryRefusal, writeEntryOf};
+ghost use Rattle.par1_write.specs.EntryWriting.{entryBytes, entryRefusal, writeEntryOf};
 use entries::Fault;
 use lent_bytes::Writing;
 use par1_rules::hashes;
+use refusals::test;
 
 // The greatest status that an entry is written with.
 const MAX_STATUS: u64 = 3;
@@ -33,29 +34,12 @@ pub fn write_entry(contents: &[u8], status: u64, name: &[u8], out: &mut [u8]) ->
 fn entry_refusal(size: usize, status: u64, name: &[u8]) -> u32
     ensures { λ r. ⌜ r ≡ entryRefusal size status (now (name .entry)) ⌝ }
 {
-    if size as u64 > refusals::MAX_FILE_SIZE {
-        return entries::fault_number(Fault::FileSize);
-    }
-    if status > MAX_STATUS {
-        return entries::fault_number(Fault::FileSize);
-    }
-    if !name_bytes_allowed(name) {
-        return entries::fault_number(Fault::Name);
-    }
-    0
-}
-
-// Whether `name` is one unit or more, each of them allowed.
-fn name_bytes_allowed(name: &[u8]) -> bool
-    ensures { λ r. ⌜ r ≡ nameBytesAllowed (now (name .entry)) ⌝ }
-{
-    if name.len() < 2 {
-        return false;
-    }
-    if name.len() % 2 != 0 {
-        return false;
-    }
-    entries::name_allowed(name)
+    let named = entries::name_allowed(name);
+    let from_name = test(entries::fault_number(Fault::Name), named, 0);
+    let stated = status <= MAX_STATUS;
+    let from_status = test(entries::fault_number(Fault::FileSize), stated, from_name);
+    let short = size as u64 <= refusals::MAX_FILE_SIZE;
+    test(entries::fault_number(Fault::FileSize), short, from_status)
 }
 
 // Writes the entry's fields in their order.

@@ -3,6 +3,7 @@ ghost use mathlib.Core.Path.{_≡_};
 ghost use Prim.Native.Nat.{_+_, _-_, _^_, _<_, _≤_};
 ghost use lib.ListN.{length, take, drop};
 ghost use lib.Seq.{sets};
+ghost use Rattle.par1_rules.specs.Rules.{lengthAllowed};
 ghost use Rattle.par1_write.specs.VolumeWriting.{numberBytes, bodyBytes, headBytes, volumeRefusal, writeVolumeOf};
 use entries::Totals;
 use entries::Walked;
@@ -10,6 +11,7 @@ use lent_bytes::Writing;
 use par1_rules::hashes;
 use par1_rules::layout;
 use par1_rules::rules;
+use refusals::test;
 
 // Writes volume `number`, or the index where it is 0, over the first bytes of `out`.
 pub fn write_volume(program: u32, number: u64, list: &[u8], data: &[u8], out: &mut [u8]) -> Writing
@@ -33,24 +35,30 @@ pub fn write_volume(program: u32, number: u64, list: &[u8], data: &[u8], out: &m
     }
 }
 
-// The number of the first of tests 7, 9 and 1 that holds, 0 where none does; the list has `list` bytes, the data `area`.
-fn volume_refusal(number: u64, totals: Totals, list: usize, area: usize) -> u32
-    ensures { λ r. ⌜ r ≡ volumeRefusal number totals list area ⌝ }
+// The number of the first of tests 7, 9 and 1 that holds, 0 where none does.
+fn volume_refusal(number: u64, totals: Totals, list_len: usize, data_len: usize) -> u32
+    ensures { λ r. ⌜ r ≡ volumeRefusal number totals «list_len» «data_len» ⌝ }
 {
-    if !rules::number_allowed(number, totals.saved) {
-        return refusals::VOLUME_NUMBER;
-    }
-    if !rules::data_allowed(number, totals.greatest, area as u64) {
-        return refusals::DATA_SIZE;
-    }
+    let numbered = rules::number_allowed(number, totals.saved);
+    let sized = rules::data_allowed(number, totals.greatest, data_len as u64);
+    let short = total_allowed(list_len, data_len);
+    let from_1 = test(refusals::SIZE, short, 0);
+    let from_9 = test(refusals::DATA_SIZE, sized, from_1);
+    test(refusals::VOLUME_NUMBER, numbered, from_9)
+}
+
+// Whether a file may have `list_len` bytes of list and `data_len` bytes of data.
+fn total_allowed(list_len: usize, data_len: usize) -> bool
+    ensures { λ r. ⌜ r ≡ lengthAllowed (96 + «list_len» + «data_len») ⌝ }
+{
     let most = refusals::MAX_VOLUME_LENGTH - layout::HEADER_LENGTH;
-    if list > most {
-        return refusals::SIZE;
+    if list_len > most {
+        return false;
     }
-    if area > most - list {
-        return refusals::SIZE;
+    if data_len > most - list_len {
+        return false;
     }
-    0
+    true
 }
 
 // Writes what the control hash covers: the set hash, the numbers of the header, the list and the data.
@@ -65,26 +73,26 @@ fn put_body(out: &mut [u8], number: u64, entries: u64, list: &[u8], data: &[u8])
     lent_bytes::put(out, layout::HEADER_LENGTH + list.len(), data);
 }
 
-// Writes the six numbers of the header of a file with `list` bytes of list and `area` bytes of data.
-fn put_numbers(out: &mut [u8], number: u64, entries: u64, list: usize, area: usize)
-    requires { ⌜ 96 + list < 2 ^ 64 ⌝ }
-    ensures { λ _. ⌜ now (out .exit) ≡ sets (now (out .entry)) 48 (numberBytes number entries list area) ⌝ }
+// Writes the six numbers of the header of a file with `list_len` bytes of list and `data_len` bytes of data.
+fn put_numbers(out: &mut [u8], number: u64, entries: u64, list_len: usize, data_len: usize)
+    requires { ⌜ 96 + «list_len» < 2 ^ 64 ⌝ }
+    ensures { λ _. ⌜ now (out .exit) ≡ sets (now (out .entry)) 48 (numberBytes number entries «list_len» «data_len») ⌝ }
 {
-    let data_start = layout::HEADER_LENGTH + list;
+    let data_start = layout::HEADER_LENGTH + list_len;
     let numbers = [
         number,
         entries,
         layout::LIST_START,
-        list as u64,
+        list_len as u64,
         data_start as u64,
-        area as u64,
+        data_len as u64,
     ];
     little_endian::write_numbers(out, layout::NUMBER_AT, &numbers);
 }
 
 // Writes the start of a file of `total` bytes, with the control hash of the others.
 fn put_head(out: &mut [u8], program: u32, total: usize)
-    requires { ⌜ (32 ≤ total) × (total ≤ length (now out)) ⌝ }
+    requires { ⌜ (96 ≤ total) × (total ≤ length (now out)) ⌝ }
     ensures { λ _. ⌜ now (out .exit) ≡ sets (now (out .entry)) 0 (headBytes program (take (total - 32) (drop 32 (now (out .entry))))) ⌝ }
 {
     let control_hash = md5::digest(&out[layout::SET_HASH_AT..total]);

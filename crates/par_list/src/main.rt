@@ -7,7 +7,7 @@ fn main() {
     // one byte more than the longest input, so that a longer one is seen
     let mut input = [0u8; 65537];
     let length = io::read_full(STDIN_FILENO, &mut input);
-    // a listing is shorter than its file, so this room always holds it (crate listing, proofs/LengthLaws, `input-listing-fits`)
+    // a listing is shorter than its file, so this room always holds it (crate listing, specs/Claim, `InputFits`)
     let mut lines = [0u8; 65536];
     let Writing::Written(end) = listing::list_input(&input[..length], &mut lines) else {
         return;

@@ -7,7 +7,7 @@ use lib.ListN.{length, take, length-take}
 use mathlib.Core.List.{List}
 use mathlib.Core.Bool.{true}
 use denote.Ref.{now}
-use Rattle.entries.specs.Entry.{fileSizeAllowed, entrySizeAllowed, nameAllowed, unitsOf}
+use Rattle.entries.specs.Entry.{fileSizeAllowed, entrySizeAllowed, nameAllowed}
 use Rattle.entries.proofs.EntryLaws.{Sized, sized, first-end, first-size, first-file-size, first-name, first-entry}
 use borrow.Author.Tests.{not-true, not-false, le-leb, lt-leb}
 use Rattle.lent_bytes.proofs.PartLaws.{part-to-end}
@@ -53,7 +53,7 @@ returns-4 c =
     let a = c .before .before .before in
     let b = a .before .before .before in
     let s : List ℕ = now (b .before .before .before .before .before .args .list) in
-    let name = c .before .name-allowed .ensures ∙ ap (λ (l : List ℕ). nameAllowed (unitsOf l)) (part-to-end (take (b .before .before .read64 .result) s) 56) in
+    let name = c .before .name-allowed .ensures ∙ ap (λ (l : List ℕ). nameAllowed l) (part-to-end (take (b .before .before .read64 .result) s) 56) in
     sym (first-name s (omega (arith, b .before .before .before .if1 .left)) (b .before .before .read64 .ensures) (allowed-at b)
     (ap fileSizeAllowed (sym (a .before .read642 .ensures)) ∙ le-leb _ _ (a .if3 .left)) (sym name ∙ not-true _ (c .if4 .taken)))
 
@@ -63,7 +63,7 @@ returns-5 c =
     let b = a .before .before .before in
     let s : List ℕ = now (b .before .before .before .before .before .args .list) in
     let n : ℕ = b .before .before .read64 .result in
-    let name = c .before .before .name-allowed .ensures ∙ ap (λ (l : List ℕ). nameAllowed (unitsOf l)) (part-to-end (take n s) 56) in
+    let name = c .before .before .name-allowed .ensures ∙ ap (λ (l : List ℕ). nameAllowed l) (part-to-end (take n s) 56) in
     let found =
     first-entry s (omega (arith, b .before .before .before .if1 .left)) (b .before .before .read64 .ensures) (allowed-at b)
     (ap fileSizeAllowed (sym (a .before .read642 .ensures)) ∙ le-leb _ _ (a .if3 .left)) (sym name ∙ not-false _ (c .before .if4 .left)) in

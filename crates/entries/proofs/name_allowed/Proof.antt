@@ -1,73 +1,23 @@
--- `entries::name_allowed` meets its contract. The loop's invariant: the rule on the units that remain decides.
+-- `entries::name_allowed` meets its contract: each test decides where it fails.
 -- Assumes nothing.
-use mathlib.Core.Path.{_≡_, refl, sym, ap, _∙_}
-use Prim.Native.Nat.{ℕ, _≤_, _-_}
-use native.Mathlib.Omega.{arith}
-use lib.ListN.{length, drop}
-use mathlib.Core.List.{List}
-use denote.Ref.{now}
-use Rattle.entries.specs.Entry.{unitsOf, unitAllowed, nameAllowed}
-use Rattle.entries.proofs.NameLaws.{name-more, name-end}
-use borrow.Author.Tests.{not-true, not-false}
+use mathlib.Core.Path.{_∙_}
+use borrow.Author.Tests.{ne-eqb, eq-eqb, lt-leb, le-leb}
+use Rattle.entries.specs.Entry.{nameAllowed}
 use borrow.Author.Needs.{needs}
 use Rattle.entries.proofs.name_allowed.Statement.{statement}
 use Rattle.entries.proofs.name_allowed.Tie as tie
 
-abbrev Inv-loop : tie.InvT-loop
-Inv-loop name at₀ at = (at ≤ length name) × (nameAllowed (unitsOf (drop at name)) ≡ nameAllowed (unitsOf name))
+returns : tie.Need-returns
+unfolding nameAllowed
+returns c = simp (lt-leb _ _ (c .if1 .taken))
 
-abbrev μ-loop : tie.MeasureT-loop
-μ-loop name at₀ at = length name - at
+returns-2 : tie.Need-returns-2
+unfolding nameAllowed
+returns-2 c = simp (le-leb _ _ (c .before .if1 .left), ne-eqb _ _ (c .if2 .taken))
 
-loop-holds : tie.Need-loop-holds Inv-loop μ-loop
-loop-holds c = (omega arith, refl)
-
-sub-loop : tie.Need-sub-loop Inv-loop μ-loop
-sub-loop c = omega arith
-
-read16-requires : tie.Need-read16-requires Inv-loop μ-loop
-read16-requires c κs = search needs
-
-unit-allowed-requires : tie.Need-unit-allowed-requires Inv-loop μ-loop
-unit-allowed-requires c κs = search needs
-
-returns : tie.Need-returns Inv-loop μ-loop
-returns c =
-    let b = c .before .before .before .before in
-    let s : List ℕ = now (b .before .before .args .name) in
-    let e = c .before .unit-allowed .ensures ∙ ap unitAllowed (c .before .before .read16 .ensures) in
-    sym (name-more s (b .loop .at) (omega arith) e ∙ simp (not-true (c .before .unit-allowed .result) (c .if1 .taken))) ∙ b .loop .inv .1
-
-add-at : tie.Need-add-at Inv-loop μ-loop
-add-at c = omega arith
-
-loop-less : tie.Need-loop-less Inv-loop μ-loop
-loop-less c = omega arith
-
-loop-again : tie.Need-loop-again Inv-loop μ-loop
-loop-again c =
-    let b = c .before .before .before .before in
-    let s : List ℕ = now (b .before .before .args .name) in
-    let e = c .before .unit-allowed .ensures ∙ ap unitAllowed (c .before .before .read16 .ensures) in
-    (omega arith, sym (name-more s (b .loop .at) (omega arith) e ∙ simp (not-false (c .before .unit-allowed .result) (c .if1 .left))) ∙ b .loop .inv .1)
-
-returns-2 : tie.Need-returns-2 Inv-loop μ-loop
-returns-2 c =
-    let b = c .before in
-    sym (name-end (now (b .before .before .args .name)) (b .loop .at) (omega arith)) ∙ b .loop .inv .1
+returns-3 : tie.Need-returns-3
+unfolding nameAllowed
+returns-3 c = c .units-allowed .ensures ∙ simp (le-leb _ _ (c .before .before .if1 .left), eq-eqb _ _ (c .before .if2 .left))
 
 pub name-allowed-spec : {M : Type 1} → statement M
-name-allowed-spec =
-    tie.close
-    (tie.spec
-    Inv-loop
-    μ-loop
-    loop-holds
-    sub-loop
-    read16-requires
-    unit-allowed-requires
-    returns
-    add-at
-    loop-less
-    loop-again
-    returns-2)
+name-allowed-spec = tie.close (tie.spec returns returns-2 (λ c κs. search needs) returns-3)
