@@ -28,7 +28,7 @@ use Rattle.entries.proofs.EntryLaws.{first-entry, is-entry}
 use Rattle.entries.proofs.WalkLaws.{entries-more}
 use Rattle.par1_rules.specs.Hashes.{md5First}
 use Rattle.par1.specs.Claim.{EntryAccepted, EntryBack, EntryWritten}
-use Rattle.par1.specs.Checking.{itemRefusal, loneRefusal, checkOf}
+use Rattle.par1.specs.Checking.{itemRefusal, loneRefusal, isDescribed, checkOf}
 use Rattle.par1_write.specs.EntryWriting.{entryBytes, entryRefusal, writeEntryOf}
 use Rattle.par1.proofs.CheckingLaws.{check-lone}
 use Rattle.par1_write.proofs.EntryWritingLaws.{length-entry, EntryPassed, entry-passed}
@@ -110,6 +110,7 @@ module _ {e m : List ℕ} {status : ℕ} {name : List ℕ} (size : length e ≡ 
       ap (itemRefusal (length e)) (ap firstOf (sym (append-nil e)) ∙ walked-back []) ∙ simp (eq-eqb (length e) (length e) refl)
 
   checked-back : checkOf e m ≡ 0
+  unfolding isDescribed
   checked-back = check-lone e m lone-back ∙ simp (eq-eqb _ _ (d .size-is), equal-same (d .md5-is), equal-same (d .md5-first-is))
 
   all-back : EntryBack e m status name

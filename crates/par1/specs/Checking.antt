@@ -2,10 +2,11 @@
 --
 --   itemRefusal n i  the refusal of n bytes that begin with the item i, 0 where i is an entry that fills them
 --   loneRefusal e    the refusal of an entry e that stands alone, 0 where it keeps the rules and fills e
+--   isDescribed e m  whether the contents m have the length and the hashes that the entry e tells
 --   checkOf e m      the refusal of the contents m by the entry e, 0 where they are those of its file
 -- Assumes nothing.
 use Prim.Native.Nat.{ℕ}
-use mathlib.Core.Bool.{_&&_}
+use mathlib.Core.Bool.{Bool, _&&_}
 use mathlib.Core.List.{List}
 use lib.Dec.{eqb}
 use lib.ListN.{length}
@@ -29,7 +30,8 @@ unfoldable pub loneRefusal : List ℕ → ℕ
 loneRefusal e = itemRefusal (length e) (firstOf e)
 
 -- "15: rebuilt bytes differ in length, MD5 or 16k MD5 from the entry"
+unfoldable pub isDescribed : List ℕ → List ℕ → Bool
+isDescribed e m = eqb (fileSizeOf e) (length m) && equal (md5Of e) (md5 m) && equal (md5Of16k e) (md5First m)
+
 unfoldable pub checkOf : List ℕ → List ℕ → ℕ
-checkOf e m =
-    orElse (loneRefusal e)
-    (test 15 (eqb (fileSizeOf e) (length m) && equal (md5Of e) (md5 m) && equal (md5Of16k e) (md5First m)) 0)
+checkOf e m = orElse (loneRefusal e) (test 15 (isDescribed e m) 0)

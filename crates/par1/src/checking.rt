@@ -1,31 +1,34 @@
 // Checking contents against the entry of their file (document 01, "What comes back").
 ghost use mathlib.Core.Path.{_≡_};
-ghost use Rattle.par1.specs.Checking.{loneRefusal, checkOf};
+ghost use Rattle.par1.specs.Checking.{loneRefusal, isDescribed, checkOf};
 use entries::Fault;
 use entries::Item;
 use par1_rules::hashes;
+use par1_rules::layout;
+use refusals::or_else;
+use refusals::test;
 
 // 0 where `contents` are those of the file that `entry` describes, else the number of the refusal.
 pub fn check(entry: &[u8], contents: &[u8]) -> u32
     ensures { λ r. ⌜ r ≡ checkOf (now (entry .entry)) (now (contents .entry)) ⌝ }
 {
-    let refusal = lone_refusal(entry);
-    if refusal != 0 {
-        return refusal;
-    }
+    let different = test(refusals::DIFFERENT, is_described(entry, contents), 0);
+    or_else(lone_refusal(entry), different)
+}
+
+// Whether `contents` have the length and the hashes that `entry` tells.
+fn is_described(entry: &[u8], contents: &[u8]) -> bool
+    ensures { λ r. ⌜ r ≡ isDescribed (now (entry .entry)) (now (contents .entry)) ⌝ }
+{
     if little_endian::read64(entry, entries::FILE_SIZE_AT) != contents.len() as u64 {
-        return refusals::DIFFERENT;
+        return false;
     }
-    if !hashes::matches(&entry[entries::MD5_AT..entries::MD5_16K_AT], contents) {
-        return refusals::DIFFERENT;
+    let whole = layout::part(entry, entries::MD5_AT, layout::HASH_LENGTH);
+    if !hashes::matches(whole, contents) {
+        return false;
     }
-    if !hashes::matches(
-        &entry[entries::MD5_16K_AT..entries::NAME_AT],
-        hashes::first_part(contents),
-    ) {
-        return refusals::DIFFERENT;
-    }
-    0
+    let first = layout::part(entry, entries::MD5_16K_AT, layout::HASH_LENGTH);
+    hashes::matches(first, hashes::first_part(contents))
 }
 
 // The refusal of an entry that stands alone: it must fill its slice.
@@ -37,12 +40,7 @@ fn lone_refusal(entry: &[u8]) -> u32
             length,
             status: _,
             size: _,
-        } => {
-            if length != entry.len() {
-                return entries::fault_number(Fault::Size);
-            }
-            0
-        }
+        } => test(entries::fault_number(Fault::Size), length == entry.len(), 0),
         Item::End => entries::fault_number(Fault::Size),
         Item::Fault(fault) => entries::fault_number(fault),
     }
