@@ -1,6 +1,6 @@
 pub mod AnyOrder
 mod Bits
-mod Counts
+pub mod Counts
 pub mod MulAdds
 mod Steps
 pub mod Sums

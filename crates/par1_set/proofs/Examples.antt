@@ -7,11 +7,10 @@ use Prim.Native.Nat.{ℕ}
 use native.Mathlib.Omega.{arith}
 use lib.ListN.{length, length-append}
 use Rattle.cut_lists.specs.All.{all-none, all-more}
-use Rattle.entries.specs.Entry.{isCounted, unitsOf, unitAllowed, nameAllowed}
+use Rattle.entries.specs.Entry.{isCounted, unitsOf, unitAllowed, unitsAllowed, nameAllowed}
 use Rattle.gf256.specs.Polynomial.{coeff, sumBelow, polyProduct, remainder}
 use Rattle.gf256.specs.Field.{product, power}
 use Rattle.little_endian.specs.Bytes.{fromLe, leAt}
-use Rattle.par1_write.specs.EntryWriting.{nameBytesAllowed}
 use Rattle.par1_write.proofs.EntryWritingLaws.{length-entry}
 use Rattle.parity.specs.Coefficient.{coefficient}
 use Rattle.parity.specs.Parity.{parityByte, listBelow, parity}
@@ -38,7 +37,7 @@ p6-list = simp (length-append, length-entry)
 
 -- the set keeps the rules
 p6-right : VolumeRight 1 p6
-unfolding isCounted nameBytesAllowed nameAllowed unitsOf unitAllowed leAt fromLe
+unfolding isCounted nameAllowed unitsAllowed unitsOf unitAllowed leAt fromLe
 p6-right =
     record {
       files-right = all-more (record { size-right = refl; status-right = refl; name-right = refl })

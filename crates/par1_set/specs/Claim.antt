@@ -8,7 +8,7 @@
 --   FilesListed fs                         how the files fs stand in their list
 --   SetListed                              they stand so
 -- What excludes an empty reading: the rules ask for no more than the calls do (`OnlyVolumes`), a set with a file between that is not saved
--- keeps them (proofs/Examples.antt, `p6-right`), and n files have an order to be taken in (parity, proofs/Files.antt, `once-descending`).
+-- keeps them (proofs/Examples.antt, `p6-right`), and n files have an order to be taken in (parity specs/Claim, `SomeOrder`).
 -- The contracts of write_entry, coefficient, mul_add, write_volume, read and check cite writeEntryOf, coefficientAnswer, mulAdd,
 -- writeVolumeOf, readOf and checkOf.
 -- Assumes nothing.

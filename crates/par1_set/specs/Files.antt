@@ -16,9 +16,9 @@ use mathlib.Core.Bool.{true}
 use mathlib.Core.List.{List, [], map, foldr, flatten}
 use Prim.Native.Nat.{ℕ, _-_, max}
 use lib.ListN.{length, getD}
-use Rattle.entries.specs.Entry.{isSaved, isCounted, fileSizeAllowed}
+use Rattle.entries.specs.Entry.{isSaved, isCounted, fileSizeAllowed, nameAllowed}
 use Rattle.entries.specs.Numbering.{keep}
-use Rattle.par1_write.specs.EntryWriting.{entryBytes, statusAllowed, nameBytesAllowed}
+use Rattle.par1_write.specs.EntryWriting.{entryBytes, statusAllowed}
 
 pub record File : Type 0 where
   pub contents : List ℕ
@@ -59,4 +59,4 @@ dataSizeFor fs = foldr max 0 (map (λ x. length (x .contents)) (keep (λ x. isCo
 pub record FileRight (x : File) : Type 0 where
   pub size-right : fileSizeAllowed (length (x .contents)) ≡ true
   pub status-right : statusAllowed (x .status) ≡ true
-  pub name-right : nameBytesAllowed (x .name) ≡ true
+  pub name-right : nameAllowed (x .name) ≡ true

@@ -1,4 +1,5 @@
 pub mod Coefficients
 pub mod Files
+mod Orders
 pub mod Parities
 pub mod Volumes

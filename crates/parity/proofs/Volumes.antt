@@ -27,7 +27,7 @@ use Rattle.parity.proofs.Files.{isFile-in, isFile-inside}
 use Rattle.parity.proofs.Parities.{length-parity, parity-at, parityByte-byte, parityByte-end}
 
 module _ (rule : ℕ → ℕ → ℕ) (n : ℕ) (X : Contents) (v m : ℕ) where
-  files-parity : (ks : List ℕ) → Once (isFile n) ks
+  pub files-parity : (ks : List ℕ) → Once (isFile n) ks
       → mulAddAll (λ f. rule f v) X ks (replicate m 0) ≡ parity rule n X v m
   unfolding parityByte
   files-parity ks once =

@@ -1,6 +1,7 @@
 -- What a volume's data is made of (document 01, "The parity bytes").
 --
 --   VolumeData     every saved file, times its coefficient, added to zeros in any order, gives the data
+--   SomeOrder      there is an order in which to take the files
 --   VolumeShares   so do two shares of the files, each added to zeros, and summed
 --   ParityBytes    the parity of bytes is a byte
 --   ParityEnds     past the greatest file size the parity is 0
@@ -19,6 +20,10 @@ abbrev pub VolumeData : Type 0
 VolumeData =
     (n : ℕ) (X : Contents) (v m : ℕ) (ks : List ℕ) → Once (isFile n) ks
     → mulAddAll (λ f. coefficient f v) X ks (replicate m 0) ≡ parity coefficient n X v m
+
+-- so VolumeData speaks of every number of files; proved: proofs/Orders.antt, `some-order`
+abbrev pub SomeOrder : Type 0
+SomeOrder = (n : ℕ) → (ks : List ℕ) × Once (isFile n) ks
 
 -- document 02, 2026-12: "if the saved files are split between two boxes, .. the two buffers summed are the full parity";
 -- proved: proofs/Volumes.antt, `volume-shares`
