@@ -26,16 +26,16 @@ use Rattle.elimination.proofs.ByteField.{is-zero}
 use Rattle.elimination.proofs.Solutions.{decide}
 use Rattle.number_sets.specs.Sets.{member}
 use Rattle.volume_weights.specs.Weights.{tableOf, weightAt, solved, unsolved, fileWeight}
-use Rattle.inventory.specs.Model.{Call, addFile, removeFile, addVolume, removeVolume, count, query, Reply}
+use Rattle.inventory.specs.Model.{Call, change, count, query, Reply}
 use Rattle.inventory.specs.Steps.{isInventory}
-use Rattle.inventory.specs.Query.{Queried, noInventory, Found, empty, notEmpty, Written}
-use Rattle.inventory.specs.Claim.{Did, Ran, Answered}
+use Rattle.inventory.specs.Query.{Queried, Found, empty, notEmpty, Written}
+use Rattle.inventory.specs.Claim.{Step, Run, Answered}
 use Rattle.inventory.specs.declared.Inventory.{Inventory}
 use Rattle.inventory.specs.declared.Answer.{Answer}
 use Rattle.inventory.specs.declared.Answer.the-variants as answer
 use Rattle.inventory.proofs.ValidInventories.{few-files}
 use Rattle.inventory.proofs.QuerySteps.{written-none, written-file, written-volume}
-use Rattle.inventory.proofs.Queries.{query-out-of-range, query-present, query-undetermined, query-no-room, query-recoverable}
+use Rattle.inventory.proofs.Queries.{query-no-inventory, query-out-of-range, query-present, query-undetermined, query-no-room, query-recoverable}
 
 -- ---- the room with the weights
 
@@ -83,7 +83,7 @@ weightAt-byte rows w (suc v) = go (leb (suc v) rows)
 -- ---- a query
 
 abbrev QueryAnswered : Inventory → ℕ → List ℕ → Type 0
-QueryAnswered s f room = (a : Answer) × (room′ : List ℕ) × Queried s f room a room′
+QueryAnswered s f room = (a : Answer) × (room′ : List ℕ) × Queried coefficient s f room a room′
 
 module _ (s : Inventory) (valid : isInventory s ≡ true) (f : ℕ) (room : List ℕ) where
   module _ (inRange : isFile (s .n) f ≡ true) (missing : member (s .files) f ≡ false) where
@@ -141,24 +141,21 @@ pub query-answered : (s : Inventory) (f : ℕ) (room : List ℕ) → QueryAnswer
 query-answered s f room = go (isInventory s) refl
   where
     go : (b : Bool) → isInventory s ≡ b → QueryAnswered s f room
-    go false e = (answer.Refused 10, room, noInventory e refl refl)
+    go false e = (answer.Refused 10, room, query-no-inventory s f room e)
     go true e = valid-answered s e f room
 
 -- ---- a call, and a list of calls
 
-call-answered : (s : Inventory) (c : Call) → (r : Reply) × (s₁ : Inventory) × Did s c r s₁
-unfolding Did
-call-answered s (addFile f) = (_, _, (refl, refl))
-call-answered s (removeFile f) = (_, _, (refl, refl))
-call-answered s (addVolume v) = (_, _, (refl, refl))
-call-answered s (removeVolume v) = (_, _, (refl, refl))
+call-answered : (s : Inventory) (c : Call) → (r : Reply) × (s₁ : Inventory) × Step coefficient s c r s₁
+unfolding Step
+call-answered s (change c k) = (_, _, (refl, refl))
 call-answered s count = (_, _, (refl, refl))
 call-answered s (query f room) =
     let (a, room′, Q) = query-answered s f room in
     (_, _, (a, room′, Q, refl, refl))
 
 pub answered : Answered
-unfolding Ran
+unfolding Run
 answered s [] = ([], s, refl)
 answered s (c ∷ cs) =
     let (r, s₁, D) = call-answered s c in

@@ -1,5 +1,6 @@
 -- The rows of a query are those of the state that the inventory stands for.
 --
+--   rule, small                the rule for the coefficients that the code follows, document 01's; it gives bytes
 --   table-matrix               the table of its sets is the matrix of its state
 -- Assumes nothing.
 use mathlib.Core.Path.{_≡_, refl, sym, ap, _∙_, fun-ext}
@@ -23,6 +24,12 @@ use Rattle.inventory.proofs.ValidInventories.{within-bits, few-files, n
 use Rattle.inventory.proofs.Rows as R
 use Rattle.inventory.proofs.Rows.{mask}
 
+abbrev pub rule : ℕ → ℕ → ℕ
+rule = coefficient
+
+abbrev pub small : (f v : ℕ) → f < 256 → rule f v < 256
+small = coefficient-byte
+
 module _ (s : Inventory) (valid : isInventory s ≡ true) where
   abbrev few : s .n ≤ 254
   few = few-files s valid
@@ -39,7 +46,7 @@ module _ (s : Inventory) (valid : isInventory s ≡ true) where
 
   module _ (size : ℕ → ℕ) (matches : Matches s size) where
     abbrev inColumn : ℕ → Bool
-    inColumn = R.inColumn coefficient coefficient-byte (stateOf s size) few
+    inColumn = R.inColumn rule small (stateOf s size) few
 
     sized : (i : ℕ) → (isFile (s .n) (suc i) && (not (member (s .files) (suc i)) && member (s .nonempty) (suc i))) ≡ inColumn i
     sized i = go (isFile (s .n) (suc i)) refl
@@ -58,10 +65,10 @@ module _ (s : Inventory) (valid : isInventory s ≡ true) where
               ∙ column-bits (suc i) (omega arith) ∙ sized i
           | no q ↦
               ap (λ (b : Bool). b && (member (s .nonempty) (suc i) && not (member (s .files) (suc i)))) (lt-leb (suc i) 255 (omega arith))
-              ∙ sym (R.inColumn-past coefficient coefficient-byte (stateOf s size) few i (omega (arith, few)))
+              ∙ sym (R.inColumn-past rule small (stateOf s size) few i (omega (arith, few)))
         ]
 
-    pub table-matrix : tableOf (s .nonempty) (s .files) (s .volumes) ≡ R.matrix coefficient coefficient-byte (stateOf s size) few
+    pub table-matrix : tableOf (s .nonempty) (s .files) (s .volumes) ≡ R.matrix rule small (stateOf s size) few
     unfolding tableOf R.matrix R.coef mask
     table-matrix = fun-ext (λ v. fun-ext (λ i. at v i))
       where
@@ -70,7 +77,7 @@ module _ (s : Inventory) (valid : isInventory s ≡ true) where
         masked true false x = toByte-of-value (byteField .𝟘)
         masked false b x = toByte-of-value (byteField .𝟘)
 
-        at : (v i : ℕ) → tableOf (s .nonempty) (s .files) (s .volumes) v i ≡ R.matrix coefficient coefficient-byte (stateOf s size) few v i
+        at : (v i : ℕ) → tableOf (s .nonempty) (s .files) (s .volumes) v i ≡ R.matrix rule small (stateOf s size) few v i
         at v i =
-            masked (member (s .volumes) (suc v)) (columnIn (s .nonempty) (s .files) (suc i)) (coefficient (suc i) (suc v))
-            ∙ ap (λ (b : Bool). mask (member (s .volumes) (suc v)) (mask b (toByte (coefficient (suc i) (suc v))))) (column-same i)
+            masked (member (s .volumes) (suc v)) (columnIn (s .nonempty) (s .files) (suc i)) (rule (suc i) (suc v))
+            ∙ ap (λ (b : Bool). mask (member (s .volumes) (suc v)) (mask b (toByte (rule (suc i) (suc v))))) (column-same i)

@@ -1,13 +1,14 @@
 -- Condition 3: the claim about a whole list of calls.
 --
 --   sound        the replies are the model's, and the inventory stands for the model's state
---   condition    the claim, for every accepted opening and every list of calls
+--   condition-for    the claim over any rule, for every accepted opening and every list of calls
+--   condition    the claim at document 01's rule
 -- Assumes nothing.
 use mathlib.Core.Path.{_≡_, refl, sym, ap, _∙_, subst}
 use mathlib.Core.Logic.{_↔_}
 use mathlib.Core.Bool.{Bool, true, false}
 use mathlib.Core.List.{List, [], _∷_, _++_}
-use Prim.Native.Nat.{ℕ, zero, suc, _≤_}
+use Prim.Native.Nat.{ℕ, zero, suc, _<_, _≤_}
 use native.Mathlib.Nat.{not-suc-le-zero}
 use native.Mathlib.Omega.{arith}
 use lib.ListN.{length, take, drop, replicate}
@@ -21,92 +22,97 @@ use Rattle.parity.proofs.Coefficients.{coefficient-byte}
 use Rattle.inventory.specs.Recoverable.{State, IsContents, Recoverable, IsWeights, place, present, ComeFrom}
 use Rattle.inventory.specs.Model.{Call, query, Reply, queried, opened, next, after, Gives, GivesQuery, GivesMissing, undetermined, noRoom, recoverable, GivesAll}
 use Rattle.inventory.specs.Steps.{openStep}
-use Rattle.inventory.specs.Claim.{Did, Ran, sizeIn, Condition3}
+use Rattle.inventory.specs.Claim.{Step, Run, sizeIn, ConditionFor, Condition3}
 use Rattle.inventory.specs.declared.Inventory.{Inventory}
 use Rattle.inventory.proofs.Following.{follow}
 use Rattle.inventory.proofs.Representation.{Represents, opened-represents, meets}
-use Rattle.inventory.proofs.Calls.{after-n, after-size, after-told, givesAll-one}
+use Rattle.inventory.proofs.Told.{after-told}
+use Rattle.inventory.proofs.Calls.{after-same, givesAll-one}
 
-pub sound : (size : ℕ → ℕ) (t : State) (s : Inventory) (cs : List Call) (rs : List Reply) (e : Inventory)
-    → Represents size t s → Ran s cs rs e → GivesAll coefficient t cs rs × Represents size (after t cs) e
-unfolding Ran GivesAll after
-sound size t s [] [] e R q = (tt, subst (Represents size t) q R)
-sound size t s [] (r ∷ rs) e R q = absurd q
-sound size t s (c ∷ cs) [] e R q = absurd q
-sound size t s (c ∷ cs) (r ∷ rs) e R (s₁, d, q) =
-    let m : Gives coefficient t c r × Represents size (next t c) s₁ = meets size t s c r s₁ R d in
-    let h : GivesAll coefficient (next t c) cs rs × Represents size (after (next t c) cs) e =
-    sound size (next t c) s₁ cs rs e (m .1) q in
+pub sound : (rule : ℕ → ℕ → ℕ) (size : ℕ → ℕ) (t : State) (s : Inventory) (cs : List Call) (rs : List Reply) (e : Inventory)
+    → Represents size t s → Run rule s cs rs e → GivesAll rule t cs rs × Represents size (after t cs) e
+unfolding Run GivesAll after
+sound rule size t s [] [] e R q = (tt, subst (Represents size t) q R)
+sound rule size t s [] (r ∷ rs) e R q = absurd q
+sound rule size t s (c ∷ cs) [] e R q = absurd q
+sound rule size t s (c ∷ cs) (r ∷ rs) e R (s₁, d, q) =
+    let m : Gives rule t c r × Represents size (next t c) s₁ = meets rule size t s c r s₁ R d in
+    let h : GivesAll rule (next t c) cs rs × Represents size (after (next t c) cs) e =
+    sound rule size (next t c) s₁ cs rs e (m .1) q in
     ((m .0, h .0), h .1)
 
--- what the model's reply to a query about a missing file says
-missing-exactly : (t : State) (f : ℕ) (room : List ℕ) → 255 ≤ length room → (number : ℕ) (room′ : List ℕ) (r : Reply) → r ≡ queried number room′
-    → GivesMissing coefficient t f room r → (number ≡ 0) ↔ Recoverable coefficient t f
-missing-exactly t f room l number room′ r e (undetermined q) =
-    let n : number ≡ 12 = cc in (λ z. absurd (omega arith), λ y. absurd (q y))
-missing-exactly t f room l number room′ r e (noRoom y b) = absurd (omega arith)
-missing-exactly t f room l number room′ r e (recoverable y b w W) =
-    let n : number ≡ 0 = cc in (λ z. y, λ z. n)
+module _ (rule : ℕ → ℕ → ℕ) (small : (f v : ℕ) → f < 256 → rule f v < 256) where
+  -- what the model's reply to a query about a missing file says
+  missing-exactly : (t : State) (f : ℕ) (room : List ℕ) → 255 ≤ length room → (number : ℕ) (room′ : List ℕ) (r : Reply) → r ≡ queried number room′
+      → GivesMissing rule t f room r → (number ≡ 0) ↔ Recoverable rule t f
+  missing-exactly t f room l number room′ r e (undetermined q) =
+      let n : number ≡ 12 = cc in (λ z. absurd (omega arith), λ y. absurd (q y))
+  missing-exactly t f room l number room′ r e (noRoom y b) = absurd (omega arith)
+  missing-exactly t f room l number room′ r e (recoverable y b w W) =
+      let n : number ≡ 0 = cc in (λ z. y, λ z. n)
 
-missing-weights : (t : State) (f : ℕ) (room room′ : List ℕ) (r : Reply) → r ≡ queried 0 room′
-    → GivesMissing coefficient t f room r → IsWeights coefficient t f (take 255 room′)
-missing-weights t f room room′ r e (undetermined q) = let z : _≡_ {A = ℕ} 0 12 = cc in absurd (omega arith)
-missing-weights t f room room′ r e (noRoom y b) = let z : _≡_ {A = ℕ} 0 14 = cc in absurd (omega arith)
-missing-weights t f room room′ r e (recoverable y b w W) =
-    let z : room′ ≡ w ++ drop 255 room = cc in
-    subst (IsWeights coefficient t f) (sym (ap (take 255) z ∙ take-at w (drop 255 room) 255 (W .places))) W
+  missing-weights : (t : State) (f : ℕ) (room room′ : List ℕ) (r : Reply) → r ≡ queried 0 room′
+      → GivesMissing rule t f room r → IsWeights rule t f (take 255 room′)
+  missing-weights t f room room′ r e (undetermined q) = let z : _≡_ {A = ℕ} 0 12 = cc in absurd (omega arith)
+  missing-weights t f room room′ r e (noRoom y b) = let z : _≡_ {A = ℕ} 0 14 = cc in absurd (omega arith)
+  missing-weights t f room room′ r e (recoverable y b w W) =
+      let z : room′ ≡ w ++ drop 255 room = cc in
+      subst (IsWeights rule t f) (sym (ap (take 255) z ∙ take-at w (drop 255 room) 255 (W .places))) W
 
--- following the weights of any file, by its number
-follow-file : (t : State) → t .n ≤ 254 → (X : Contents) → IsContents t X → (f : ℕ) → isFile (t .n) f ≡ true → t .files f ≡ false
-    → (w : List ℕ) → IsWeights coefficient t f w → (fragment : ℕ → List ℕ) → ComeFrom coefficient t X fragment
-    → (ks : List ℕ) → Once (present t) ks → mulAddAll (place w) fragment ks (replicate (t .size f) 0) ≡ X f
-follow-file t l X hX zero r m w W fragment from ks once = absurd (not-suc-le-zero (oneTo-inside (t .n) zero r .0))
-follow-file t l X hX (suc f) r m w W fragment from ks once =
-    follow coefficient coefficient-byte t l X hX f (oneTo-inside (t .n) (suc f) r .1) m w W fragment from ks once
+  -- following the weights of any file, by its number
+  follow-file : (t : State) → t .n ≤ 254 → (X : Contents) → IsContents t X → (f : ℕ) → isFile (t .n) f ≡ true → t .files f ≡ false
+      → (w : List ℕ) → IsWeights rule t f w → (fragment : ℕ → List ℕ) → ComeFrom rule t X fragment
+      → (ks : List ℕ) → Once (present t) ks → mulAddAll (place w) fragment ks (replicate (t .size f) 0) ≡ X f
+  follow-file t l X hX zero r m w W fragment from ks once = absurd (not-suc-le-zero (oneTo-inside (t .n) zero r .0))
+  follow-file t l X hX (suc f) r m w W fragment from ks once =
+      follow rule small t l X hX f (oneTo-inside (t .n) (suc f) r .1) m w W fragment from ks once
+
+  pub condition-for : ConditionFor rule
+  unfolding Gives
+  condition-for n sizes accepted cs rs s run = record {
+    replies = whole .0;
+    afterwards = λ adds told ra s′ run′ more r r′ e e′ ran ran′.
+        let R′ = subst (λ (t : State). Represents size t s′) (after-told n size cs adds told) (sound rule size start o adds ra s′ R run′ .1) in
+        givesAll-one rule small now fits more r r′ (sound rule size now s more r e (whole .1) ran .0)
+        (sound rule size now s′ more r′ e′ R′ ran′ .0);
+    exactly = λ f r m room l number room′ e did.
+        missing-exactly now f room l number room′ (queried number room′) refl (asked f r m room (queried number room′) e did);
+    follows = λ f r m room room′ e did X hX fragment from ks once.
+        ap (λ (k : ℕ). mulAddAll (place (take 255 room′)) fragment ks (replicate k 0)) (sym (ap (λ (g : ℕ → ℕ). g f) (after-same (opened n size) cs .same-size)))
+        ∙ follow-file now fits X hX f (in-range f r) m (take 255 room′)
+        (missing-weights now f room room′ (queried 0 room′) refl (asked f r m room (queried 0 room′) e did)) fragment from ks once;
+  }
+    where
+      size : ℕ → ℕ
+      size = sizeIn sizes
+
+      o : Inventory
+      o = openStep n sizes .next
+
+      start : State
+      start = opened n size
+
+      now : State
+      now = after start cs
+
+      R : Represents size start o
+      R = opened-represents n sizes accepted .1
+
+      whole : GivesAll rule start cs rs × Represents size now s
+      whole = sound rule size start o cs rs s R run
+
+      fits : now .n ≤ 254
+      fits = subst (λ (k : ℕ). k ≤ 254) (sym (after-same (opened n size) cs .same-n)) (opened-represents n sizes accepted .0)
+
+      in-range : (f : ℕ) → isFile n f ≡ true → isFile (now .n) f ≡ true
+      in-range f r = subst (λ (k : ℕ). isFile k f ≡ true) (sym (after-same (opened n size) cs .same-n)) r
+
+      asked : (f : ℕ) → isFile n f ≡ true → now .files f ≡ false → (room : List ℕ) (r : Reply) (e : Inventory) → Step rule s (query f room) r e
+          → GivesMissing rule now f room r
+      asked f q m room r e did =
+          subst (λ (b : Bool). GivesQuery rule now f room true b r) m
+          (subst (λ (b : Bool). GivesQuery rule now f room b (now .files f) r) (in-range f q)
+          (meets rule size now s (query f room) r e (whole .1) did .0))
 
 pub condition : Condition3
-unfolding Gives
-condition n sizes accepted cs rs s run = record {
-  replies = whole .0;
-  afterwards = λ adds told ra s′ run′ more r r′ e e′ ran ran′.
-      let R′ = subst (λ (t : State). Represents size t s′) (after-told n size cs adds told) (sound size start o adds ra s′ R run′ .1) in
-      givesAll-one coefficient coefficient-byte now fits more r r′ (sound size now s more r e (whole .1) ran .0)
-      (sound size now s′ more r′ e′ R′ ran′ .0);
-  exactly = λ f r m room l number room′ e did.
-      missing-exactly now f room l number room′ (queried number room′) refl (asked f r m room (queried number room′) e did);
-  follows = λ f r m room room′ e did X hX fragment from ks once.
-      ap (λ (k : ℕ). mulAddAll (place (take 255 room′)) fragment ks (replicate k 0)) (sym (ap (λ (g : ℕ → ℕ). g f) (after-size n size cs)))
-      ∙ follow-file now fits X hX f (in-range f r) m (take 255 room′)
-      (missing-weights now f room room′ (queried 0 room′) refl (asked f r m room (queried 0 room′) e did)) fragment from ks once;
-}
-  where
-    size : ℕ → ℕ
-    size = sizeIn sizes
-
-    o : Inventory
-    o = openStep n sizes .next
-
-    start : State
-    start = opened n size
-
-    now : State
-    now = after start cs
-
-    R : Represents size start o
-    R = opened-represents n sizes accepted .1
-
-    whole : GivesAll coefficient start cs rs × Represents size now s
-    whole = sound size start o cs rs s R run
-
-    fits : now .n ≤ 254
-    fits = subst (λ (k : ℕ). k ≤ 254) (sym (after-n n size cs)) (opened-represents n sizes accepted .0)
-
-    in-range : (f : ℕ) → isFile n f ≡ true → isFile (now .n) f ≡ true
-    in-range f r = subst (λ (k : ℕ). isFile k f ≡ true) (sym (after-n n size cs)) r
-
-    asked : (f : ℕ) → isFile n f ≡ true → now .files f ≡ false → (room : List ℕ) (r : Reply) (e : Inventory) → Did s (query f room) r e
-        → GivesMissing coefficient now f room r
-    asked f q m room r e did =
-        subst (λ (b : Bool). GivesQuery coefficient now f room true b r) m
-        (subst (λ (b : Bool). GivesQuery coefficient now f room b (now .files f) r) (in-range f q)
-        (meets size now s (query f room) r e (whole .1) did .0))
+condition = condition-for coefficient coefficient-byte

@@ -4,13 +4,16 @@ pub mod Outcomes
 pub mod Rows
 pub mod Recovery
 pub mod Weights
+pub mod EmptyFiles
 mod Following
 mod CoefficientRows
 mod QuerySteps
 mod Queries
+pub mod Calls
+pub mod Told
+pub mod Determined
+pub mod Refused
 pub mod Representation
-mod Calls
 pub mod Condition
 pub mod Answered
-pub mod Determined
 pub mod Reachable

@@ -18,7 +18,8 @@ use Rattle.computed_tests.specs.Numbers.{allBelow}
 use Rattle.computed_tests.proofs.Tests.{all-false, all-true}
 use Rattle.parity.specs.Parity.{isFile}
 use Rattle.number_sets.specs.Sets.{inserted}
-use Rattle.inventory.specs.Steps.{outcome, changeNumber, unlessRefused, accepted, withFiles, withVolumes, fresh, refusedOpening, nonemptyOf, openStep}
+use Rattle.inventory.specs.Model.{changeNumber, unlessRefused}
+use Rattle.inventory.specs.Steps.{ifInventory, outcome, accepted, withFiles, withVolumes, fresh, refusedOpening, nonemptyOf, openStep}
 use Rattle.inventory.specs.declared.Inventory.{Inventory}
 use Rattle.inventory.specs.declared.Outcome.{Outcome}
 
@@ -43,8 +44,8 @@ module _ (s : Inventory) (ws now changed : List ℕ) (k number : ℕ) (is : chan
   volumes-changed = set-changed (withVolumes s) (s .volumes) refl
 
 -- the tests of the code are those of the step
-pub number-same : {a a′ b b′ c c′ : Bool} → a ≡ a′ → b ≡ b′ → c ≡ c′ → changeNumber a b c ≡ changeNumber a′ b′ c′
-number-same e f g = cc
+pub number-same : (s : Inventory) {a a′ b b′ : Bool} → a ≡ a′ → b ≡ b′ → ifInventory s (changeNumber a b) ≡ ifInventory s (changeNumber a′ b′)
+number-same s e f = cc
 
 -- ---- a row of tests
 

@@ -1,8 +1,9 @@
 -- The reply to a query is the model's, whatever the sizes are.
 --
---   query-out-of-range, query-present, query-undetermined, query-no-room, query-recoverable     the cases of a query
+--   query-no-inventory, query-out-of-range, query-present, query-undetermined, query-no-room, query-recoverable     the cases of a query
 -- Assumes nothing.
 use mathlib.Core.Path.{_≡_, refl, sym, ap, ap₂, _∙_, subst}
+use mathlib.Core.Logic.{_⊎_, inl, inr}
 use mathlib.Core.Bool.{Bool, true, false, not, cond, _&&_, true≢false, false≢true}
 use mathlib.Core.List.{List, _++_}
 use Prim.Native.Nat.{ℕ, suc, _<_, _≤_, _+_, _-_}
@@ -15,9 +16,7 @@ use Rattle.computed_tests.proofs.Tests.{oneTo-inside}
 use Rattle.gf256.specs.Field.{product}
 use Rattle.gf256.proofs.Polynomials.{sumBelow-same, sumBelow-none}
 use Rattle.gf256.proofs.Products.{product-zero-r}
-use Rattle.parity.specs.Coefficient.{coefficient}
 use Rattle.parity.specs.Parity.{isFile}
-use Rattle.parity.proofs.Coefficients.{coefficient-byte}
 use Rattle.elimination.specs.Matrix.{IsSolution, IsKernelVector}
 use Rattle.elimination.specs.ByteField.{Byte, byteField}
 use Rattle.number_sets.specs.Sets.{member}
@@ -25,35 +24,67 @@ use Rattle.volume_weights.specs.Weights.{tableOf, solved, unsolved, fileWeight}
 use Rattle.volume_weights.proofs.Steps.{weight-below}
 use Rattle.inventory.specs.Recoverable.{State, column, place, weighted, Recoverable, IsWeights}
 use Rattle.inventory.specs.Model.{Reply, queried, query, Gives, GivesQuery, undetermined, noRoom, recoverable}
-use Rattle.inventory.specs.Steps.{isInventory}
-use Rattle.inventory.specs.Query.{stateOf, Matches, answerOf, Queried, asModel, Found, empty, notEmpty, Written}
+use Rattle.inventory.specs.Steps.{isInventory, answerNumber}
+use Rattle.inventory.specs.Query.{stateOf, Matches, Queried, Found, empty, notEmpty, Written}
 use Rattle.inventory.specs.declared.Inventory.{Inventory}
+use Rattle.inventory.specs.declared.Answer.{Answer}
 use Rattle.inventory.specs.declared.Answer.the-variants as answer
 use Rattle.inventory.proofs.Rows as R
 use Rattle.inventory.proofs.Recovery.{solution-recoverable, kernel-unrecoverable, empty-recoverable}
 use Rattle.inventory.proofs.Weights.{Weighs, solution-weighs, zero-weighs, is-weights}
 use Rattle.inventory.proofs.ValidInventories.{few-files}
-use Rattle.inventory.proofs.CoefficientRows.{table-matrix}
+use Rattle.inventory.proofs.CoefficientRows.{rule, small, table-matrix}
+
+-- ---- an answer and its number
+
+abbrev Refusal : Answer → Type 0
+Refusal r = (k : ℕ) → r ≡ answer.Refused k → (k ≡ 10) ⊎ (k ≡ 14)
+
+refused-out-of-range : Refusal (answer.Refused 10)
+refused-out-of-range k e = let is : k ≡ 10 = cc in inl is
+
+refused-no-room : Refusal (answer.Refused 14)
+refused-no-room k e = let is : k ≡ 14 = cc in inr is
+
+not-refused-present : Refusal answer.Present
+not-refused-present k e = let z : _≡_ {A = ℕ} 0 1 = cc in absurd (omega arith)
+
+not-refused-undetermined : Refusal answer.Undetermined
+not-refused-undetermined k e = let z : _≡_ {A = ℕ} 0 1 = cc in absurd (omega arith)
+
+not-refused-recoverable : Refusal answer.Recoverable
+not-refused-recoverable k e = let z : _≡_ {A = ℕ} 0 1 = cc in absurd (omega arith)
+
+pub query-no-inventory : (s : Inventory) (f : ℕ) (room : List ℕ) → isInventory s ≡ false → Queried rule s f room (answer.Refused 10) room
+unfolding answerNumber
+query-no-inventory s f room e =
+    record { first = λ _. refl; as-model = λ v. absurd (true≢false (sym v ∙ e)); refusal = refused-out-of-range }
+
+answered : {s : Inventory} {f : ℕ} {room : List ℕ} {r : Answer} {room′ : List ℕ} → isInventory s ≡ true → Refusal r
+    → ((size : ℕ → ℕ) → Matches s size → Gives rule (stateOf s size) (query f room) (queried (answerNumber r) room′))
+    → Queried rule s f room r room′
+answered valid refusal gives =
+    record { first = λ e. absurd (true≢false (sym valid ∙ e)); as-model = λ _. gives; refusal = refusal }
 
 module _ (s : Inventory) (valid : isInventory s ≡ true) (f : ℕ) where
   -- ---- the cases
 
   module _ (room : List ℕ) where
     as-model : (size : ℕ → ℕ) (inRange has : Bool) (r : Reply) → isFile (s .n) f ≡ inRange → member (s .files) f ≡ has
-        → GivesQuery coefficient (stateOf s size) f room inRange has r → Gives coefficient (stateOf s size) (query f room) r
+        → GivesQuery rule (stateOf s size) f room inRange has r → Gives rule (stateOf s size) (query f room) r
     unfolding Gives
     as-model size inRange has r p q g =
-        subst (λ (b : Bool). GivesQuery coefficient (stateOf s size) f room b (member (s .files) f) r) (sym p)
-        (subst (λ (b : Bool). GivesQuery coefficient (stateOf s size) f room inRange b r) (sym q) g)
+        subst (λ (b : Bool). GivesQuery rule (stateOf s size) f room b (member (s .files) f) r) (sym p)
+        (subst (λ (b : Bool). GivesQuery rule (stateOf s size) f room inRange b r) (sym q) g)
 
-    pub query-out-of-range : isFile (s .n) f ≡ false → Queried s f room (answer.Refused 10) room
-    unfolding answerOf
+    pub query-out-of-range : isFile (s .n) f ≡ false → Queried rule s f room (answer.Refused 10) room
+    unfolding answerNumber
     query-out-of-range e =
-        asModel valid 10 refl (λ size matches. as-model size false (member (s .files) f) (queried 10 room) e refl refl)
+        answered valid refused-out-of-range (λ size matches. as-model size false (member (s .files) f) (queried 10 room) e refl refl)
 
-    pub query-present : isFile (s .n) f ≡ true → member (s .files) f ≡ true → Queried s f room answer.Present room
-    unfolding answerOf
-    query-present e h = asModel valid 13 refl (λ size matches. as-model size true true (queried 13 room) e h refl)
+    pub query-present : isFile (s .n) f ≡ true → member (s .files) f ≡ true → Queried rule s f room answer.Present room
+    unfolding answerNumber
+    query-present e h = answered valid not-refused-present (λ size matches. as-model size true true (queried 13 room) e h refl)
 
   module _ (inRange : isFile (s .n) f ≡ true) (missing : member (s .files) f ≡ false) (room : List ℕ) where
     abbrev state : (ℕ → ℕ) → State
@@ -63,7 +94,7 @@ module _ (s : Inventory) (valid : isInventory s ≡ true) (f : ℕ) where
     table = tableOf (s .nonempty) (s .files) (s .volumes)
 
     abbrev matrix : (ℕ → ℕ) → ℕ → ℕ → Byte
-    matrix size = R.matrix coefficient coefficient-byte (state size) (few-files s valid)
+    matrix size = R.matrix rule small (state size) (few-files s valid)
 
     -- file f is f - 1 and one
     as-suc : f ≡ suc (f - 1)
@@ -88,36 +119,36 @@ module _ (s : Inventory) (valid : isInventory s ≡ true) (f : ℕ) where
         subst (λ (A : ℕ → ℕ → Byte). IsSolution byteField A 256 (255 - s .n) (f - 1) w) (table-matrix s valid size matches) W
 
     recovered : (ws : List ℕ) (found : Bool) → Found (s .n) (s .files) (s .volumes) (s .nonempty) f found ws → found ≡ true → (size : ℕ → ℕ) → Matches s size
-        → Recoverable coefficient (state size) f
+        → Recoverable rule (state size) f
     recovered ws found (empty e y z) t size matches =
-        empty-recoverable coefficient (state size) f inRange (is-empty size matches e)
+        empty-recoverable rule (state size) f inRange (is-empty size matches e)
     recovered ws found (notEmpty e (solved w W h)) t size matches =
-        subst (Recoverable coefficient (state size)) (sym as-suc)
-        (solution-recoverable coefficient coefficient-byte (state size) (few-files s valid) (f - 1) below w
+        subst (Recoverable rule (state size)) (sym as-suc)
+        (solution-recoverable rule small (state size) (few-files s valid) (f - 1) below w
         (solution-in size matches w W))
     recovered ws found (notEmpty e (unsolved x X z)) t size matches = absurd (false≢true t)
 
     pub query-undetermined : (ws : List ℕ) (found : Bool) → Found (s .n) (s .files) (s .volumes) (s .nonempty) f found ws → found ≡ false
-        → Queried s f room answer.Undetermined room
-    unfolding answerOf
+        → Queried rule s f room answer.Undetermined room
+    unfolding answerNumber
     query-undetermined ws found (empty e y z) t = absurd (true≢false (sym y ∙ t))
     query-undetermined ws found (notEmpty e (solved w W h)) t = absurd (true≢false t)
     query-undetermined ws found (notEmpty e (unsolved x X z)) t =
-        asModel valid 12 refl
+        answered valid not-refused-undetermined
         (λ size matches.
         as-model room size true false (queried 12 room) inRange missing
         (undetermined
         (λ r.
-        kernel-unrecoverable coefficient coefficient-byte (state size) (few-files s valid) (f - 1) below
+        kernel-unrecoverable rule small (state size) (few-files s valid) (f - 1) below
         (is-column size matches e) x
         (subst (λ (A : ℕ → ℕ → Byte). IsKernelVector byteField A 256 (255 - s .n) (f - 1) x) (table-matrix s valid size matches) X)
-        (subst (Recoverable coefficient (state size)) as-suc r))))
+        (subst (Recoverable rule (state size)) as-suc r))))
 
     pub query-no-room : (ws : List ℕ) (found : Bool) → Found (s .n) (s .files) (s .volumes) (s .nonempty) f found ws → found ≡ true → length room < 255
-        → Queried s f room (answer.Refused 14) room
-    unfolding answerOf
+        → Queried rule s f room (answer.Refused 14) room
+    unfolding answerNumber
     query-no-room ws found S t l =
-        asModel valid 14 refl
+        answered valid refused-no-room
         (λ size matches.
         as-model room size true false (queried 14 room) inRange missing (noRoom (recovered ws found S t size matches) l))
 
@@ -160,25 +191,25 @@ module _ (s : Inventory) (valid : isInventory s ≡ true) (f : ℕ) where
 
       -- the weight of a file by its bit
       file-term : (b : Bool) (i v : ℕ) → member (s .files) (suc i) ≡ b
-          → product (getD ws (suc v) 0) (cond (member (s .files) (suc i)) (coefficient (suc i) (suc v)) 0)
-          ≡ cond b (product (getD ws (suc v) 0) (coefficient (suc i) (suc v))) 0
-      file-term true i v e = ap (λ (b : Bool). product (getD ws (suc v) 0) (cond b (coefficient (suc i) (suc v)) 0)) e
+          → product (getD ws (suc v) 0) (cond (member (s .files) (suc i)) (rule (suc i) (suc v)) 0)
+          ≡ cond b (product (getD ws (suc v) 0) (rule (suc i) (suc v))) 0
+      file-term true i v e = ap (λ (b : Bool). product (getD ws (suc v) 0) (cond b (rule (suc i) (suc v)) 0)) e
       file-term false i v e =
-          ap (λ (b : Bool). product (getD ws (suc v) 0) (cond b (coefficient (suc i) (suc v)) 0)) e
+          ap (λ (b : Bool). product (getD ws (suc v) 0) (cond b (rule (suc i) (suc v)) 0)) e
           ∙ product-zero-r (getD ws (suc v) 0)
 
       present-weight : (size : ℕ → ℕ) (i : ℕ) → i < s .n → member (s .files) (suc i) ≡ true
-          → getD written i 0 ≡ weighted coefficient (state size) written (suc i)
+          → getD written i 0 ≡ weighted rule (state size) written (suc i)
       unfolding fileWeight weighted
       present-weight size i l e =
           let b = few-files s valid in
           written-at i (omega arith) ∙ W .of-files i (omega arith) l
           ∙ sumBelow-same (255 - s .n)
-          (λ v. product (getD ws (suc v) 0) (cond (member (s .files) (suc i)) (coefficient (suc i) (suc v)) 0))
-          (λ v. product (place written (s .n + suc v)) (coefficient (suc i) (suc v)))
+          (λ v. product (getD ws (suc v) 0) (cond (member (s .files) (suc i)) (rule (suc i) (suc v)) 0))
+          (λ v. product (place written (s .n + suc v)) (rule (suc i) (suc v)))
           (λ v h.
           file-term true i v e
-          ∙ ap (λ (x : ℕ). product x (coefficient (suc i) (suc v)))
+          ∙ ap (λ (x : ℕ). product x (rule (suc i) (suc v)))
           (sym (written-volume v h) ∙ ap (λ (k : ℕ). getD written k 0) (omega arith)))
 
       missing-weight : (i : ℕ) → i < s .n → member (s .files) (suc i) ≡ false → getD written i 0 ≡ 0
@@ -187,35 +218,35 @@ module _ (s : Inventory) (valid : isInventory s ≡ true) (f : ℕ) where
           let b = few-files s valid in
           written-at i (omega arith) ∙ W .of-files i (omega arith) l
           ∙ sumBelow-same (255 - s .n)
-          (λ v. product (getD ws (suc v) 0) (cond (member (s .files) (suc i)) (coefficient (suc i) (suc v)) 0)) (λ v. 0)
+          (λ v. product (getD ws (suc v) 0) (cond (member (s .files) (suc i)) (rule (suc i) (suc v)) 0)) (λ v. 0)
           (λ v h. file-term false i v e)
           ∙ sumBelow-none (255 - s .n)
 
-      weights-of : (size : ℕ → ℕ) (w : ℕ → Byte) → Weighs coefficient coefficient-byte (state size) (few-files s valid) f w
-          → ((v : ℕ) → v < 255 - s .n → getD ws (suc v) 0 ≡ w v .0) → IsWeights coefficient (state size) f written
+      weights-of : (size : ℕ → ℕ) (w : ℕ → Byte) → Weighs rule small (state size) (few-files s valid) f w
+          → ((v : ℕ) → v < 255 - s .n → getD ws (suc v) 0 ≡ w v .0) → IsWeights rule (state size) f written
       weights-of size w weighs h =
-          is-weights coefficient coefficient-byte (state size) (few-files s valid) f w weighs written written-long written-bytes
+          is-weights rule small (state size) (few-files s valid) f w weighs written written-long written-bytes
           (λ v l. written-volume v l ∙ h v l) (present-weight size) missing-weight
 
       written-weights : (found : Bool) → Found (s .n) (s .files) (s .volumes) (s .nonempty) f found ws → found ≡ true → (size : ℕ → ℕ) → Matches s size
-          → IsWeights coefficient (state size) f written
+          → IsWeights rule (state size) f written
       written-weights found (empty e y z) t size matches =
           weights-of size (λ v. byteField .𝟘)
-          (zero-weighs coefficient coefficient-byte (state size) (few-files s valid) f
+          (zero-weighs rule small (state size) (few-files s valid) f
           (ap₂ (λ (a b : Bool). not a && b) missing (sym (matches f inRange) ∙ e)))
           (λ v l. z (suc v))
       written-weights found (notEmpty e (solved w X h)) t size matches =
           weights-of size w
-          (subst (λ (k : ℕ). Weighs coefficient coefficient-byte (state size) (few-files s valid) k w) (sym as-suc)
-          (solution-weighs coefficient coefficient-byte (state size) (few-files s valid) (f - 1) w (solution-in size matches w X)))
+          (subst (λ (k : ℕ). Weighs rule small (state size) (few-files s valid) k w) (sym as-suc)
+          (solution-weighs rule small (state size) (few-files s valid) (f - 1) w (solution-in size matches w X)))
           (λ v l. h (suc v) (omega arith) ∙ weight-below (255 - s .n) w v l)
       written-weights found (notEmpty e (unsolved x X z)) t size matches = absurd (false≢true t)
 
-      pub query-recoverable : (found : Bool) → Found (s .n) (s .files) (s .volumes) (s .nonempty) f found ws → found ≡ true → Queried s f room answer.Recoverable room′
-      unfolding answerOf
+      pub query-recoverable : (found : Bool) → Found (s .n) (s .files) (s .volumes) (s .nonempty) f found ws → found ≡ true → Queried rule s f room answer.Recoverable room′
+      unfolding answerNumber
       query-recoverable found S t =
-          asModel valid 0 refl
+          answered valid not-refused-recoverable
           (λ size matches.
-          subst (λ (l : List ℕ). Gives coefficient (state size) (query f room) (queried 0 l)) (sym written-rest)
+          subst (λ (l : List ℕ). Gives rule (state size) (query f room) (queried 0 l)) (sym written-rest)
           (as-model room size true false (queried 0 (written ++ drop 255 room)) inRange missing
           (recoverable (recovered ws found S t size matches) long written (written-weights found S t size matches))))

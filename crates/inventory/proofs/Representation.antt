@@ -9,7 +9,7 @@
 -- Assumes nothing.
 use mathlib.Core.Path.{_≡_, refl, sym, ap, ap₂, _∙_, subst, fun-ext}
 use mathlib.Core.Logic.{_≢_}
-use mathlib.Core.Bool.{Bool, true, false, not, cond, _&&_, _||_, true≢false, false≢true, and-false, Bool·not-not}
+use mathlib.Core.Bool.{Bool, true, false, not, cond, _&&_, _||_, false≢true, and-false}
 use mathlib.Core.List.{List}
 use Prim.Native.Nat.{ℕ, zero, suc, _<_, _≤_, _-_}
 use native.Mathlib.Omega.{arith}
@@ -19,19 +19,16 @@ use lib.ListN.{length, getD, replicate, length-replicate}
 use borrow.Author.Tests.{eq-eqb, ne-eqb, eqb-true, le-leb, lt-leb}
 use Rattle.computed_tests.specs.Numbers.{allBelow}
 use Rattle.computed_tests.proofs.Tests.{and-both, oneTo-in, oneTo-outside, oneTo-inside}
-use Rattle.parity.specs.Coefficient.{coefficient}
 use Rattle.parity.specs.Parity.{isFile}
-use Rattle.number_sets.specs.Sets.{member, inserted, removed, sizeBelow, Words}
-use Rattle.inventory.specs.Recoverable.{State, isVolume}
+use Rattle.number_sets.specs.Sets.{member, inserted, removed, Words}
+use Rattle.inventory.specs.Recoverable.{State}
 use Rattle.inventory.specs.Model as M
-use Rattle.inventory.specs.Model.{Call, addFile, removeFile, addVolume, removeVolume, count, query, Reply, numbered, queried, opened, insert, remove, next, Gives}
-use Rattle.inventory.specs.Steps.{within, isInventory, nonemptyOf, fresh, outcome, accepted, refusedOpening, openStep, changeNumber, withFiles, withVolumes, addFileStep, removeFileStep, addVolumeStep, removeVolumeStep, countStep, answerNumber}
-use Rattle.inventory.specs.Query.{stateOf, Matches, answerOf, Queried, noInventory, asModel}
-use Rattle.inventory.specs.Claim.{countReply, Did, sizeIn}
+use Rattle.inventory.specs.Model.{Change, addFile, removeFile, addVolume, removeVolume, Call, change, count, query, Reply, numbered, queried, opened, insert, remove, inRange, already, changed, changeNumber, unlessRefused, next, Gives}
+use Rattle.inventory.specs.Steps.{within, isInventory, ifInventory, nonemptyOf, fresh, outcome, accepted, refusedOpening, openStep, withFiles, withVolumes, afterChange, changeStep, countStep, answerNumber}
+use Rattle.inventory.specs.Query.{stateOf, Matches, Queried}
+use Rattle.inventory.specs.Claim.{Step, sizeIn}
 use Rattle.inventory.specs.declared.Inventory.{Inventory}
-use Rattle.inventory.specs.declared.Counted.the-variants as counted
 use Rattle.inventory.specs.declared.Answer.{Answer}
-use Rattle.inventory.specs.declared.Answer.the-variants as answer
 use Rattle.number_sets.proofs.Words.{member-inserted, member-removed, member-none, length-inserted, length-removed, words-none, words-inserted}
 use Rattle.inventory.proofs.ValidInventories.{within-bits, within-by, n-valid, few-files, files-valid, nonempty-valid, volumes-valid}
 
@@ -95,18 +92,6 @@ represents {size} {n} r F W e m = record {
 
 -- ---- one call
 
--- the number of the answer with the number k
-answer-number : (k : ℕ) → answerNumber (answerOf k) ≡ k
-unfolding answerNumber answerOf
-answer-number k = go (eqb k 0) refl (eqb k 12) refl (eqb k 13) refl
-  where
-    go : (a : Bool) → eqb k 0 ≡ a → (b : Bool) → eqb k 12 ≡ b → (c : Bool) → eqb k 13 ≡ c
-        → answerNumber (cond a answer.Recoverable (cond b answer.Undetermined (cond c answer.Present (answer.Refused k)))) ≡ k
-    go true p b q c r = sym (eqb-true k 0 p)
-    go false p true q c r = sym (eqb-true k 12 q)
-    go false p false q true r = sym (eqb-true k 13 r)
-    go false p false q false r = refl
-
 module _ (size : ℕ → ℕ) (s : Inventory) (R : Represents size (stateOf s size) s) where
   files-set : IsSet (s .n) (s .files) (member (s .files))
   files-set = record {
@@ -125,72 +110,48 @@ module _ (size : ℕ → ℕ) (s : Inventory) (R : Represents size (stateOf s si
   with-volumes : {ws : List ℕ} {set : ℕ → Bool} → IsSet (255 - s .n) ws set → Represents size (M.withVolumes (stateOf s size) set) (withVolumes s ws)
   with-volumes W = represents (n-valid s (R .valid)) files-set W (nonempty-valid s (R .valid)) (R .matches)
 
-  abbrev Met : Call → Reply → Inventory → Type 0
-  Met c r s₁ = Gives coefficient (stateOf s size) c r × Represents size (next (stateOf s size) c) s₁
+  changed-represents : (c : Change) (k : ℕ) → inRange c (s .n) k ≡ true → Represents size (changed c (stateOf s size) k) (afterChange c s k)
+  unfolding inRange changed afterChange
+  changed-represents addFile f e = with-files (with-number f files-set e)
+  changed-represents removeFile f e = with-files (without-number f files-set e)
+  changed-represents addVolume v e = with-volumes (with-number v volumes-set e)
+  changed-represents removeVolume v e = with-volumes (without-number v volumes-set e)
 
-  -- adding and removing: a refused call leaves all as it was
-  changed : {t₁ : State} {s₁ : Inventory} (valid inRange already : Bool) → valid ≡ true → (inRange ≡ true → Represents size t₁ s₁)
-      → (numbered (accepted (changeNumber valid inRange already) s₁ s .number) ≡ numbered (M.adding inRange already))
-      × Represents size (cond (inRange && not already) t₁ (stateOf s size)) (accepted (changeNumber valid inRange already) s₁ s .next)
-  unfolding changeNumber
-  changed true true true e h = (refl, R)
-  changed true true false e h = (refl, h refl)
-  changed true false already e h = (refl, R)
-  changed false inRange already e h = absurd (false≢true e)
+  abbrev Met : (ℕ → ℕ → ℕ) → Call → Reply → Inventory → Type 0
+  Met rule c r s₁ = Gives rule (stateOf s size) c r × Represents size (next (stateOf s size) c) s₁
 
-  meets-add-file : (f : ℕ) → Met (addFile f) (numbered (addFileStep s f .number)) (addFileStep s f .next)
-  unfolding Gives next addFileStep
-  meets-add-file f =
-      changed (isInventory s) (isFile (s .n) f) (member (s .files) f) (R .valid) (λ e. with-files (with-number f files-set e))
+  module _ (rule : ℕ → ℕ → ℕ) where
+    -- a refused change leaves all as it was
+    meets-change : (c : Change) (k : ℕ) → Met rule (change c k) (numbered (changeStep c s k .number)) (changeStep c s k .next)
+    unfolding Gives next changeStep ifInventory changeNumber
+    meets-change c k =
+        by (isInventory s) (inRange c (s .n) k) (already c (member (s .files)) (member (s .volumes)) k) (R .valid) (changed-represents c k)
+      where
+        by : {t₁ : State} {s₁ : Inventory} (valid ranged done : Bool) → valid ≡ true → (ranged ≡ true → Represents size t₁ s₁)
+            → (numbered (cond valid (changeNumber ranged done) 10) ≡ numbered (changeNumber ranged done))
+            × Represents size (unlessRefused (changeNumber ranged done) t₁ (stateOf s size))
+            (accepted (cond valid (changeNumber ranged done) 10) s₁ s .next)
+        by true true true e h = (refl, R)
+        by true true false e h = (refl, h refl)
+        by true false done e h = (refl, R)
+        by false ranged done e h = absurd (false≢true e)
 
-  meets-remove-file : (f : ℕ) → Met (removeFile f) (numbered (removeFileStep s f .number)) (removeFileStep s f .next)
-  unfolding Gives next removeFileStep
-  meets-remove-file f =
-      rw (Bool·not-not (member (s .files) f)) at
-      (changed (isInventory s) (isFile (s .n) f) (not (member (s .files) f)) (R .valid)
-      (λ (e : isFile (s .n) f ≡ true). with-files (without-number f files-set e)))
+    meets-count : Met rule count (countStep s) s
+    unfolding Gives next countStep
+    meets-count = (simp (R .valid), R)
 
-  meets-add-volume : (v : ℕ) → Met (addVolume v) (numbered (addVolumeStep s v .number)) (addVolumeStep s v .next)
-  unfolding Gives next addVolumeStep
-  meets-add-volume v =
-      changed (isInventory s) (isVolume (s .n) v) (member (s .volumes) v) (R .valid)
-      (λ e. with-volumes (with-number v volumes-set e))
-
-  meets-remove-volume : (v : ℕ) → Met (removeVolume v) (numbered (removeVolumeStep s v .number)) (removeVolumeStep s v .next)
-  unfolding Gives next removeVolumeStep
-  meets-remove-volume v =
-      rw (Bool·not-not (member (s .volumes) v)) at
-      (changed (isInventory s) (isVolume (s .n) v) (not (member (s .volumes) v)) (R .valid)
-      (λ (e : isVolume (s .n) v ≡ true). with-volumes (without-number v volumes-set e)))
-
-  -- ---- counting and querying
-
-  meets-count : Met count (countReply (countStep s)) s
-  unfolding Gives next countStep countReply
-  meets-count = (
-    ap (λ (b : Bool).
-        countReply (cond b (counted.Counts (sizeBelow 256 (member (s .files))) (sizeBelow 256 (member (s .volumes)))) (counted.Refused 10)))
-        (R .valid),
-    R,
-  )
-
-  meets-query : (f : ℕ) (room : List ℕ) (a : Answer) (room′ : List ℕ) → Queried s f room a room′
-      → Met (query f room) (queried (answerNumber a) room′) s
-  unfolding next
-  meets-query f room a room′ (noInventory e p q) = absurd (true≢false (sym (R .valid) ∙ e))
-  meets-query f room a room′ (asModel e k p g) = (
-    subst (λ (i : ℕ). Gives coefficient (stateOf s size) (query f room) (queried i room′)) (sym (ap answerNumber p ∙ answer-number k))
-        (g size (R .matches)),
-    R,
-  )
+    meets-query : (f : ℕ) (room : List ℕ) (a : Answer) (room′ : List ℕ) → Queried rule s f room a room′
+        → Met rule (query f room) (queried (answerNumber a) room′) s
+    unfolding next
+    meets-query f room a room′ Q = (Q .as-model (R .valid) size (R .matches), R)
 
 -- ---- every call
 
-pub meets : (size : ℕ → ℕ) (t : State) (s : Inventory) (c : Call) (r : Reply) (s₁ : Inventory) → Represents size t s → Did s c r s₁
-    → Gives coefficient t c r × Represents size (next t c) s₁
-unfolding Did
-meets size t s c r s₁ R did =
-    subst (λ (t : State). Gives coefficient t c r × Represents size (next t c) s₁) (sym (R .state)) (by c did)
+pub meets : (rule : ℕ → ℕ → ℕ) (size : ℕ → ℕ) (t : State) (s : Inventory) (c : Call) (r : Reply) (s₁ : Inventory)
+    → Represents size t s → Step rule s c r s₁ → Gives rule t c r × Represents size (next t c) s₁
+unfolding Step
+meets rule size t s c r s₁ R step =
+    subst (λ (t : State). Gives rule t c r × Represents size (next t c) s₁) (sym (R .state)) (by c step)
   where
     own : Represents size (stateOf s size) s
     own = record {
@@ -201,19 +162,16 @@ meets size t s c r s₁ R did =
       volume-words = R .volume-words;
     }
 
-    to : (c : Call) (r′ : Reply) (s′ : Inventory) → r ≡ r′ → s₁ ≡ s′ → Met size s own c r′ s′ → Met size s own c r s₁
+    to : (c : Call) (r′ : Reply) (s′ : Inventory) → r ≡ r′ → s₁ ≡ s′ → Met size s own rule c r′ s′ → Met size s own rule c r s₁
     to c r′ s′ p q m = (
-      subst (λ (x : Reply). Gives coefficient (stateOf s size) c x) (sym p) (m .0),
+      subst (λ (x : Reply). Gives rule (stateOf s size) c x) (sym p) (m .0),
       subst (λ (x : Inventory). Represents size (next (stateOf s size) c) x) (sym q) (m .1),
     )
 
-    by : (c : Call) → Did s c r s₁ → Met size s own c r s₁
-    by (addFile f) (p, q) = to (addFile f) _ _ p q (meets-add-file size s own f)
-    by (removeFile f) (p, q) = to (removeFile f) _ _ p q (meets-remove-file size s own f)
-    by (addVolume v) (p, q) = to (addVolume v) _ _ p q (meets-add-volume size s own v)
-    by (removeVolume v) (p, q) = to (removeVolume v) _ _ p q (meets-remove-volume size s own v)
-    by count (p, q) = to count _ _ p q (meets-count size s own)
-    by (query f room) (a, room′, Q, p, q) = to (query f room) _ _ p q (meets-query size s own f room a room′ Q)
+    by : (c : Call) → Step rule s c r s₁ → Met size s own rule c r s₁
+    by (change c k) (p, q) = to (change c k) _ _ p q (meets-change size s own rule c k)
+    by count (p, q) = to count _ _ p q (meets-count size s own rule)
+    by (query f room) (a, room′, Q, p, q) = to (query f room) _ _ p q (meets-query size s own rule f room a room′ Q)
 
 -- ---- opening
 

@@ -1,12 +1,19 @@
 -- The model (document 01, "The sheet": the tally): what each call answers, worked out from the opening and the calls alone.
 --
---   Call, Reply                the calls, and what comes back: a number and, from a query, the room afterwards
+--   Change                     what adding and removing change
+--   Call, Reply                the calls, and what comes back: a number and values
+--   numbered k, counts f v, queried k room     the replies to a change, a count, a query
 --   opened n size              a set of n files of these sizes, nothing present
 --   withFiles t s, withVolumes t s     the state t with the files, the volumes of the set s present
 --   insert f s, remove f s     the set s with f, without f
+--   inRange c n k              whether the change c of n files is for the number k
+--   already c files volumes k  whether all is as the change c of number k is to make it, these files and volumes being present
+--   changed c t k              the state t after the change c of number k
+--   changeNumber r a           the number of a change: r says whether it is in range, a whether all is already so
+--   numberOf t c k             that of the change c of number k in the state t
+--   unlessRefused k a b        a, or b where the number k is a refusal's
 --   next t c                   the state after the call c
 --   after t cs                 the state after the calls cs
---   adding r h, removing r h   the number of an addition, of a removal, where r says whether it is in range, h whether it is present
 --   GivesMissing rule t f room r      the model's reply to a query for the missing file f is r
 --   GivesQuery rule t f room i h r    that to any query, where i says whether f is in range, h whether it is present
 --   Gives rule t c r           the model's reply to the call c is r
@@ -22,17 +29,34 @@ use Rattle.parity.specs.Parity.{isFile}
 use Rattle.number_sets.specs.Sets.{sizeBelow}
 use Rattle.inventory.specs.Recoverable.{State, isVolume, Recoverable, IsWeights}
 
+-- ---- calls and replies
+
+-- "note or withdraw a file, note or withdraw a volume"
+pub data Change : Type 0 where
+  addFile removeFile addVolume removeVolume : Change
+
 -- "each call with its lent room and its arguments other than the sheet"
 pub data Call : Type 0 where
-  addFile removeFile addVolume removeVolume : ℕ → Call
+  change : Change → ℕ → Call
   count : Call
   query : ℕ → List ℕ → Call
 
--- what comes back: the number of a refusal or of an answer (0 accepted or recoverable), or two counts; and the room
+-- what comes back: a number, 0 where the call is accepted, and values
 pub data Reply : Type 0 where
-  numbered : ℕ → Reply
-  counts : ℕ → ℕ → Reply
-  queried : ℕ → List ℕ → Reply
+  reply : ℕ → List ℕ → Reply
+
+abbrev pub numbered : ℕ → Reply
+numbered k = reply k []
+
+-- "how many files and how many volumes are in hand"
+abbrev pub counts : ℕ → ℕ → Reply
+counts files volumes = reply 0 (files ∷ volumes ∷ [])
+
+-- the number of an answer or a refusal, and the room afterwards
+abbrev pub queried : ℕ → List ℕ → Reply
+queried k room = reply k room
+
+-- ---- states
 
 -- "n, the sizes, and which files and volumes are in hand, none at first"
 abbrev pub opened : ℕ → (ℕ → ℕ) → State
@@ -50,12 +74,42 @@ insert f s g = eqb g f || s g
 abbrev pub remove : ℕ → (ℕ → Bool) → ℕ → Bool
 remove f s g = not (eqb g f) && s g
 
--- "else accepted, and f is in hand", "else accepted, and f no longer is", "A refused call changes nothing"
+-- ---- changes
+
+-- "10 if f is not 1 to n", "Volume v: the same, with 1 to 255 - n for its range"
+unfoldable pub inRange : Change → ℕ → ℕ → Bool
+inRange addFile n f = isFile n f
+inRange removeFile n f = isFile n f
+inRange addVolume n v = isVolume n v
+inRange removeVolume n v = isVolume n v
+
+-- "11 if f is in hand", "11 if f is not in hand"
+unfoldable pub already : Change → (ℕ → Bool) → (ℕ → Bool) → ℕ → Bool
+already addFile files volumes f = files f
+already removeFile files volumes f = not (files f)
+already addVolume files volumes v = volumes v
+already removeVolume files volumes v = not (volumes v)
+
+-- "and f is in hand", "and f no longer is"
+unfoldable pub changed : Change → State → ℕ → State
+changed addFile t f = withFiles t (insert f (t .files))
+changed removeFile t f = withFiles t (remove f (t .files))
+changed addVolume t v = withVolumes t (insert v (t .volumes))
+changed removeVolume t v = withVolumes t (remove v (t .volumes))
+
+-- "10 ..., 11 ...; else accepted"
+unfoldable pub changeNumber : Bool → Bool → ℕ
+changeNumber ranged done = cond ranged (cond done 11 0) 10
+
+abbrev pub numberOf : State → Change → ℕ → ℕ
+numberOf t c k = changeNumber (inRange c (t .n) k) (already c (t .files) (t .volumes) k)
+
+-- "A refused call changes nothing"
+abbrev pub unlessRefused : {A : Type 0} → ℕ → A → A → A
+unlessRefused number changed before = cond (eqb number 0) changed before
+
 unfoldable pub next : State → Call → State
-next t (addFile f) = cond (isFile (t .n) f && not (t .files f)) (withFiles t (insert f (t .files))) t
-next t (removeFile f) = cond (isFile (t .n) f && t .files f) (withFiles t (remove f (t .files))) t
-next t (addVolume v) = cond (isVolume (t .n) v && not (t .volumes v)) (withVolumes t (insert v (t .volumes))) t
-next t (removeVolume v) = cond (isVolume (t .n) v && t .volumes v) (withVolumes t (remove v (t .volumes))) t
+next t (change c k) = unlessRefused (numberOf t c k) (changed c t k) t
 next t count = t
 next t (query f room) = t
 
@@ -63,12 +117,7 @@ unfoldable pub after : State → List Call → State
 after t [] = t
 after t (c ∷ cs) = after (next t c) cs
 
--- "10 if f is not 1 to n, 11 if f is in hand; else accepted", "10 the same, 11 if f is not in hand"
-abbrev pub adding : Bool → Bool → ℕ
-adding inRange has = cond inRange (cond has 11 0) 10
-
-abbrev pub removing : Bool → Bool → ℕ
-removing inRange has = adding inRange (not has)
+-- ---- what the model gives
 
 module _ (rule : ℕ → ℕ → ℕ) where
   -- "12 if not rebuildable; 14 if the room is below 255 bytes; else rebuildable, and the recipe becomes the room's first
@@ -86,11 +135,7 @@ module _ (rule : ℕ → ℕ → ℕ) where
   GivesQuery t f room true false r = GivesMissing t f room r
 
   unfoldable pub Gives : State → Call → Reply → Type 0
-  Gives t (addFile f) r = r ≡ numbered (adding (isFile (t .n) f) (t .files f))
-  Gives t (removeFile f) r = r ≡ numbered (removing (isFile (t .n) f) (t .files f))
-  Gives t (addVolume v) r = r ≡ numbered (adding (isVolume (t .n) v) (t .volumes v))
-  Gives t (removeVolume v) r = r ≡ numbered (removing (isVolume (t .n) v) (t .volumes v))
-  -- "how many files and how many volumes are in hand"
+  Gives t (change c k) r = r ≡ numbered (numberOf t c k)
   Gives t count r = r ≡ counts (sizeBelow 256 (t .files)) (sizeBelow 256 (t .volumes))
   Gives t (query f room) r = GivesQuery t f room (isFile (t .n) f) (t .files f) r
 

@@ -2,24 +2,23 @@
 --
 --   stateOf s size          the state that an inventory stands for, of files of these sizes
 --   Matches s size          a size is 0 exactly where the inventory has the file as empty
---   answerOf k              the answer with the document's number k
---   Queried s f room r room′    the reply r to a query, and the room after it
+--   Queried rule s f room r room′     the answer r to a query, and the room after it
 --   Found n files volumes nonempty f found ws     whether weights bring file f back, and these weights by volume number
 --   Written n files ws room room′ p     the first p weights of n files and the volumes, in the room
 -- Assumes nothing.
 use mathlib.Core.Path.{_≡_}
-use mathlib.Core.Bool.{Bool, true, false, cond}
+use mathlib.Core.Logic.{_⊎_}
+use mathlib.Core.Bool.{Bool, true, false}
 use mathlib.Core.List.{List}
 use Prim.Native.Nat.{ℕ, _<_, _≤_, _+_, _-_}
-use lib.Dec.{leb, eqb}
+use lib.Dec.{leb}
 use lib.ListN.{length, getD}
-use Rattle.parity.specs.Coefficient.{coefficient}
 use Rattle.parity.specs.Parity.{isFile}
 use Rattle.number_sets.specs.Sets.{member}
 use Rattle.volume_weights.specs.Weights.{Solved, fileWeight}
 use Rattle.inventory.specs.Recoverable.{State}
 use Rattle.inventory.specs.Model.{query, queried, Gives}
-use Rattle.inventory.specs.Steps.{isInventory}
+use Rattle.inventory.specs.Steps.{isInventory, answerNumber}
 use Rattle.inventory.specs.declared.Inventory.{Inventory}
 use Rattle.inventory.specs.declared.Answer.{Answer}
 use Rattle.inventory.specs.declared.Answer.the-variants as answer
@@ -32,20 +31,17 @@ stateOf s size = record { n = s .n; size = size; files = member (s .files); volu
 abbrev pub Matches : Inventory → (ℕ → ℕ) → Type 0
 Matches s size = (f : ℕ) → isFile (s .n) f ≡ true → member (s .nonempty) f ≡ leb 1 (size f)
 
-unfoldable pub answerOf : ℕ → Answer
-answerOf k =
-    cond (eqb k 0) answer.Recoverable
-    (cond (eqb k 12) answer.Undetermined (cond (eqb k 13) answer.Present (answer.Refused k)))
+-- the number of the answer and the room, as document 01 has them
+pub record Queried (rule : ℕ → ℕ → ℕ) (s : Inventory) (f : ℕ) (room : List ℕ) (r : Answer) (room′ : List ℕ) : Type 0 where
+  -- "Every call refuses with 10, first of all, a sheet that opening and accepted calls could not have given"
+  pub first : isInventory s ≡ false → queried (answerNumber r) room′ ≡ queried 10 room
+  -- else as the model gives it, for all sizes that the inventory can stand for
+  pub as-model : isInventory s ≡ true
+      → (size : ℕ → ℕ) → Matches s size → Gives rule (stateOf s size) (query f room) (queried (answerNumber r) room′)
+  -- a refusal is 10 or 14, so the number tells the answer
+  pub refusal : (k : ℕ) → r ≡ answer.Refused k → (k ≡ 10) ⊎ (k ≡ 14)
 
--- "Every call refuses with 10, first of all, a sheet that opening and accepted calls could not have given": else as the model
--- gives it, for all sizes that the inventory can stand for
-pub data Queried (s : Inventory) (f : ℕ) (room : List ℕ) (r : Answer) (room′ : List ℕ) : Type 0 where
-  noInventory : isInventory s ≡ false → r ≡ answer.Refused 10 → room′ ≡ room → Queried s f room r room′
-  asModel : isInventory s ≡ true → (k : ℕ) → r ≡ answerOf k
-      → ((size : ℕ → ℕ) → Matches s size → Gives coefficient (stateOf s size) (query f room) (queried k room′))
-      → Queried s f room r room′
-
--- ---- the weights
+-- ---- the weights, by document 01's rule for the coefficients
 
 -- an empty file comes back by no weight; any other by those that solve the rows of the volumes present
 pub data Found (n : ℕ) (files volumes nonempty : List ℕ) (f : ℕ) (found : Bool) (ws : List ℕ) : Type 0 where

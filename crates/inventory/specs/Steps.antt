@@ -2,16 +2,19 @@
 --
 --   within m ws          whether each number of the set ws is one of 1 to m
 --   isInventory s        whether opening and accepted calls could have given s
+--   ifInventory s k      the number k, or 10 where s is no inventory
 --   zeros                the inventory of zeros
 --   nonemptyOf sizes k   the files among the first k that are not empty
 --   fresh n sizes        an inventory of n files of these sizes, nothing present
 --   outcome s k          the outcome of the inventory s and the number k
 --   refusedOpening k     the outcome of an opening refused with k
---   changeNumber         10 for no inventory or out of range, 11 where all is already as it is to be; else 0
+--   openStep             opening
 --   withFiles s ws, withVolumes s ws     the inventory s with the files, the volumes of the set ws present
---   unlessRefused k a b  a, or b where the number k is a refusal's
+--   afterChange c s k    the inventory s after the change c of number k
 --   accepted k s₁ s      the outcome of a call with the number k: s₁, or s where it is refused
---   openStep, addFileStep, removeFileStep, addVolumeStep, removeVolumeStep, countStep     the calls
+--   changeStep c s k     the change c of number k: adding and removing
+--   countReply           the document's number and values for each case of a count
+--   countStep            counting
 --   answerNumber         the document's number for each case of an answer
 -- Assumes nothing.
 use mathlib.Core.Bool.{Bool, not, cond, _&&_, _||_}
@@ -20,10 +23,9 @@ use Prim.Native.Nat.{ℕ, zero, suc, _-_}
 use lib.Dec.{leb, eqb}
 use lib.ListN.{length, getD, replicate}
 use Rattle.computed_tests.specs.Numbers.{oneTo, allBelow}
-use Rattle.parity.specs.Parity.{isFile}
 use Rattle.refusals.specs.Limits.{maxFileSize, maxFiles}
 use Rattle.number_sets.specs.Sets.{member, inserted, removed, sizeBelow}
-use Rattle.inventory.specs.Recoverable.{isVolume}
+use Rattle.inventory.specs.Model.{Change, addFile, removeFile, addVolume, removeVolume, Reply, numbered, counts, inRange, already, changeNumber, unlessRefused}
 use Rattle.inventory.specs.declared.Inventory.{Inventory}
 use Rattle.inventory.specs.declared.Outcome.{Outcome}
 use Rattle.inventory.specs.declared.Counted.{Counted}
@@ -37,10 +39,14 @@ unfoldable pub within : ℕ → List ℕ → Bool
 within m ws = allBelow 256 (λ k. not (member ws k) || oneTo m k)
 
 -- "A sheet needs n from 1 to 254"; bits of files, and of files that are not empty, in 1 to n, of volumes in 1 to 255 - n.
--- proofs/Reachable.antt shows that this is exact: `given-valid`, `valid-given`
+-- It is exact: specs/Claim.antt, ExactlyGiven
 unfoldable pub isInventory : Inventory → Bool
 isInventory s =
     oneTo maxFiles (s .n) && (within (s .n) (s .files) && (within (s .n) (s .nonempty) && within (255 - s .n) (s .volumes)))
+
+-- "Every call refuses with 10, first of all, a sheet that opening and accepted calls could not have given."
+unfoldable pub ifInventory : Inventory → ℕ → ℕ
+ifInventory s k = cond (isInventory s) k 10
 
 -- ---- opening
 
@@ -71,46 +77,37 @@ openStep n sizes =
 
 -- ---- adding and removing
 
--- "Noting and withdrawing test 10, then 11."
-unfoldable pub changeNumber : Bool → Bool → Bool → ℕ
-changeNumber valid inRange already = cond valid (cond inRange (cond already 11 0) 10) 10
-
 abbrev pub withFiles : Inventory → List ℕ → Inventory
 withFiles s ws = record { n = s .n; files = ws; volumes = s .volumes; nonempty = s .nonempty }
 
 abbrev pub withVolumes : Inventory → List ℕ → Inventory
 withVolumes s ws = record { n = s .n; files = s .files; volumes = ws; nonempty = s .nonempty }
 
--- "A refusal returns its number only ..; the sheet is handed back as it came."
-abbrev pub unlessRefused : {A : Type 0} → ℕ → A → A → A
-unlessRefused number changed before = cond (eqb number 0) changed before
+-- "The sheet keeps one bit for each file number and one for each volume number"
+unfoldable pub afterChange : Change → Inventory → ℕ → Inventory
+afterChange addFile s f = withFiles s (inserted f (s .files))
+afterChange removeFile s f = withFiles s (removed f (s .files))
+afterChange addVolume s v = withVolumes s (inserted v (s .volumes))
+afterChange removeVolume s v = withVolumes s (removed v (s .volumes))
 
+-- "A refusal returns its number only ..; the sheet is handed back as it came."
 abbrev pub accepted : ℕ → Inventory → Inventory → Outcome
 accepted number changed s = outcome (unlessRefused number changed s) number
 
-unfoldable pub addFileStep : Inventory → ℕ → Outcome
-addFileStep s f =
-    accepted (changeNumber (isInventory s) (isFile (s .n) f) (member (s .files) f)) (withFiles s (inserted f (s .files))) s
-
-unfoldable pub removeFileStep : Inventory → ℕ → Outcome
-removeFileStep s f =
-    accepted (changeNumber (isInventory s) (isFile (s .n) f) (not (member (s .files) f))) (withFiles s (removed f (s .files))) s
-
-unfoldable pub addVolumeStep : Inventory → ℕ → Outcome
-addVolumeStep s v =
-    accepted (changeNumber (isInventory s) (isVolume (s .n) v) (member (s .volumes) v)) (withVolumes s (inserted v (s .volumes))) s
-
-unfoldable pub removeVolumeStep : Inventory → ℕ → Outcome
-removeVolumeStep s v =
-    accepted (changeNumber (isInventory s) (isVolume (s .n) v) (not (member (s .volumes) v)))
-    (withVolumes s (removed v (s .volumes))) s
+-- "Noting and withdrawing test 10, then 11."
+unfoldable pub changeStep : Change → Inventory → ℕ → Outcome
+changeStep c s k =
+    accepted (ifInventory s (changeNumber (inRange c (s .n) k) (already c (member (s .files)) (member (s .volumes)) k)))
+    (afterChange c s k) s
 
 -- ---- counting
 
-unfoldable pub countStep : Inventory → Counted
-countStep s =
-    cond (isInventory s) (counted.Counts (sizeBelow 256 (member (s .files))) (sizeBelow 256 (member (s .volumes))))
-    (counted.Refused 10)
+unfoldable pub countReply : Counted → Reply
+countReply (counted.Counts files volumes) = counts files volumes
+countReply (counted.Refused number) = numbered number
+
+unfoldable pub countStep : Inventory → Reply
+countStep s = cond (isInventory s) (counts (sizeBelow 256 (member (s .files))) (sizeBelow 256 (member (s .volumes)))) (numbered 10)
 
 -- ---- the numbers of answers
 

@@ -1,6 +1,7 @@
 // What of a set of files and parity volumes is present, and which missing files come back (document 01, "The sheet").
 ghost use mathlib.Core.Path.{_≡_};
-ghost use Rattle.inventory.specs.Steps.{zeros, openStep, refusedOpening, changeNumber, unlessRefused, addFileStep, removeFileStep, addVolumeStep, removeVolumeStep, countStep};
+ghost use Rattle.inventory.specs.Model.{addFile, removeFile, addVolume, removeVolume, changeNumber, unlessRefused};
+ghost use Rattle.inventory.specs.Steps.{ifInventory, zeros, openStep, refusedOpening, changeStep, countReply, countStep};
 
 mod query;
 mod ranges;
@@ -85,10 +86,10 @@ impl Inventory {
 
     // The inventory with a file present: 10 for a number out of range, 11 for one that is present.
     pub fn add_file(mut self, file: u64) -> Outcome
-        ensures { λ r. ⌜ r ≡ addFileStep self file ⌝ }
+        ensures { λ r. ⌜ r ≡ changeStep addFile self file ⌝ }
     {
         let files = self.files;
-        let number = change_number(is_inventory(self), one_to(self.n, file), has(files, file));
+        let number = change_number(self, one_to(self.n, file), has(files, file));
         let now = unless_refused(number, insert(files, file), files);
         self.files = now;
         Outcome { next: self, number }
@@ -96,10 +97,10 @@ impl Inventory {
 
     // The inventory with a file missing: 10 for a number out of range, 11 for one that is missing.
     pub fn remove_file(mut self, file: u64) -> Outcome
-        ensures { λ r. ⌜ r ≡ removeFileStep self file ⌝ }
+        ensures { λ r. ⌜ r ≡ changeStep removeFile self file ⌝ }
     {
         let files = self.files;
-        let number = change_number(is_inventory(self), one_to(self.n, file), !has(files, file));
+        let number = change_number(self, one_to(self.n, file), !has(files, file));
         let now = unless_refused(number, remove(files, file), files);
         self.files = now;
         Outcome { next: self, number }
@@ -107,14 +108,10 @@ impl Inventory {
 
     // The inventory with a volume present: 10 for a number out of range, 11 for one that is present.
     pub fn add_volume(mut self, volume: u64) -> Outcome
-        ensures { λ r. ⌜ r ≡ addVolumeStep self volume ⌝ }
+        ensures { λ r. ⌜ r ≡ changeStep addVolume self volume ⌝ }
     {
         let volumes = self.volumes;
-        let number = change_number(
-            is_inventory(self),
-            is_volume(self.n, volume),
-            has(volumes, volume),
-        );
+        let number = change_number(self, is_volume(self.n, volume), has(volumes, volume));
         let now = unless_refused(number, insert(volumes, volume), volumes);
         self.volumes = now;
         Outcome { next: self, number }
@@ -122,14 +119,10 @@ impl Inventory {
 
     // The inventory with a volume missing: 10 for a number out of range, 11 for one that is missing.
     pub fn remove_volume(mut self, volume: u64) -> Outcome
-        ensures { λ r. ⌜ r ≡ removeVolumeStep self volume ⌝ }
+        ensures { λ r. ⌜ r ≡ changeStep removeVolume self volume ⌝ }
     {
         let volumes = self.volumes;
-        let number = change_number(
-            is_inventory(self),
-            is_volume(self.n, volume),
-            !has(volumes, volume),
-        );
+        let number = change_number(self, is_volume(self.n, volume), !has(volumes, volume));
         let now = unless_refused(number, remove(volumes, volume), volumes);
         self.volumes = now;
         Outcome { next: self, number }
@@ -137,7 +130,7 @@ impl Inventory {
 
     // How many files and volumes are present.
     pub fn count(self) -> Counted
-        ensures { λ r. ⌜ r ≡ countStep self ⌝ }
+        ensures { λ r. ⌜ countReply r ≡ countStep self ⌝ }
     {
         if !is_inventory(self) {
             return Counted::Refused(OUT_OF_RANGE);
@@ -168,11 +161,11 @@ pub fn refused_opening(number: u32) -> Outcome
     Outcome { next, number }
 }
 
-// The number of an addition or a removal: 10, then 11 where all is already as it is to be.
-fn change_number(valid: bool, in_range: bool, already: bool) -> u32
-    ensures { λ r. ⌜ r ≡ changeNumber valid in_range already ⌝ }
+// The number of an addition to the inventory s or a removal: 10, then 11 where all is already as it is to be.
+fn change_number(s: Inventory, in_range: bool, already: bool) -> u32
+    ensures { λ r. ⌜ r ≡ ifInventory s (changeNumber in_range already) ⌝ }
 {
-    if !valid {
+    if !is_inventory(s) {
         return OUT_OF_RANGE;
     }
     if !in_range {

@@ -3,6 +3,7 @@ ghost use mathlib.Core.Path.{_≡_};
 ghost use mathlib.Core.Bool.{true};
 ghost use Prim.Native.Nat.{_≤_};
 ghost use lib.ListN.{length};
+ghost use Rattle.parity.specs.Coefficient.{coefficient};
 ghost use Rattle.parity.specs.Parity.{isFile};
 ghost use Rattle.inventory.specs.Query.{Queried, Found, Written};
 use crate::Answer;
@@ -22,7 +23,7 @@ impl Inventory {
     // What is known of a file, tested in the order 10, 13, 12, 14. Where it is recoverable, its weights become the first 255 lent bytes.
     // The matrix of its elimination takes 65,536 bytes of stack.
     pub fn query(self, file: u64, out: &mut [u8]) -> Answer
-        ensures { λ r. ⌜ Queried self file (now (out .entry)) r (now (out .exit)) ⌝ }
+        ensures { λ r. ⌜ Queried coefficient self file (now (out .entry)) r (now (out .exit)) ⌝ }
     {
         if !is_inventory(self) {
             return Answer::Refused(OUT_OF_RANGE);

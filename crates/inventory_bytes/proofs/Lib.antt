@@ -1,2 +1,3 @@
 pub mod BackLaws
 mod InventoryLaws
+mod CountLaws

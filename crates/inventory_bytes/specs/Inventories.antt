@@ -5,17 +5,16 @@
 --   inventoryBytes s    the bytes of the inventory s
 --   openedBy n s        what opening with the sizes in the bytes s gives
 --   storedBy o out      the number of the outcome o, or 14, and what `out` then holds
---   countedInto c out   the number of the count c, or 14, and what `out` then holds
+--   countedInto r out   the number of the reply r to a count, or 14, and what `out` then holds
 -- Assumes nothing.
 use mathlib.Core.Bool.{cond, _&&_}
-use mathlib.Core.List.{List, [], _∷_, _++_}
+use mathlib.Core.List.{List, _∷_, _++_}
 use Prim.Native.Nat.{ℕ, _*_}
 use lib.Dec.{leb, eqb}
 use lib.ListN.{length}
-use Rattle.lent_bytes.specs.Writing.{refused, written, writtenUnless, withNumber}
+use Rattle.lent_bytes.specs.Writing.{writtenUnless, withNumber}
+use Rattle.inventory.specs.Model.{Reply, reply}
 use Rattle.inventory.specs.Steps.{zeros, openStep, refusedOpening}
-use Rattle.inventory.specs.declared.Counted.{Counted}
-use Rattle.inventory.specs.declared.Counted.the-variants as counted
 use Rattle.inventory.specs.declared.Inventory.{Inventory}
 use Rattle.inventory.specs.declared.Outcome.{Outcome}
 use Rattle.refusals.specs.Limits.{maxFiles}
@@ -38,6 +37,6 @@ openedBy n s = cond (leb n maxFiles && eqb (length s) (8 * n)) (openStep n (numb
 unfoldable pub storedBy : Outcome → List ℕ → ℕ × List ℕ
 storedBy o out = withNumber (writtenUnless (o .number) (inventoryBytes (o .next)) out)
 
-abbrev pub countedInto : Counted → List ℕ → ℕ × List ℕ
-countedInto (counted.Counts files volumes) out = withNumber (written (numbers (files ∷ volumes ∷ [])) out)
-countedInto (counted.Refused number) out = withNumber (refused number out)
+-- the values of a count are numbers of 64 bits
+unfoldable pub countedInto : Reply → List ℕ → ℕ × List ℕ
+countedInto (reply number values) out = withNumber (writtenUnless number (numbers values) out)

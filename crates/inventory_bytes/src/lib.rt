@@ -2,7 +2,7 @@
 ghost use mathlib.Core.Path.{_≡_};
 ghost use mathlib.Core.List.{[], _∷_};
 ghost use lib.ListN.{length};
-ghost use Rattle.inventory.specs.Steps.{openStep, answerNumber};
+ghost use Rattle.inventory.specs.Steps.{openStep, countReply, answerNumber};
 ghost use Rattle.little_endian.specs.Bytes.{numbers as numbersOf, numbersAt};
 ghost use Rattle.inventory_bytes.specs.Inventories.{inventoryOf, inventoryBytes, openedBy, storedBy, countedInto};
 use inventory::Answer;
@@ -108,7 +108,7 @@ fn bytes_of(inventory: Inventory) -> [u8; LENGTH]
 
 // The two numbers of a count over the first bytes of `out`, and 0; or the number of the refusal.
 pub fn store_count(counted: Counted, out: &mut [u8]) -> u32
-    ensures { λ r. ⌜ (r, now (out .exit)) ≡ countedInto counted (now (out .entry)) ⌝ }
+    ensures { λ r. ⌜ (r, now (out .exit)) ≡ countedInto (countReply counted) (now (out .entry)) ⌝ }
 {
     match counted {
         Counted::Refused(number) => {

@@ -8,8 +8,8 @@ use mathlib.Core.List.{List}
 use Prim.Native.Nat.{ℕ}
 use borrow.Author.Tests.{eq-eqb, ne-eqb}
 use lib.ListN.{length}
+use Rattle.inventory.specs.Model.{Reply}
 use Rattle.inventory.specs.Steps.{countStep}
-use Rattle.inventory.specs.declared.Counted.{Counted}
 use Rattle.inventory.specs.declared.Inventory.{Inventory}
 use Rattle.inventory.specs.declared.Outcome.{Outcome}
 use Rattle.inventory_bytes.specs.Inventories.{inventoryOf, storedBy, countedInto}
@@ -36,8 +36,8 @@ module _ (b out : List ℕ) where
   unfolding countInto
   counted-other h = simp (ne-eqb (length b) 104 h)
 
-  pub counted-same : {s : Inventory} {c : Counted} {r : ℕ × List ℕ} → length b ≡ 104 → s ≡ inventoryOf b → c ≡ countStep s → r ≡ countedInto c out
+  pub counted-same : {s : Inventory} {c : Reply} {r : ℕ × List ℕ} → length b ≡ 104 → s ≡ inventoryOf b → c ≡ countStep s → r ≡ countedInto c out
       → r ≡ countInto b out
   unfolding countInto
   counted-same h loaded counted stored =
-      simp (eq-eqb (length b) 104 h) (stored ∙ ap (λ (c : Counted). countedInto c out) (counted ∙ ap countStep loaded))
+      simp (eq-eqb (length b) 104 h) (stored ∙ ap (λ (c : Reply). countedInto c out) (counted ∙ ap countStep loaded))

@@ -1,7 +1,7 @@
 -- From C each call on the bytes of an inventory is the call on the inventory.
 --
 --   opened-on-bytes      an opening
---   changed-on-bytes     the four calls that add and remove
+--   changed-on-bytes     the calls that add and remove
 --   counted-on-bytes     a count
 --   queried-on-bytes     a query
 -- Assumes nothing.
@@ -16,8 +16,10 @@ use borrow.Author.Tests.{eqb-true, eqb-false, leb-true, le-leb, lt-leb, eq-eqb, 
 use lib.Dec.{eqb, leb}
 use lib.ListN.{getD, length, drop, drop-of-length-le}
 use Rattle.lent_bytes.proofs.WritingLaws.{written-fits, unless-none, unless-refused, numbered-as}
+use Rattle.parity.specs.Coefficient.{coefficient}
+use Rattle.inventory.specs.Model.{Change, addFile, removeFile, addVolume, removeVolume}
 use Rattle.inventory.specs.Query.{Queried}
-use Rattle.inventory.specs.Steps.{zeros, fresh, refusedOpening, openStep, outcome, accepted, withFiles, withVolumes, addFileStep, removeFileStep, addVolumeStep, removeVolumeStep}
+use Rattle.inventory.specs.Steps.{zeros, fresh, refusedOpening, openStep, outcome, accepted, withFiles, withVolumes, afterChange, changeStep}
 use Rattle.inventory.specs.declared.Inventory.{Inventory}
 use Rattle.inventory.specs.declared.Outcome.{Outcome}
 use Rattle.computed_tests.specs.Numbers.{allBelow, oneTo}
@@ -77,14 +79,16 @@ with-files s ws h w = record { small = h .small; files = w; volumes = h .volumes
 with-volumes : (s : Inventory) (ws : List ℕ) → Held s → Words ws → Held (withVolumes s ws)
 with-volumes s ws h w = record { small = h .small; files = h .files; volumes = w; nonempty = h .nonempty }
 
+held-change : (c : Change) (s : Inventory) (k : ℕ) → Held s → Held (afterChange c s k)
+unfolding afterChange
+held-change addFile s k h = with-files s _ h (words-inserted k (s .files) (h .files))
+held-change removeFile s k h = with-files s _ h (words-removed k (s .files) (h .files))
+held-change addVolume s k h = with-volumes s _ h (words-inserted k (s .volumes) (h .volumes))
+held-change removeVolume s k h = with-volumes s _ h (words-removed k (s .volumes) (h .volumes))
+
 pub changed-on-bytes : ChangedOnBytes
-unfolding addFileStep removeFileStep addVolumeStep removeVolumeStep
-changed-on-bytes s h k = (
-  on-bytes addFileStep s k _ _ refl (with-files s _ h (words-inserted k (s .files) (h .files))) h,
-  on-bytes removeFileStep s k _ _ refl (with-files s _ h (words-removed k (s .files) (h .files))) h,
-  on-bytes addVolumeStep s k _ _ refl (with-volumes s _ h (words-inserted k (s .volumes) (h .volumes))) h,
-  on-bytes removeVolumeStep s k _ _ refl (with-volumes s _ h (words-removed k (s .volumes) (h .volumes))) h,
-)
+unfolding changeStep
+changed-on-bytes s h c k = on-bytes (changeStep c) s k _ _ refl (held-change c s k h) h
 
 -- ---- counts and queries
 
@@ -93,7 +97,7 @@ counted-on-bytes s h out = sym (counted-same (inventoryBytes s) out (length-inve
 
 pub queried-on-bytes : QueriedOnBytes
 queried-on-bytes s h f out r out′ (otherLength l e o) = absurd (eqb-false (length (inventoryBytes s)) 104 l (length-inventory s h))
-queried-on-bytes s h f out r out′ (answered l a q e) = (a, subst (λ (i : Inventory). Queried i f out a out′) (loaded-back s h) q, e)
+queried-on-bytes s h f out r out′ (answered l a q e) = (a, subst (λ (i : Inventory). Queried coefficient i f out a out′) (loaded-back s h) q, e)
 
 -- ---- opening
 

@@ -3,7 +3,7 @@
 --
 --   OnBytes step s k     a call that changes s: its number, and the bytes of the inventory that it hands back, which bytes can hold again
 --   OpenedOnBytes        an opening with the bytes of the sizes is one with the sizes, and bytes can hold what it gives
---   ChangedOnBytes       so are the four calls that add and remove
+--   ChangedOnBytes       so are the calls that add and remove
 --   CountedOnBytes       so is a count
 --   QueriedOnBytes       so is a query
 --   QueryDetermined      what a query promises determines its number and the bytes lent to it
@@ -12,8 +12,10 @@ use mathlib.Core.Path.{_≡_}
 use mathlib.Core.List.{List}
 use Prim.Native.Nat.{ℕ, _^_, _<_}
 use lib.ListN.{getD}
+use Rattle.parity.specs.Coefficient.{coefficient}
+use Rattle.inventory.specs.Model.{Change}
 use Rattle.inventory.specs.Query.{Queried}
-use Rattle.inventory.specs.Steps.{openStep, addFileStep, removeFileStep, addVolumeStep, removeVolumeStep, countStep, answerNumber}
+use Rattle.inventory.specs.Steps.{openStep, changeStep, countStep, answerNumber}
 use Rattle.inventory.specs.declared.Answer.{Answer}
 use Rattle.inventory.specs.declared.Inventory.{Inventory}
 use Rattle.inventory.specs.declared.Outcome.{Outcome}
@@ -35,8 +37,7 @@ OpenedOnBytes =
 -- proved: proofs/OnBytes.antt, `changed-on-bytes`
 abbrev pub ChangedOnBytes : Type 0
 ChangedOnBytes =
-    (s : Inventory) → Held s → (k : ℕ)
-    → OnBytes addFileStep s k × OnBytes removeFileStep s k × OnBytes addVolumeStep s k × OnBytes removeVolumeStep s k
+    (s : Inventory) → Held s → (c : Change) (k : ℕ) → OnBytes (changeStep c) s k
 
 -- proved: proofs/OnBytes.antt, `counted-on-bytes`
 abbrev pub CountedOnBytes : Type 0
@@ -46,7 +47,7 @@ CountedOnBytes = (s : Inventory) → Held s → (out : List ℕ) → countInto (
 abbrev pub QueriedOnBytes : Type 0
 QueriedOnBytes =
     (s : Inventory) → Held s → (f : ℕ) (out : List ℕ) (r : ℕ) (out′ : List ℕ) → QueryInto (inventoryBytes s) f out r out′
-    → (a : Answer) × Queried s f out a out′ × (r ≡ answerNumber a)
+    → (a : Answer) × Queried coefficient s f out a out′ × (r ≡ answerNumber a)
 
 -- proved: proofs/Determined.antt, `query-into-one`
 abbrev pub QueryDetermined : Type 0

@@ -12,6 +12,7 @@ use Prim.Native.Nat.{ℕ}
 use lib.Dec.{eqb}
 use lib.ListN.{length}
 use Rattle.lent_bytes.specs.Writing.{refused, withNumber}
+use Rattle.parity.specs.Coefficient.{coefficient}
 use Rattle.inventory.specs.Steps.{countStep, answerNumber}
 use Rattle.inventory.specs.Query.{Queried}
 use Rattle.inventory.specs.declared.Answer.{Answer}
@@ -32,4 +33,4 @@ countInto b out = cond (eqb (length b) 104) (countedInto (countStep (inventoryOf
 -- as the query of the inventory answers
 pub data QueryInto (b : List ℕ) (f : ℕ) (out : List ℕ) (r : ℕ) (out′ : List ℕ) : Type 0 where
   otherLength : eqb (length b) 104 ≡ false → r ≡ 10 → out′ ≡ out → QueryInto b f out r out′
-  answered : eqb (length b) 104 ≡ true → (a : Answer) → Queried (inventoryOf b) f out a out′ → r ≡ answerNumber a → QueryInto b f out r out′
+  answered : eqb (length b) 104 ≡ true → (a : Answer) → Queried coefficient (inventoryOf b) f out a out′ → r ≡ answerNumber a → QueryInto b f out r out′

@@ -1,6 +1,7 @@
 // The calls on inventories in lent bytes.
 ghost use mathlib.Core.Path.{_≡_};
-ghost use Rattle.inventory.specs.Steps.{addFileStep, removeFileStep, addVolumeStep, removeVolumeStep};
+ghost use Rattle.inventory.specs.Model.{addFile, removeFile, addVolume, removeVolume};
+ghost use Rattle.inventory.specs.Steps.{changeStep};
 ghost use Rattle.par1_c.specs.Inventories.{openInto, changedBy, countInto, QueryInto};
 use inventory_bytes::LENGTH;
 use inventory_bytes::answer_number;
@@ -21,7 +22,7 @@ pub extern "C" fn par1_open(n: u64, sizes: &[u8], out: &mut [u8]) -> u32
 // Adds a file to what is present.
 #[no_mangle]
 pub extern "C" fn par1_add_file(inventory: &mut [u8], file: u64) -> u32
-    ensures { λ r. ⌜ (r, now (inventory .exit)) ≡ changedBy addFileStep file (now (inventory .entry)) ⌝ }
+    ensures { λ r. ⌜ (r, now (inventory .exit)) ≡ changedBy (changeStep addFile) file (now (inventory .entry)) ⌝ }
 {
     if inventory.len() != LENGTH {
         return OUT_OF_RANGE;
@@ -32,7 +33,7 @@ pub extern "C" fn par1_add_file(inventory: &mut [u8], file: u64) -> u32
 // Removes a file from what is present.
 #[no_mangle]
 pub extern "C" fn par1_remove_file(inventory: &mut [u8], file: u64) -> u32
-    ensures { λ r. ⌜ (r, now (inventory .exit)) ≡ changedBy removeFileStep file (now (inventory .entry)) ⌝ }
+    ensures { λ r. ⌜ (r, now (inventory .exit)) ≡ changedBy (changeStep removeFile) file (now (inventory .entry)) ⌝ }
 {
     if inventory.len() != LENGTH {
         return OUT_OF_RANGE;
@@ -43,7 +44,7 @@ pub extern "C" fn par1_remove_file(inventory: &mut [u8], file: u64) -> u32
 // Adds a volume to what is present.
 #[no_mangle]
 pub extern "C" fn par1_add_volume(inventory: &mut [u8], volume: u64) -> u32
-    ensures { λ r. ⌜ (r, now (inventory .exit)) ≡ changedBy addVolumeStep volume (now (inventory .entry)) ⌝ }
+    ensures { λ r. ⌜ (r, now (inventory .exit)) ≡ changedBy (changeStep addVolume) volume (now (inventory .entry)) ⌝ }
 {
     if inventory.len() != LENGTH {
         return OUT_OF_RANGE;
@@ -54,7 +55,7 @@ pub extern "C" fn par1_add_volume(inventory: &mut [u8], volume: u64) -> u32
 // Removes a volume from what is present.
 #[no_mangle]
 pub extern "C" fn par1_remove_volume(inventory: &mut [u8], volume: u64) -> u32
-    ensures { λ r. ⌜ (r, now (inventory .exit)) ≡ changedBy removeVolumeStep volume (now (inventory .entry)) ⌝ }
+    ensures { λ r. ⌜ (r, now (inventory .exit)) ≡ changedBy (changeStep removeVolume) volume (now (inventory .entry)) ⌝ }
 {
     if inventory.len() != LENGTH {
         return OUT_OF_RANGE;

@@ -1,18 +1,18 @@
 -- `inventory::Inventory::count` meets its contract.
 -- Assumes nothing.
 use mathlib.Core.Path.{sym, _∙_}
-use Rattle.inventory.specs.Steps.{countStep}
+use Rattle.inventory.specs.Steps.{countReply, countStep}
 use borrow.Author.Tests.{not-true, not-false}
 use borrow.Author.Needs.{needs}
 use Rattle.inventory.proofs.Inventory.count.Statement.{statement}
 use Rattle.inventory.proofs.Inventory.count.Tie as tie
 
 returns : tie.Need-returns
-unfolding countStep
+unfolding countReply countStep
 returns c = simp (sym (c .before .is-inventory .ensures) ∙ not-true (c .before .is-inventory .result) (c .if1 .taken))
 
 returns-2 : tie.Need-returns-2
-unfolding countStep
+unfolding countReply countStep
 returns-2 c =
     let valid = c .before .before .before .before in
     simp (sym (valid .before .is-inventory .ensures) ∙ not-false (valid .before .is-inventory .result) (valid .if1 .left), c .before .size .ensures, c .size2 .ensures)

@@ -1,14 +1,13 @@
 -- `inventory::Inventory::query` meets its contract.
 -- Assumes nothing.
-use mathlib.Core.Path.{_≡_, refl, sym, _∙_}
+use mathlib.Core.Path.{_≡_, sym, _∙_}
 use mathlib.Core.Bool.{true, false}
 use native.Mathlib.Omega.{arith}
 use Rattle.parity.specs.Parity.{isFile}
 use Rattle.number_sets.specs.Sets.{member}
 use Rattle.inventory.specs.Steps.{isInventory}
-use Rattle.inventory.specs.Query.{noInventory}
 use Rattle.inventory.proofs.ValidInventories.{few-files}
-use Rattle.inventory.proofs.Queries.{query-out-of-range, query-present, query-undetermined, query-no-room, query-recoverable}
+use Rattle.inventory.proofs.Queries.{query-no-inventory, query-out-of-range, query-present, query-undetermined, query-no-room, query-recoverable}
 use borrow.Author.Tests.{not-true, not-false}
 use borrow.Author.Needs.{needs}
 use Rattle.inventory.proofs.Inventory.query.Statement.{statement}
@@ -26,7 +25,7 @@ missing : (c : tie.Else3)
 missing c = sym (c .before .has .ensures) ∙ c .if3 .left
 
 returns : tie.Need-returns
-returns c = noInventory (sym (c .before .is-inventory .ensures) ∙ not-true (c .before .is-inventory .result) (c .if1 .taken)) refl refl
+returns c = query-no-inventory _ _ _ (sym (c .before .is-inventory .ensures) ∙ not-true (c .before .is-inventory .result) (c .if1 .taken))
 
 returns-2 : tie.Need-returns-2
 returns-2 c =

@@ -4,6 +4,7 @@ use mathlib.Core.Path.{refl, subst}
 use borrow.Author.Tests.{eq-eqb, ne-eqb}
 use Rattle.par1_c.specs.Inventories.{otherLength, answered}
 use denote.Ref.{now}
+use Rattle.parity.specs.Coefficient.{coefficient}
 use Rattle.inventory.specs.Query.{Queried}
 use Rattle.inventory.specs.declared.Inventory.{Inventory}
 use borrow.Author.Needs.{needs}
@@ -20,7 +21,7 @@ returns-2 c =
     let a = l .before .before .before .before .args in
     let r = q .query .result in
     answered (eq-eqb _ _ (l .before .if1 .left)) r
-    (subst (λ (s : Inventory). Queried s (a .file) (now (a .out)) r (q .query .last .1 .1 .0)) (l .loaded .ensures) (q .query .ensures))
+    (subst (λ (s : Inventory). Queried coefficient s (a .file) (now (a .out)) r (q .query .last .1 .1 .0)) (l .loaded .ensures) (q .query .ensures))
     (c .answer-number .ensures)
 
 pub par1-query-spec : {M : Type 1} → statement M

@@ -1,6 +1,7 @@
 -- `par1_c::inventories::par1_remove_volume` meets its contract.
 -- Assumes nothing.
-use Rattle.inventory.specs.Steps.{removeVolumeStep}
+use Rattle.inventory.specs.Model.{removeVolume}
+use Rattle.inventory.specs.Steps.{changeStep}
 use Rattle.par1_c.proofs.CallLaws.{changed-other, changed-same}
 use borrow.Author.Needs.{needs}
 use Rattle.par1_c.proofs.inventories.par1_remove_volume.Statement.{statement}
@@ -13,7 +14,7 @@ returns-2 : tie.Need-returns-2
 returns-2 c =
     let s = c .before .before in
     let l = s .before .before .before in
-    changed-same removeVolumeStep _ _ (l .before .before .if1 .left) (l .loaded .ensures) (s .before .before .remove-volume .ensures) (s .store .ensures)
+    changed-same (changeStep removeVolume) _ _ (l .before .before .if1 .left) (l .loaded .ensures) (s .before .before .remove-volume .ensures) (s .store .ensures)
 
 pub par1-remove-volume-spec : {M : Type 1} → statement M
 par1-remove-volume-spec =
