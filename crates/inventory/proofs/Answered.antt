@@ -16,9 +16,7 @@ use lib.ListN.{length, getD, set, replicate}
 use Rattle.computed_tests.proofs.Tests.{oneTo-inside}
 use Rattle.gf256.proofs.Polynomials.{sumBelow-lt}
 use Rattle.gf256.proofs.Products.{product-byte}
-use Rattle.parity.specs.Coefficient.{coefficient}
 use Rattle.parity.specs.Parity.{isFile, listBelow}
-use Rattle.parity.proofs.Coefficients.{coefficient-byte}
 use Rattle.parity.proofs.Parities.{listBelow-at}
 use Rattle.elimination.specs.Matrix.{IsSolution, IsKernelVector}
 use Rattle.elimination.specs.ByteField.{Byte, byteField}
@@ -34,6 +32,7 @@ use Rattle.inventory.specs.declared.Inventory.{Inventory}
 use Rattle.inventory.specs.declared.Answer.{Answer}
 use Rattle.inventory.specs.declared.Answer.the-variants as answer
 use Rattle.inventory.proofs.ValidInventories.{few-files}
+use Rattle.inventory.proofs.CoefficientRows.{rule, small}
 use Rattle.inventory.proofs.QuerySteps.{written-none, written-file, written-volume}
 use Rattle.inventory.proofs.Queries.{query-no-inventory, query-out-of-range, query-present, query-undetermined, query-no-room, query-recoverable}
 
@@ -58,8 +57,8 @@ module _ (n : ℕ) (files ws room : List ℕ) where
     file-weight-byte i l =
         sumBelow-lt (255 - n) 8 _ (λ v h. product-byte _ _ (bytes (suc v) (omega arith)) (chosen (member files (suc i)) (suc v)))
       where
-        chosen : (b : Bool) (v : ℕ) → cond b (coefficient (suc i) v) 0 < 256
-        chosen true v = coefficient-byte (suc i) v (omega arith)
+        chosen : (b : Bool) (v : ℕ) → cond b (rule (suc i) v) 0 < 256
+        chosen true v = small (suc i) v (omega arith)
         chosen false v = omega arith
 
     -- what is written are bytes
@@ -83,7 +82,7 @@ weightAt-byte rows w (suc v) = go (leb (suc v) rows)
 -- ---- a query
 
 abbrev QueryAnswered : Inventory → ℕ → List ℕ → Type 0
-QueryAnswered s f room = (a : Answer) × (room′ : List ℕ) × Queried coefficient s f room a room′
+QueryAnswered s f room = (a : Answer) × (room′ : List ℕ) × Queried rule s f room a room′
 
 module _ (s : Inventory) (valid : isInventory s ≡ true) (f : ℕ) (room : List ℕ) where
   module _ (inRange : isFile (s .n) f ≡ true) (missing : member (s .files) f ≡ false) where
@@ -137,7 +136,7 @@ module _ (s : Inventory) (valid : isInventory s ≡ true) (f : ℕ) (room : List
       go true e true h = (answer.Present, room, query-present s valid f room e h)
       go true e false h = missing-answered e h
 
-pub query-answered : (s : Inventory) (f : ℕ) (room : List ℕ) → QueryAnswered s f room
+query-answered : (s : Inventory) (f : ℕ) (room : List ℕ) → QueryAnswered s f room
 query-answered s f room = go (isInventory s) refl
   where
     go : (b : Bool) → isInventory s ≡ b → QueryAnswered s f room
@@ -146,7 +145,7 @@ query-answered s f room = go (isInventory s) refl
 
 -- ---- a call, and a list of calls
 
-call-answered : (s : Inventory) (c : Call) → (r : Reply) × (s₁ : Inventory) × Step coefficient s c r s₁
+call-answered : (s : Inventory) (c : Call) → (r : Reply) × (s₁ : Inventory) × Step rule s c r s₁
 unfolding Step
 call-answered s (change c k) = (_, _, (refl, refl))
 call-answered s count = (_, _, (refl, refl))

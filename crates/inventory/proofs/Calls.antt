@@ -20,7 +20,8 @@ use Rattle.parity.proofs.Coefficients.{coefficient-byte}
 use Rattle.parity.specs.Coefficient.{coefficient}
 use Rattle.parity.specs.Parity.{isFile}
 use Rattle.inventory.specs.Recoverable.{State, isVolume}
-use Rattle.inventory.specs.Model.{Change, addFile, removeFile, addVolume, removeVolume, Call, change, count, query, Reply, queried, opened, insert, inRange, already, changed, changeNumber, numberOf, next, after}
+use Rattle.inventory.specs.Model.{Change, addFile, removeFile, addVolume, removeVolume, insert, inRange, already, changed, changeNumber, numberOf}
+use Rattle.inventory.specs.Model.{Call, change, count, query, Reply, queried, opened, next, after}
 use Rattle.inventory.specs.Model.{Gives, GivesQuery, GivesMissing, undetermined, noRoom, recoverable, GivesAll}
 use Rattle.inventory.specs.Claim.{OneReply}
 use Rattle.inventory.proofs.Weights.{one-weights}
@@ -31,14 +32,14 @@ pub record Same (t u : State) : Type 0 where
   pub same-n : u .n ≡ t .n
   pub same-size : u .size ≡ t .size
 
-pub changed-same : (c : Change) (t : State) (k : ℕ) → Same t (changed c t k)
+changed-same : (c : Change) (t : State) (k : ℕ) → Same t (changed c t k)
 unfolding changed
 changed-same addFile t f = record { same-n = refl; same-size = refl }
 changed-same removeFile t f = record { same-n = refl; same-size = refl }
 changed-same addVolume t v = record { same-n = refl; same-size = refl }
 changed-same removeVolume t v = record { same-n = refl; same-size = refl }
 
-pub next-same : (t : State) (c : Call) → Same t (next t c)
+next-same : (t : State) (c : Call) → Same t (next t c)
 unfolding next
 next-same t (change c k) = go (eqb (numberOf t c k) 0)
   where

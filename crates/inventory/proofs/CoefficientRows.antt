@@ -35,7 +35,8 @@ module _ (s : Inventory) (valid : isInventory s ≡ true) where
   few = few-files s valid
 
   -- a file that is not empty and not present is a column
-  column-bits : (g : ℕ) → g < 256 → (member (s .nonempty) g && not (member (s .files) g)) ≡ (isFile (s .n) g && (not (member (s .files) g) && member (s .nonempty) g))
+  column-bits : (g : ℕ) → g < 256
+      → (member (s .nonempty) g && not (member (s .files) g)) ≡ (isFile (s .n) g && (not (member (s .files) g) && member (s .nonempty) g))
   column-bits g l = go (member (s .nonempty) g) refl (member (s .files) g)
     where
       go : (a : Bool) → member (s .nonempty) g ≡ a → (b : Bool) → (a && not b) ≡ (isFile (s .n) g && (not b && a))

@@ -20,12 +20,14 @@ use Rattle.mul_add.specs.Once.{Once}
 use Rattle.parity.specs.Parity.{Contents, isFile}
 use Rattle.parity.proofs.Coefficients.{coefficient-byte}
 use Rattle.inventory.specs.Recoverable.{State, IsContents, Recoverable, IsWeights, place, present, ComeFrom}
-use Rattle.inventory.specs.Model.{Call, query, Reply, queried, opened, next, after, Gives, GivesQuery, GivesMissing, undetermined, noRoom, recoverable, GivesAll}
+use Rattle.inventory.specs.Model.{Call, query, Reply, queried, opened, next, after}
+use Rattle.inventory.specs.Model.{Gives, GivesQuery, GivesMissing, undetermined, noRoom, recoverable, GivesAll}
 use Rattle.inventory.specs.Steps.{openStep}
 use Rattle.inventory.specs.Claim.{Step, Run, sizeIn, ConditionFor, Condition3}
 use Rattle.inventory.specs.declared.Inventory.{Inventory}
 use Rattle.inventory.proofs.Following.{follow}
-use Rattle.inventory.proofs.Representation.{Represents, opened-represents, meets}
+use Rattle.inventory.proofs.Representation.{Represents, meets}
+use Rattle.inventory.proofs.Openings.{opened-represents}
 use Rattle.inventory.proofs.Told.{after-told}
 use Rattle.inventory.proofs.Calls.{after-same, givesAll-one}
 
@@ -78,7 +80,8 @@ module _ (rule : ℕ → ℕ → ℕ) (small : (f v : ℕ) → f < 256 → rule 
     exactly = λ f r m room l number room′ e did.
         missing-exactly now f room l number room′ (queried number room′) refl (asked f r m room (queried number room′) e did);
     follows = λ f r m room room′ e did X hX fragment from ks once.
-        ap (λ (k : ℕ). mulAddAll (place (take 255 room′)) fragment ks (replicate k 0)) (sym (ap (λ (g : ℕ → ℕ). g f) (after-same (opened n size) cs .same-size)))
+        ap (λ (k : ℕ). mulAddAll (place (take 255 room′)) fragment ks (replicate k 0))
+        (sym (ap (λ (g : ℕ → ℕ). g f) (after-same (opened n size) cs .same-size)))
         ∙ follow-file now fits X hX f (in-range f r) m (take 255 room′)
         (missing-weights now f room room′ (queried 0 room′) refl (asked f r m room (queried 0 room′) e did)) fragment from ks once;
   }

@@ -32,7 +32,7 @@ module _ (rule : ℕ → ℕ → ℕ) (t : State) where
       (λ s l. ap (λ (x : ℕ). product x (rule g (suc s))) (zeros-at 255 (t .n + suc s - 1)) ∙ product-zero-l (rule g (suc s)))
       ∙ sumBelow-none (255 - t .n)
 
-  pub empty-weights : (f : ℕ) → t .size f ≡ 0 → IsWeights rule t f zeros
+  empty-weights : (f : ℕ) → t .size f ≡ 0 → IsWeights rule t f zeros
   empty-weights f e = record {
     places = length-replicate {A = ℕ} 255 0;
     bytes = λ p. rw (zeros-at 255 p) (omega arith);

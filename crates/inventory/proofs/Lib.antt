@@ -14,6 +14,7 @@ pub mod Told
 pub mod Determined
 pub mod Refused
 pub mod Representation
+pub mod Openings
 pub mod Condition
 pub mod Answered
 pub mod Reachable

@@ -14,9 +14,8 @@ use native.Mathlib.Numerals.{add-one}
 use lib.Dec.{leb, eqb}
 use lib.ListN.{length, getD}
 use borrow.Author.Tests.{eq-eqb, ne-eqb, le-leb, lt-leb}
-use Rattle.computed_tests.specs.Numbers.{allBelow}
+use Rattle.computed_tests.specs.Numbers.{oneTo, allBelow}
 use Rattle.computed_tests.proofs.Tests.{all-false, all-true}
-use Rattle.parity.specs.Parity.{isFile}
 use Rattle.number_sets.specs.Sets.{inserted}
 use Rattle.inventory.specs.Model.{changeNumber, unlessRefused}
 use Rattle.inventory.specs.Steps.{ifInventory, outcome, accepted, withFiles, withVolumes, fresh, refusedOpening, nonemptyOf, openStep}
@@ -64,18 +63,18 @@ abbrev opening : ℕ → List ℕ → Bool → Bool → Outcome
 opening n sizes counted small = cond counted (cond small (outcome (fresh n sizes) 0) (refusedOpening 1)) (refusedOpening 10)
 
 module _ (n : ℕ) (sizes : List ℕ) where
-  pub open-out-of-range : isFile 254 n ≡ false → refusedOpening 10 ≡ openStep n sizes
+  pub open-out-of-range : oneTo 254 n ≡ false → refusedOpening 10 ≡ openStep n sizes
   unfolding openStep
   open-out-of-range e = sym (ap (λ (b : Bool). opening n sizes (b && eqb (length sizes) n) (allBelow n (fits sizes))) e)
 
   pub open-miscounted : length sizes ≢ n → refusedOpening 10 ≡ openStep n sizes
   unfolding openStep
   open-miscounted q =
-      sym (ap (λ (b : Bool). opening n sizes (isFile 254 n && b) (allBelow n (fits sizes))) (ne-eqb (length sizes) n q)
-      ∙ ap (λ (b : Bool). opening n sizes b (allBelow n (fits sizes))) (and-false (isFile 254 n)))
+      sym (ap (λ (b : Bool). opening n sizes (oneTo 254 n && b) (allBelow n (fits sizes))) (ne-eqb (length sizes) n q)
+      ∙ ap (λ (b : Bool). opening n sizes b (allBelow n (fits sizes))) (and-false (oneTo 254 n)))
 
-  module _ (r : isFile 254 n ≡ true) (c : length sizes ≡ n) where
-    counted : (isFile 254 n && eqb (length sizes) n) ≡ true
+  module _ (r : oneTo 254 n ≡ true) (c : length sizes ≡ n) where
+    counted : (oneTo 254 n && eqb (length sizes) n) ≡ true
     counted = ap₂ (λ (a b : Bool). a && b) r (eq-eqb (length sizes) n c)
 
     pub open-too-large : (k : ℕ) → k < n → 16777216 < getD sizes k 0 → refusedOpening 1 ≡ openStep n sizes

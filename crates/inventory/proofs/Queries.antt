@@ -242,7 +242,8 @@ module _ (s : Inventory) (valid : isInventory s ≡ true) (f : ℕ) where
           (λ v l. h (suc v) (omega arith) ∙ weight-below (255 - s .n) w v l)
       written-weights found (notEmpty e (unsolved x X z)) t size matches = absurd (false≢true t)
 
-      pub query-recoverable : (found : Bool) → Found (s .n) (s .files) (s .volumes) (s .nonempty) f found ws → found ≡ true → Queried rule s f room answer.Recoverable room′
+      pub query-recoverable : (found : Bool) → Found (s .n) (s .files) (s .volumes) (s .nonempty) f found ws → found ≡ true
+          → Queried rule s f room answer.Recoverable room′
       unfolding answerNumber
       query-recoverable found S t =
           answered valid not-refused-recoverable

@@ -13,6 +13,7 @@ use native.Mathlib.Omega.{arith}
 use native.Mathlib.Decide.{decLt}
 use lib.Dec.{leb, eqb}
 use lib.ListN.{length, getD}
+use Rattle.computed_tests.specs.Numbers.{oneTo}
 use Rattle.computed_tests.proofs.Tests.{oneTo-inside}
 use Rattle.parity.specs.Coefficient.{coefficient}
 use Rattle.parity.specs.Parity.{isFile}
@@ -27,13 +28,14 @@ use Rattle.inventory.specs.declared.Outcome.{Outcome}
 use Rattle.number_sets.proofs.Words.{member-above, words-same, words-none, words-inserted, words-removed}
 use Rattle.inventory.proofs.Outcomes.{open-accepted}
 use Rattle.inventory.proofs.ValidInventories.{within-bits, n-valid, files-valid, nonempty-valid, volumes-valid}
-use Rattle.inventory.proofs.Representation.{Represents, opened-represents, nonempty-words, nonempty-member}
+use Rattle.inventory.proofs.Representation.{Represents}
+use Rattle.inventory.proofs.Openings.{opened-represents, nonempty-words, nonempty-member}
 use Rattle.inventory.proofs.Calls.{Ranged}
 use Rattle.inventory.proofs.Told.{opened-told, calls-for}
 use Rattle.inventory.proofs.Condition.{sound}
 use Rattle.inventory.proofs.Answered.{answered}
 
-pub given-valid : (rule : ℕ → ℕ → ℕ) (n : ℕ) (sizes : List ℕ) → openStep n sizes .number ≡ 0
+given-valid : (rule : ℕ → ℕ → ℕ) (n : ℕ) (sizes : List ℕ) → openStep n sizes .number ≡ 0
     → (cs : List Call) (rs : List Reply) (s : Inventory) → Run rule (openStep n sizes .next) cs rs s → isInventory s ≡ true
 given-valid rule n sizes well cs rs s run =
     sound rule (sizeIn sizes) (opened n (sizeIn sizes)) (openStep n sizes .next) cs rs s (opened-represents n sizes well .1) run .1 .valid
@@ -111,7 +113,7 @@ one-is false = refl
 -- ---- a set in range, of whatever numbers
 
 module _ (m : ℕ) (ws : List ℕ) (w : Words ws) (h : within m ws ≡ true) where
-  in-range : (k : ℕ) → member ws k ≡ true → isFile m k ≡ true
+  in-range : (k : ℕ) → member ws k ≡ true → oneTo m k ≡ true
   in-range k e =
       elim (decLt k 256) [
         | yes l ↦ within-bits m ws h k l e
@@ -208,7 +210,7 @@ module _ (s : Inventory) (valid : isInventory s ≡ true) (fw : Words (s .files)
           nonempty = (k .same-nonempty ∙ nonempty-same) i;
         }
 
-    pub valid-given : AnsweredFor rule → Given rule s
+    valid-given : AnsweredFor rule → Given rule s
     valid-given answers = let (rs, e, run) = answers start (calls .0) in given-by rs e run
 
 pub exactly-given-for : (rule : ℕ → ℕ → ℕ) → AnsweredFor rule → ExactlyGivenFor rule

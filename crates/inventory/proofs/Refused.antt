@@ -10,11 +10,11 @@ use Prim.Native.Nat.{ℕ}
 use Rattle.parity.specs.Coefficient.{coefficient}
 use Rattle.inventory.specs.Model.{Call, change, count, query, Reply, reply}
 use Rattle.inventory.specs.Steps.{isInventory, ifInventory, zeros, changeStep, countStep}
-use Rattle.inventory.specs.Claim.{lent, Step, OthersRefused, ZerosRefused}
+use Rattle.inventory.specs.Claim.{roomOf, Step, OthersRefused, ZerosRefused}
 use Rattle.inventory.specs.declared.Inventory.{Inventory}
 
 pub refused-by : (rule : ℕ → ℕ → ℕ) (s : Inventory) → isInventory s ≡ false
-    → (c : Call) (r : Reply) (s₁ : Inventory) → Step rule s c r s₁ → (r ≡ reply 10 (lent c)) × (s₁ ≡ s)
+    → (c : Call) (r : Reply) (s₁ : Inventory) → Step rule s c r s₁ → (r ≡ reply 10 (roomOf c)) × (s₁ ≡ s)
 unfolding Step changeStep ifInventory countStep
 refused-by rule s e (change c k) r s₁ (p, q) = (simp e at p, simp e at q)
 refused-by rule s e count r s₁ (p, q) = (simp e at p, q)

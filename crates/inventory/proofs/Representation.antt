@@ -1,35 +1,32 @@
 -- An inventory stands for a state of the model, and each call keeps that.
 --
 --   Represents size t s     the inventory s stands for the state t, of files of these sizes
+--   IsSet m ws set          the words ws are the set, of some of the numbers 1 to m
+--   represents              an inventory of such sets stands for the state of these sets
 --   meets                   the code's reply is the model's, and what it hands back stands for the next state
---   nonempty-words          the files that an opening has as not empty are four words of 64 bits
---   none-below, one-more-number     which numbers up to 0 a set has, none; which up to m + 1, by those up to m
---   nonempty-member         the files that an opening has as not empty are those of size 1 or more
---   opened-represents       an accepted opening gives the model's opened state
 -- Assumes nothing.
 use mathlib.Core.Path.{_≡_, refl, sym, ap, ap₂, _∙_, subst, fun-ext}
-use mathlib.Core.Logic.{_≢_}
-use mathlib.Core.Bool.{Bool, true, false, not, cond, _&&_, _||_, false≢true, and-false}
+use mathlib.Core.Bool.{Bool, true, false, not, cond, _&&_, _||_, false≢true}
 use mathlib.Core.List.{List}
-use Prim.Native.Nat.{ℕ, zero, suc, _<_, _≤_, _-_}
+use Prim.Native.Nat.{ℕ, _<_, _≤_, _-_}
 use native.Mathlib.Omega.{arith}
-use native.Mathlib.Decide.{ℕ-discrete, decLe}
 use lib.Dec.{leb, eqb}
-use lib.ListN.{length, getD, replicate, length-replicate}
-use borrow.Author.Tests.{eq-eqb, ne-eqb, eqb-true, le-leb, lt-leb}
-use Rattle.computed_tests.specs.Numbers.{allBelow}
-use Rattle.computed_tests.proofs.Tests.{and-both, oneTo-in, oneTo-outside, oneTo-inside}
+use lib.ListN.{length}
+use borrow.Author.Tests.{eqb-true}
+use Rattle.computed_tests.specs.Numbers.{oneTo}
+use Rattle.computed_tests.proofs.Tests.{and-both, oneTo-inside}
 use Rattle.parity.specs.Parity.{isFile}
-use Rattle.number_sets.specs.Sets.{member, inserted, removed, Words}
+use Rattle.number_sets.specs.Sets.{member, inserted, removed}
 use Rattle.inventory.specs.Recoverable.{State}
 use Rattle.inventory.specs.Model as M
-use Rattle.inventory.specs.Model.{Change, addFile, removeFile, addVolume, removeVolume, Call, change, count, query, Reply, numbered, queried, opened, insert, remove, inRange, already, changed, changeNumber, unlessRefused, next, Gives}
-use Rattle.inventory.specs.Steps.{within, isInventory, ifInventory, nonemptyOf, fresh, outcome, accepted, refusedOpening, openStep, withFiles, withVolumes, afterChange, changeStep, countStep, answerNumber}
+use Rattle.inventory.specs.Model.{Change, addFile, removeFile, addVolume, removeVolume, insert, remove, inRange, already, changed, changeNumber, unlessRefused}
+use Rattle.inventory.specs.Model.{Call, change, count, query, Reply, numbered, queried, next, Gives}
+use Rattle.inventory.specs.Steps.{within, isInventory, ifInventory, accepted, withFiles, withVolumes, afterChange, changeStep, countStep, answerNumber}
 use Rattle.inventory.specs.Query.{stateOf, Matches, Queried}
-use Rattle.inventory.specs.Claim.{Step, sizeIn}
+use Rattle.inventory.specs.Claim.{Step}
 use Rattle.inventory.specs.declared.Inventory.{Inventory}
 use Rattle.inventory.specs.declared.Answer.{Answer}
-use Rattle.number_sets.proofs.Words.{member-inserted, member-removed, member-none, length-inserted, length-removed, words-none, words-inserted}
+use Rattle.number_sets.proofs.Words.{member-inserted, member-removed, length-inserted, length-removed}
 use Rattle.inventory.proofs.ValidInventories.{within-bits, within-by, n-valid, few-files, files-valid, nonempty-valid, volumes-valid}
 
 pub record Represents (size : ℕ → ℕ) (t : State) (s : Inventory) : Type 0 where
@@ -42,13 +39,13 @@ pub record Represents (size : ℕ → ℕ) (t : State) (s : Inventory) : Type 0 
 -- ---- sets in range
 
 -- the words ws are a set of some of the numbers 1 to m, at most 255
-record IsSet (m : ℕ) (ws : List ℕ) (set : ℕ → Bool) : Type 0 where
-  small : m ≤ 255
-  words : length ws ≡ 4
-  in-range : within m ws ≡ true
-  members : (k : ℕ) → member ws k ≡ set k
+pub record IsSet (m : ℕ) (ws : List ℕ) (set : ℕ → Bool) : Type 0 where
+  pub small : m ≤ 255
+  pub words : length ws ≡ 4
+  pub in-range : within m ws ≡ true
+  pub members : (k : ℕ) → member ws k ≡ set k
 
-with-number : {m : ℕ} {ws : List ℕ} (f : ℕ) → IsSet m ws (member ws) → isFile m f ≡ true → IsSet m (inserted f ws) (insert f (member ws))
+with-number : {m : ℕ} {ws : List ℕ} (f : ℕ) → IsSet m ws (member ws) → oneTo m f ≡ true → IsSet m (inserted f ws) (insert f (member ws))
 with-number {m} {ws} f h r = record {
   small = h .small;
   words = length-inserted f ws ∙ h .words;
@@ -59,11 +56,11 @@ with-number {m} {ws} f h r = record {
     at : (k : ℕ) → member (inserted f ws) k ≡ insert f (member ws) k
     at = let b = oneTo-inside m f r in member-inserted ws f (h .words) (omega arith)
 
-    go : (k : ℕ) → k < 256 → (b : Bool) → eqb k f ≡ b → (b || member ws k) ≡ true → isFile m k ≡ true
-    go k l true e q = ap (isFile m) (eqb-true k f e) ∙ r
+    go : (k : ℕ) → k < 256 → (b : Bool) → eqb k f ≡ b → (b || member ws k) ≡ true → oneTo m k ≡ true
+    go k l true e q = ap (oneTo m) (eqb-true k f e) ∙ r
     go k l false e q = within-bits m ws (h .in-range) k l q
 
-without-number : {m : ℕ} {ws : List ℕ} (f : ℕ) → IsSet m ws (member ws) → isFile m f ≡ true → IsSet m (removed f ws) (remove f (member ws))
+without-number : {m : ℕ} {ws : List ℕ} (f : ℕ) → IsSet m ws (member ws) → oneTo m f ≡ true → IsSet m (removed f ws) (remove f (member ws))
 without-number {m} {ws} f h r = record {
   small = h .small;
   words = length-removed f ws ∙ h .words;
@@ -76,8 +73,8 @@ without-number {m} {ws} f h r = record {
     at = let b = oneTo-inside m f r in member-removed ws f (h .words) (omega arith)
 
 -- an inventory of two sets stands for the state of these sets
-represents : {size : ℕ → ℕ} {n : ℕ} {fs vs es : List ℕ} {files volumes : ℕ → Bool}
-    → isFile 254 n ≡ true → IsSet n fs files → IsSet (255 - n) vs volumes → within n es ≡ true
+pub represents : {size : ℕ → ℕ} {n : ℕ} {fs vs es : List ℕ} {files volumes : ℕ → Bool}
+    → oneTo 254 n ≡ true → IsSet n fs files → IsSet (255 - n) vs volumes → within n es ≡ true
     → ((f : ℕ) → isFile n f ≡ true → member es f ≡ leb 1 (size f))
     → Represents size record { n = n; size = size; files = files; volumes = volumes } record { n = n; files = fs; volumes = vs; nonempty = es }
 unfolding isInventory
@@ -172,83 +169,3 @@ meets rule size t s c r s₁ R step =
     by (change c k) (p, q) = to (change c k) _ _ p q (meets-change size s own rule c k)
     by count (p, q) = to count _ _ p q (meets-count size s own rule)
     by (query f room) (a, room′, Q, p, q) = to (query f room) _ _ p q (meets-query size s own rule f room a room′ Q)
-
--- ---- opening
-
-pub nonempty-words : (sizes : List ℕ) (k : ℕ) → Words (nonemptyOf sizes k)
-unfolding nonemptyOf
-nonempty-words sizes zero = words-none
-nonempty-words sizes (suc k) = go (leb 1 (getD sizes k 0)) (nonempty-words sizes k)
-  where
-    go : (b : Bool) → Words (nonemptyOf sizes k) → Words (cond b (inserted (suc k) (nonemptyOf sizes k)) (nonemptyOf sizes k))
-    go true w = words-inserted (suc k) (nonemptyOf sizes k) w
-    go false w = w
-
-file-more : (m f : ℕ) → f ≢ suc m → isFile (suc m) f ≡ isFile m f
-file-more m f q =
-    ap (λ (b : Bool). leb 1 f && b)
-    (elim (decLe f m) [
-      | yes l ↦ le-leb f (suc m) (omega arith) ∙ sym (le-leb f m l)
-      | no h ↦ lt-leb f (suc m) (omega arith) ∙ sym (lt-leb f m (omega arith))
-    ])
-
--- whether a set has f among its numbers 1 to 0
-pub none-below : (f : ℕ) (b : Bool) → false ≡ (isFile 0 f && b)
-none-below zero b = refl
-none-below (suc f) b = sym (ap (λ (c : Bool). c && b) (oneTo-outside 0 (suc f) (λ h l. omega arith)))
-
--- whether a set has f among its numbers 1 to m + 1
-pub one-more-number : (m f : ℕ) (set : ℕ → Bool) (before : Bool) → before ≡ (isFile m f && set f)
-    → (a : Bool) → set (suc m) ≡ a → (cond a (eqb f (suc m) || before) before) ≡ (isFile (suc m) f && set f)
-one-more-number m f set before h a e = elim (ℕ-discrete f (suc m)) [ yes p ↦ same a e p | no q ↦ other a q ]
-  where
-    same : (a : Bool) → set (suc m) ≡ a → f ≡ suc m → cond a (eqb f (suc m) || before) before ≡ (isFile (suc m) f && set f)
-    same true e p = rw (eq-eqb f (suc m) p, oneTo-in (suc m) f (omega arith) (omega arith), ap set p ∙ e)
-    same false e p = rw (h, ap set p ∙ e, and-false (isFile m f), and-false (isFile (suc m) f))
-
-    other : (a : Bool) → f ≢ suc m → cond a (eqb f (suc m) || before) before ≡ (isFile (suc m) f && set f)
-    other true q = rw (ne-eqb f (suc m) q, file-more m f q) h
-    other false q = rw (file-more m f q) h
-
-pub nonempty-member : (sizes : List ℕ) (k : ℕ) → k < 256 → (f : ℕ) → member (nonemptyOf sizes k) f ≡ (isFile k f && leb 1 (sizeIn sizes f))
-unfolding nonemptyOf
-nonempty-member sizes zero l f = member-none f ∙ none-below f (leb 1 (sizeIn sizes f))
-nonempty-member sizes (suc k) l f =
-    go (leb 1 (getD sizes k 0))
-    ∙ one-more-number k f (λ f. leb 1 (sizeIn sizes f)) (member (nonemptyOf sizes k) f) (nonempty-member sizes k (omega arith) f)
-    (leb 1 (getD sizes k 0)) (ap (λ (i : ℕ). leb 1 (getD sizes i 0)) (omega arith))
-  where
-    go : (b : Bool) → member (cond b (inserted (suc k) (nonemptyOf sizes k)) (nonemptyOf sizes k)) f
-        ≡ cond b (eqb f (suc k) || member (nonemptyOf sizes k) f) (member (nonemptyOf sizes k) f)
-    go true = member-inserted (nonemptyOf sizes k) (suc k) (nonempty-words sizes k .four) l f
-    go false = refl
-
-pub opened-represents : (n : ℕ) (sizes : List ℕ) → openStep n sizes .number ≡ 0
-    → (n ≤ 254) × Represents (sizeIn sizes) (opened n (sizeIn sizes)) (openStep n sizes .next)
-unfolding openStep
-opened-represents n sizes e =
-    go (isFile 254 n && eqb (length sizes) n) refl (allBelow n (λ i. leb (getD sizes i 0) 16777216)) e
-  where
-    none : (m : ℕ) → m ≤ 255 → IsSet m (replicate 4 0) (λ k. false)
-    none m l = record {
-      small = l;
-      words = length-replicate {A = ℕ} 4 0;
-      in-range = within-by m (replicate 4 0) (λ k b h. absurd (false≢true (sym (member-none k) ∙ h)));
-      members = member-none;
-    }
-
-    go : (a : Bool) → (isFile 254 n && eqb (length sizes) n) ≡ a → (b : Bool)
-        → cond a (cond b (outcome (fresh n sizes) 0) (refusedOpening 1)) (refusedOpening 10) .number ≡ 0
-        → (n ≤ 254) × Represents (sizeIn sizes) (opened n (sizeIn sizes))
-        (cond a (cond b (outcome (fresh n sizes) 0) (refusedOpening 1)) (refusedOpening 10) .next)
-    go true p true z =
-        let r = and-both (isFile 254 n) (eqb (length sizes) n) p .0 in
-        let l = oneTo-inside 254 n r .1 in (
-          l,
-          represents r (none n (omega arith)) (none (255 - n) (omega arith))
-              (within-by n (nonemptyOf sizes n)
-              (λ k b h. and-both (isFile n k) (leb 1 (sizeIn sizes k)) (sym (nonempty-member sizes n (omega arith) k) ∙ h) .0))
-              (λ f h. nonempty-member sizes n (omega arith) f ∙ ap (λ (b : Bool). b && leb 1 (sizeIn sizes f)) h),
-        )
-    go true p false z = absurd (omega arith)
-    go false p b z = absurd (omega arith)

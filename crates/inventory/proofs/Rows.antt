@@ -50,7 +50,7 @@ unfolding mask
 mask-same true x h = refl
 mask-same false x h = sym (h refl)
 
-pub mask-zero : (b : Bool) → mask b 𝟘 ≡ 𝟘
+mask-zero : (b : Bool) → mask b 𝟘 ≡ 𝟘
 unfolding mask
 mask-zero true = refl
 mask-zero false = refl

@@ -15,7 +15,8 @@ use lib.Dec.{eqb}
 use borrow.Author.Tests.{eq-eqb, eqb-true}
 use Rattle.computed_tests.proofs.Tests.{oneTo-inside}
 use Rattle.inventory.specs.Recoverable.{State}
-use Rattle.inventory.specs.Model.{addFile, removeFile, addVolume, removeVolume, Call, change, count, query, opened, withFiles, withVolumes, insert, inRange, already, changed, changeNumber, unlessRefused, next, after}
+use Rattle.inventory.specs.Model.{addFile, removeFile, addVolume, removeVolume, inRange, already, changed, changeNumber, unlessRefused}
+use Rattle.inventory.specs.Model.{Call, change, count, query, opened, withFiles, withVolumes, insert, next, after}
 use Rattle.inventory.specs.Claim.{Adds, AddsExactly, Retold}
 use Rattle.inventory.proofs.Calls.{after-same, Ranged, opened-ranged, after-ranged}
 
@@ -54,7 +55,8 @@ insert-other s f g e = go (eqb g f)
     go true = refl
     go false = e
 
-insert-inside : (s s′ : ℕ → Bool) (f : ℕ) → s′ f ≡ true → ((g : ℕ) → s g ≡ true → s′ g ≡ true) → (g : ℕ) → insert f s g ≡ true → s′ g ≡ true
+insert-inside : (s s′ : ℕ → Bool) (f : ℕ) → s′ f ≡ true → ((g : ℕ) → s g ≡ true → s′ g ≡ true)
+    → (g : ℕ) → insert f s g ≡ true → s′ g ≡ true
 insert-inside s s′ f p h g e = go (eqb g f) refl e
   where
     go : (b : Bool) → eqb g f ≡ b → (b || s g) ≡ true → s′ g ≡ true
@@ -94,6 +96,21 @@ volume-is v w e = cc
 differ : (f v : ℕ) → change addFile f ≡ change addVolume v → ⊥
 differ f v e = let z : _≡_ {A = ℕ} 0 1 = cc in omega arith
 
+-- one call more before them: it leads from u to w, which has what it adds
+one-more-added : {t u w e : State} {c : Call} {cs : List Call} → Inside u w → ((f : ℕ) → change addFile f ≡ c → w .files f ≡ true)
+    → ((v : ℕ) → change addVolume v ≡ c → w .volumes v ≡ true) → Added t w cs e → Added t u (c ∷ cs) e
+one-more-added h hf hv a = record {
+  inside = a .inside;
+  keeps = record {
+    same-n = h .same-n ∙ a .keeps .same-n;
+    same-size = h .same-size ∙ a .keeps .same-size;
+    files = λ f e. a .keeps .files f (h .files f e);
+    volumes = λ v e. a .keeps .volumes v (h .volumes v e);
+  };
+  files = λ f m. ⊎-elim (λ p. a .keeps .files f (hf f p)) (a .files f) (List·Memᴰ·cases-cons m);
+  volumes = λ v m. ⊎-elim (λ p. a .keeps .volumes v (hv v p)) (a .volumes v) (List·Memᴰ·cases-cons m);
+}
+
 module _ (t : State) (ranged : Ranged t) where
   after-adds : (cs : List Call) (u : State) → Inside u t → ((c : Call) → List·Memᴰ c cs → Adds t c) → Added t u cs (after u cs)
   unfolding after next Adds inRange already changed
@@ -106,75 +123,44 @@ module _ (t : State) (ranged : Ranged t) where
   after-adds (change addFile g ∷ cs) u h only =
       subst (λ (x : State). Added t u (change addFile g ∷ cs) (after x cs))
       (sym (add-next u (withFiles u) (u .files) g _ refl (rw (h .same-n) (ranged .files g there))))
-      (more (after-adds cs (withFiles u (insert g (u .files))) inner (λ c m. only c (List·Memᴰ·tail m))))
-    where
-      there : t .files g ≡ true
-      there = only (change addFile g) (List·Memᴰ·head refl)
-
-      inner : Inside (withFiles u (insert g (u .files))) t
-      inner = record {
+      (one-more-added
+      record { same-n = refl; same-size = refl; files = insert-other (u .files) g; volumes = λ v e. e }
+      (λ f p. ap (insert g (u .files)) (file-is f g p) ∙ insert-here (u .files) g) (λ v p. absurd (differ g v (sym p)))
+      (after-adds cs (withFiles u (insert g (u .files)))
+      record {
         same-n = h .same-n;
         same-size = h .same-size;
         files = insert-inside (u .files) (t .files) g there (h .files);
         volumes = h .volumes;
       }
-
-      more : {e : State} → Added t (withFiles u (insert g (u .files))) cs e → Added t u (change addFile g ∷ cs) e
-      more {e} a = record {
-        inside = a .inside;
-        keeps = record {
-          same-n = a .keeps .same-n;
-          same-size = a .keeps .same-size;
-          files = λ f p. a .keeps .files f (insert-other (u .files) g f p);
-          volumes = a .keeps .volumes;
-        };
-        files = λ f m.
-            ⊎-elim
-            (λ (p : change addFile f ≡ change addFile g).
-            ap (e .files) (file-is f g p) ∙ a .keeps .files g (insert-here (u .files) g))
-            (a .files f) (List·Memᴰ·cases-cons m);
-        volumes = λ v m.
-            ⊎-elim (λ (p : change addVolume v ≡ change addFile g). absurd (differ g v (sym p))) (a .volumes v) (List·Memᴰ·cases-cons m);
-      }
+      (λ c m. only c (List·Memᴰ·tail m))))
+    where
+      there : t .files g ≡ true
+      there = only (change addFile g) (List·Memᴰ·head refl)
   after-adds (change removeFile g ∷ cs) u h only = absurd (only (change removeFile g) (List·Memᴰ·head refl))
   after-adds (change addVolume w ∷ cs) u h only =
       subst (λ (x : State). Added t u (change addVolume w ∷ cs) (after x cs))
       (sym (add-next u (withVolumes u) (u .volumes) w _ refl (rw (h .same-n) (ranged .volumes w there))))
-      (more (after-adds cs (withVolumes u (insert w (u .volumes))) inner (λ c m. only c (List·Memᴰ·tail m))))
-    where
-      there : t .volumes w ≡ true
-      there = only (change addVolume w) (List·Memᴰ·head refl)
-
-      inner : Inside (withVolumes u (insert w (u .volumes))) t
-      inner = record {
+      (one-more-added
+      record { same-n = refl; same-size = refl; files = λ f e. e; volumes = insert-other (u .volumes) w }
+      (λ f p. absurd (differ f w p)) (λ v p. ap (insert w (u .volumes)) (volume-is v w p) ∙ insert-here (u .volumes) w)
+      (after-adds cs (withVolumes u (insert w (u .volumes)))
+      record {
         same-n = h .same-n;
         same-size = h .same-size;
         files = h .files;
         volumes = insert-inside (u .volumes) (t .volumes) w there (h .volumes);
       }
-
-      more : {e : State} → Added t (withVolumes u (insert w (u .volumes))) cs e → Added t u (change addVolume w ∷ cs) e
-      more {e} a = record {
-        inside = a .inside;
-        keeps = record {
-          same-n = a .keeps .same-n;
-          same-size = a .keeps .same-size;
-          files = a .keeps .files;
-          volumes = λ v p. a .keeps .volumes v (insert-other (u .volumes) w v p);
-        };
-        files = λ f m.
-            ⊎-elim (λ (p : change addFile f ≡ change addVolume w). absurd (differ f w p)) (a .files f) (List·Memᴰ·cases-cons m);
-        volumes = λ v m.
-            ⊎-elim
-            (λ (p : change addVolume v ≡ change addVolume w).
-            ap (e .volumes) (volume-is v w p) ∙ a .keeps .volumes w (insert-here (u .volumes) w))
-            (a .volumes v) (List·Memᴰ·cases-cons m);
-      }
+      (λ c m. only c (List·Memᴰ·tail m))))
+    where
+      there : t .volumes w ≡ true
+      there = only (change addVolume w) (List·Memᴰ·head refl)
   after-adds (change removeVolume w ∷ cs) u h only = absurd (only (change removeVolume w) (List·Memᴰ·head refl))
   after-adds (count ∷ cs) u h only = absurd (only count (List·Memᴰ·head refl))
   after-adds (query g room ∷ cs) u h only = absurd (only (query g room) (List·Memᴰ·head refl))
 
-  pub opened-told : (n : ℕ) (size : ℕ → ℕ) (adds : List Call) → t .n ≡ n → t .size ≡ size → AddsExactly t adds → after (opened n size) adds ≡ t
+  pub opened-told : (n : ℕ) (size : ℕ → ℕ) (adds : List Call) → t .n ≡ n → t .size ≡ size → AddsExactly t adds
+      → after (opened n size) adds ≡ t
   opened-told n size adds en es told =
       inside-same (after (opened n size) adds) t (a .inside) (λ f e. a .files f (told .files f e)) (λ v e. a .volumes v (told .volumes v e))
     where

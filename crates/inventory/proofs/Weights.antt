@@ -131,7 +131,7 @@ module _ (rule : ℕ → ℕ → ℕ) (small : (f v : ℕ) → f < 256 → rule 
         ∙ sym (S.sum-none K s (λ r. 𝟘 ⊗ matrix r i) (λ r m. S.zero-mul K (matrix r i))),
   )
 
-  pub used-independent : (s : ℕ) → Used rule t (suc s) → ¬ Dependent K matrix 256 s
+  used-independent : (s : ℕ) → Used rule t (suc s) → ¬ Dependent K matrix 256 s
   used-independent s (l, e, q) d = q (dependent-sum s e d)
 
   pub independent-used : (s : ℕ) → s < rows → ¬ Dependent K matrix 256 s → Used rule t (suc s)

@@ -8,7 +8,7 @@
 --   Adds t c                  the call c adds a file or a volume that is present in t
 --   AddsExactly t cs          the calls cs add what is present in t and nothing else, in whatever order
 --   sizeIn sizes f            the size of file f in the sizes of an opening
---   lent c                    the room lent to the call c
+--   roomOf c                    the room lent to the call c
 --   Condition rule n size o cs rs s     what holds after the calls cs on the inventory o opened for n files of these sizes
 --   ConditionFor rule         it holds for every accepted opening and every list of calls
 -- The claims:
@@ -62,10 +62,10 @@ pub record AddsExactly (t : State) (cs : List Call) : Type 0 where
 abbrev pub sizeIn : List ℕ → ℕ → ℕ
 sizeIn sizes f = getD sizes (f - 1) 0
 
-abbrev pub lent : Call → List ℕ
-lent (change c k) = []
-lent count = []
-lent (query f room) = room
+abbrev pub roomOf : Call → List ℕ
+roomOf (change c k) = []
+roomOf count = []
+roomOf (query f room) = room
 
 module _ (rule : ℕ → ℕ → ℕ) where
   -- ---- what the code does
@@ -166,12 +166,12 @@ ExactlyGiven = ExactlyGivenFor coefficient
 abbrev pub OthersRefused : Type 0
 OthersRefused =
     (s : Inventory) → isInventory s ≡ false
-    → (c : Call) (r : Reply) (s₁ : Inventory) → Step coefficient s c r s₁ → (r ≡ reply 10 (lent c)) × (s₁ ≡ s)
+    → (c : Call) (r : Reply) (s₁ : Inventory) → Step coefficient s c r s₁ → (r ≡ reply 10 (roomOf c)) × (s₁ ≡ s)
 
 -- "every part of it is 0, and every call refuses that sheet with 10"
 -- proved: proofs/Refused.antt, `zeros-refused`
 abbrev pub ZerosRefused : Type 0
-ZerosRefused = (c : Call) (r : Reply) (s₁ : Inventory) → Step coefficient zeros c r s₁ → (r ≡ reply 10 (lent c)) × (s₁ ≡ zeros)
+ZerosRefused = (c : Call) (r : Reply) (s₁ : Inventory) → Step coefficient zeros c r s₁ → (r ≡ reply 10 (roomOf c)) × (s₁ ≡ zeros)
 
 -- "An empty file not in hand is always rebuildable", "its own recipe is all zeros"
 -- proved: proofs/EmptyFiles.antt, `empty-file`

@@ -25,7 +25,8 @@ use lib.ListN.{length, getD, replicate}
 use Rattle.computed_tests.specs.Numbers.{oneTo, allBelow}
 use Rattle.refusals.specs.Limits.{maxFileSize, maxFiles}
 use Rattle.number_sets.specs.Sets.{member, inserted, removed, sizeBelow}
-use Rattle.inventory.specs.Model.{Change, addFile, removeFile, addVolume, removeVolume, Reply, numbered, counts, inRange, already, changeNumber, unlessRefused}
+use Rattle.inventory.specs.Model.{Change, addFile, removeFile, addVolume, removeVolume, inRange, already, changeNumber, unlessRefused}
+use Rattle.inventory.specs.Model.{Reply, numbered, counts}
 use Rattle.inventory.specs.declared.Inventory.{Inventory}
 use Rattle.inventory.specs.declared.Outcome.{Outcome}
 use Rattle.inventory.specs.declared.Counted.{Counted}

@@ -25,7 +25,7 @@ use Rattle.inventory.specs.declared.Outcome.{Outcome}
 use Rattle.computed_tests.specs.Numbers.{allBelow, oneTo}
 use Rattle.computed_tests.proofs.Tests.{and-both}
 use Rattle.inventory.proofs.Outcomes.{open-out-of-range, open-miscounted}
-use Rattle.inventory.proofs.Representation.{nonempty-words}
+use Rattle.inventory.proofs.Openings.{nonempty-words}
 use Rattle.little_endian.specs.Bytes.{numbers, numbersAt}
 use Rattle.little_endian.proofs.NumberLists.{length-numbers, numbers-back}
 use Rattle.inventory_bytes.specs.Claim.{Held}

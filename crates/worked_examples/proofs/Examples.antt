@@ -90,7 +90,8 @@ witnesses =
     ∷ []
 
 all-pass : allPass examples witnesses ≡ true
-unfolding witnesses allPass passes same statedBy every fileHolds volumeHolds usedBy solves ofVolume sumsAt cancels cancelsAt product power polyProduct sumBelow coeff remainder volumeOf contentsOf coefficient greatest listBelow parityByte parity
+unfolding witnesses allPass passes same statedBy every fileHolds volumeHolds usedBy solves ofVolume sumsAt cancels cancelsAt
+    product power polyProduct sumBelow coeff remainder volumeOf contentsOf coefficient greatest listBelow parityByte parity
 all-pass = refl
 
 pub examples-hold : ExamplesHold

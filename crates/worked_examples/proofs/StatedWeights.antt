@@ -30,7 +30,7 @@ use Rattle.inventory.specs.Recoverable.{State, isVolume, column, place, Used, w
 use Rattle.worked_examples.proofs.Tests.{every, every-at}
 use Rattle.worked_examples.proofs.Chosen.{usedBy, chosen-used}
 
-pub sumBelow-first : (m n : ℕ) (g : ℕ → ℕ) → m ≤ n → ((i : ℕ) → m ≤ i → g i ≡ 0) → sumBelow n g ≡ sumBelow m g
+sumBelow-first : (m n : ℕ) (g : ℕ → ℕ) → m ≤ n → ((i : ℕ) → m ≤ i → g i ≡ 0) → sumBelow n g ≡ sumBelow m g
 unfolding sumBelow
 sumBelow-first m zero g l h = let e : 0 ≡ m = omega arith in ap (λ (k : ℕ). sumBelow k g) e
 sumBelow-first m (suc n) g l h =
@@ -83,7 +83,7 @@ module _ (t : State) (f : ℕ) (start : List ℕ) where
     past-volume : (s : ℕ) → length start - t .n ≤ s → place w (t .n + suc s) ≡ 0
     past-volume s l = past-start (t .n + suc s - 1) (omega arith)
 
-    pub weighted-first : (g : ℕ) → weighted coefficient t w g ≡ firstSum g
+    weighted-first : (g : ℕ) → weighted coefficient t w g ≡ firstSum g
     unfolding weighted
     weighted-first g =
         sumBelow-first (length start - t .n) (255 - t .n) (λ s. product (place w (t .n + suc s)) (coefficient g (suc s))) (omega arith)

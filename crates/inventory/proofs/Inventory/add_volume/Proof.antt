@@ -13,7 +13,8 @@ unfolding changeStep inRange already afterChange
 returns c =
     let called = c .before .before in
     volumes-changed _ _ _ _ _ _ (c .before .insert .ensures)
-    (called .change-number .ensures ∙ number-same _ (called .before .before .is-volume .ensures) (called .before .has .ensures)) (c .unless-refused .ensures)
+    (called .change-number .ensures ∙ number-same _ (called .before .before .is-volume .ensures) (called .before .has .ensures))
+    (c .unless-refused .ensures)
 
 pub add-volume-spec : {M : Type 1} → statement M
 add-volume-spec =

@@ -14,8 +14,9 @@ returns c = simp (sym (c .before .is-inventory .ensures) ∙ not-true (c .before
 returns-2 : tie.Need-returns-2
 unfolding countReply countStep
 returns-2 c =
-    let valid = c .before .before .before .before in
-    simp (sym (valid .before .is-inventory .ensures) ∙ not-false (valid .before .is-inventory .result) (valid .if1 .left), c .before .size .ensures, c .size2 .ensures)
+    let called = c .before .before .before .before in
+    let valid = sym (called .before .is-inventory .ensures) ∙ not-false (called .before .is-inventory .result) (called .if1 .left) in
+    simp (valid, c .before .size .ensures, c .size2 .ensures)
 
 pub count-spec : {M : Type 1} → statement M
 count-spec =

@@ -61,7 +61,8 @@ returns-3 c =
     let ranged = c .before .before .before .before .before .before in
     let a = ranged .before .before .before .args in
     let in-range = sym (ranged .before .one-to .ensures) ∙ not-false (ranged .before .one-to .result) (ranged .if1 .left) in
-    c .refused-opening3 .ensures ∙ open-too-large (a .n) (a .sizes .now) in-range (c .before .before .before .before .before .if2 .left) (l .k) (omega arith) (c .before .if3 .taken)
+    let counted : length (a .sizes .now) ≡ a .n = c .before .before .before .before .before .if2 .left in
+    c .refused-opening3 .ensures ∙ open-too-large (a .n) (a .sizes .now) in-range counted (l .k) (omega arith) (c .before .if3 .taken)
 
 mul-if4 : tie.Need-mul-if4 Inv-loop μ-loop
 mul-if4 c = omega arith

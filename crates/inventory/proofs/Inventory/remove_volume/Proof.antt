@@ -14,7 +14,8 @@ unfolding changeStep inRange already afterChange
 returns c =
     let called = c .before .before in
     volumes-changed _ _ _ _ _ _ (c .before .remove .ensures)
-    (called .change-number .ensures ∙ number-same _ (called .before .before .is-volume .ensures) (ap not (called .before .has .ensures))) (c .unless-refused .ensures)
+    (called .change-number .ensures ∙ number-same _ (called .before .before .is-volume .ensures) (ap not (called .before .has .ensures)))
+    (c .unless-refused .ensures)
 
 pub remove-volume-spec : {M : Type 1} → statement M
 remove-volume-spec =

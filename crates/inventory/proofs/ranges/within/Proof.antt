@@ -7,8 +7,8 @@ use native.Mathlib.Omega.{arith}
 use lib.ListN.{set}
 use mathlib.Core.Bool.{Bool, true, not, _||_}
 use native.Mathlib.Nat.{not-suc-le-zero}
+use Rattle.computed_tests.specs.Numbers.{oneTo}
 use Rattle.computed_tests.proofs.Tests.{all-false, all-true}
-use Rattle.parity.specs.Parity.{isFile}
 use Rattle.number_sets.specs.Sets.{member}
 use Rattle.inventory.specs.Steps.{within}
 use Rattle.inventory.proofs.Tests.{one-more, or-left, or-right}
@@ -18,7 +18,7 @@ use Rattle.inventory.proofs.ranges.within.Statement.{statement}
 use Rattle.inventory.proofs.ranges.within.Tie as tie
 
 abbrev Inv-loop : tie.InvT-loop
-Inv-loop m set k₀ k = (k ≤ 256) × ((j : ℕ) → j < k → (not (member set j) || isFile m j) ≡ true)
+Inv-loop m set k₀ k = (k ≤ 256) × ((j : ℕ) → j < k → (not (member set j) || oneTo m j) ≡ true)
 
 abbrev μ-loop : tie.MeasureT-loop
 μ-loop m set k₀ k = 256 - k
@@ -37,7 +37,7 @@ unfolding within
 returns c =
     let l = c .before .before .before .before .before .loop in
     let a = c .before .before .before .before .before .before .args in
-    sym (all-false 256 (λ k. not (member (a .set) k) || isFile (a .m) k) (l .k) (omega arith)
+    sym (all-false 256 (λ k. not (member (a .set) k) || oneTo (a .m) k) (l .k) (omega arith)
     (ap₂ (λ (x y : Bool). not x || y) (sym (c .before .before .before .has .ensures) ∙ c .before .before .if1 .taken)
     (sym (c .before .one-to .ensures) ∙ not-true (c .before .one-to .result) (c .if2 .taken))))
 
@@ -51,11 +51,11 @@ loop-again : tie.Need-loop-again Inv-loop μ-loop
 loop-again c =
     let l = c .before .before .before .loop in
     let a = c .before .before .before .before .args in
-    let test : ℕ → Bool = λ (k : ℕ). not (member (a .set) k) || isFile (a .m) k in (
+    let test : ℕ → Bool = λ (k : ℕ). not (member (a .set) k) || oneTo (a .m) k in (
       omega arith,
       one-more (λ k. test k ≡ true) (l .k) (l .inv .1)
-          (⊎-elim (λ w. or-right (member (a .set) (l .k)) (isFile (a .m) (l .k)) (sym (w .1 .ensures) ∙ not-false (w .1 .result) (w .2 .left)))
-          (λ w. or-left (member (a .set) (l .k)) (isFile (a .m) (l .k)) (sym (c .before .has .ensures) ∙ w .left)) (c .if1 .came)),
+          (⊎-elim (λ w. or-right (member (a .set) (l .k)) (oneTo (a .m) (l .k)) (sym (w .1 .ensures) ∙ not-false (w .1 .result) (w .2 .left)))
+          (λ w. or-left (member (a .set) (l .k)) (oneTo (a .m) (l .k)) (sym (c .before .has .ensures) ∙ w .left)) (c .if1 .came)),
     )
 
 returns-2 : tie.Need-returns-2 Inv-loop μ-loop
@@ -64,7 +64,7 @@ returns-2 c =
     let l = c .before .loop in
     let a = c .before .before .args in
     let e : l .k ≡ 256 = omega arith in
-    sym (all-true 256 (λ k. not (member (a .set) k) || isFile (a .m) k) (rw e at (l .inv .1)))
+    sym (all-true 256 (λ k. not (member (a .set) k) || oneTo (a .m) k) (rw e at (l .inv .1)))
 
 pub within-spec : {M : Type 1} → statement M
 within-spec =
