@@ -1,6 +1,7 @@
 -- The product by shifts and sums.
 --
 --   double-low, double-high     twice a byte below 128, and from 128 on
+--   halves                      a byte by its lowest bit and the rest
 --   step-odd, step-even         a sum of shifts, one bit of the second factor further
 --   product-bits                the sum of the products by the powers of two that make up the second factor, for any numbers
 -- Assumes nothing.
@@ -34,7 +35,7 @@ double-high x l h = above (x - 128) (omega arith) ∙ ap (product 2) (omega arit
 -- ---- a sum of shifts
 
 -- the lowest bit of y, and the rest
-halves : (y : ℕ) → y < 256 → y ≡ bitXor (product 2 (y / 2)) (y % 2)
+pub halves : (y : ℕ) → y < 256 → y ≡ bitXor (product 2 (y / 2)) (y % 2)
 halves y h =
     sym (div-add-mod' y 2) ∙ sym (xor-shifted (y / 2) 1 (y % 2) (mod-lt y (lit< tt)))
     ∙ ap (λ (z : ℕ). bitXor z (y % 2)) (double-low (y / 2) (omega arith))

@@ -52,10 +52,29 @@ pub fn power(a: u8, n: u8) -> u8
         if bits % 2 == 1 {
             result = product(result, square);
         }
-        square = product(square, square);
+        square = squared(square);
         bits = bits / 2;
     }
     result
+}
+
+// x times x. The square of a sum is the sum of the squares, so each term X^i of x gives its square, X^2i: eight choices with no branch.
+fn squared(x: u8) -> u8
+    ensures { λ r. ⌜ r ≡ product x x ⌝ }
+{
+    let mut sum: u8 = 0;
+    let mut term: u8 = 1;
+    let mut bits = x;
+    let mut left: u8 = 8;
+    while 0 < left {
+        if bits % 2 == 1 {
+            sum = sum ^ term;
+        }
+        term = double(double(term));
+        bits = bits / 2;
+        left -= 1;
+    }
+    sum
 }
 
 // The inverse of a, refused with 10 for 0. Each other byte to the power 255 is 1, so its inverse is its power 254.

@@ -32,7 +32,7 @@ loop-again c =
     let hr = l .inv .1 in
     let hs = l .inv .2 in
     let next : ℕ → ℕ = λ (r : ℕ). product r (power (product s s) (l .bits / 2)) in (
-      ap (λ (z : ℕ). product result (power z (l .bits / 2))) (c .product2 .ensures)
+      ap (λ (z : ℕ). product result (power z (l .bits / 2))) (c .squared .ensures)
           ∙ ⊎-elim (λ w. ap next (w .2 ∙ w .1 .ensures) ∙ power-odd (l .result) s (l .bits) hr hs (w .0 .taken))
           (λ w. ap next (w .1) ∙ power-even (l .result) s (l .bits) hs (omega (arith, w .0 .left)))
           (c .before .if1 .came)
