@@ -1,1 +1,1 @@
-// Tests that the checker computes, for the proofs of other crates: laws, and no code.
+// Tests that the checker computes, and lists and searches by a rule, for the definitions and proofs of other crates: laws, and no code.

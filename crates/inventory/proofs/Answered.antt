@@ -13,11 +13,12 @@ use native.Mathlib.Omega.{arith}
 use native.Mathlib.Decide.{decLe, decLt}
 use lib.Dec.{leb}
 use lib.ListN.{length, getD, set, replicate}
+use Rattle.computed_tests.specs.Lists.{listBelow}
+use Rattle.computed_tests.proofs.Lists.{listBelow-at}
 use Rattle.computed_tests.proofs.Tests.{oneTo-inside}
 use Rattle.gf256.proofs.Polynomials.{sumBelow-lt}
 use Rattle.gf256.proofs.Products.{product-byte}
-use Rattle.parity.specs.Parity.{isFile, listBelow}
-use Rattle.parity.proofs.Parities.{listBelow-at}
+use Rattle.parity.specs.Parity.{isFile}
 use Rattle.elimination.specs.Matrix.{IsSolution, IsKernelVector}
 use Rattle.elimination.specs.ByteField.{Byte, byteField}
 use Rattle.elimination.proofs.ByteField.{is-zero}

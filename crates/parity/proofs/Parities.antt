@@ -1,34 +1,21 @@
 -- The laws of the parity of contents, over any rule for the coefficients.
 --
---   listBelow-at               a list by a rule, entry by entry
 --   length-parity, parity-at   the parity, byte by byte
 --   file-le-greatest           no file is longer than the greatest size
 --   parityByte-end             past the greatest size the parity is 0
 --   parityByte-byte            the parity of bytes, by coefficients that are bytes, is a byte
 -- Assumes nothing.
-use mathlib.Core.Path.{_≡_, refl, ap, _∙_}
+use mathlib.Core.Path.{_≡_, ap, _∙_}
 use mathlib.Core.Logic.{⊎-elim}
 use Prim.Native.Nat.{ℕ, zero, suc, _<_, _≤_}
-use native.Mathlib.Nat.{le-of-suc-le-suc, not-suc-le-zero, eq-or-lt-of-le}
+use native.Mathlib.Nat.{le-of-suc-le-suc, eq-or-lt-of-le}
 use native.Mathlib.Omega.{arith}
 use lib.ListN.{length, getD, List·getD-eq-default}
+use Rattle.computed_tests.proofs.Lists.{length-listBelow, listBelow-at}
 use Rattle.gf256.specs.Field.{product}
 use Rattle.gf256.proofs.Polynomials.{sumBelow-lt, sumBelow-same, sumBelow-none}
 use Rattle.gf256.proofs.Products.{product-byte, product-zero-r}
-use Rattle.parity.specs.Parity.{Contents, greatest, listBelow, parityByte, parity}
-
--- ---- lists by a rule
-
-length-listBelow : (m : ℕ) (f : ℕ → ℕ) → length (listBelow m f) ≡ m
-unfolding listBelow
-length-listBelow zero f = refl
-length-listBelow (suc m) f = ap suc (length-listBelow m (λ p. f (suc p)))
-
-pub listBelow-at : (m : ℕ) (f : ℕ → ℕ) (p : ℕ) → p < m → getD (listBelow m f) p 0 ≡ f p
-unfolding listBelow
-listBelow-at zero f p h = absurd (not-suc-le-zero h)
-listBelow-at (suc m) f zero h = refl
-listBelow-at (suc m) f (suc p) h = listBelow-at m (λ p. f (suc p)) p (le-of-suc-le-suc h)
+use Rattle.parity.specs.Parity.{Contents, greatest, parityByte, parity}
 
 -- ---- the greatest size
 

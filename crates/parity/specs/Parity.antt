@@ -5,13 +5,13 @@
 --   isFile n f                  whether f is the number of one of n files
 --   greatest n size             the greatest of n sizes
 --   parityByte rule n X v p     byte p of volume v
---   listBelow m f               the list of f p for each p below m
 --   parity rule n X v m         the bytes of volume v below m
 -- Assumes nothing.
 use Prim.Native.Nat.{ℕ, zero, suc, max}
 use mathlib.Core.Bool.{Bool}
-use mathlib.Core.List.{List, [], _∷_}
+use mathlib.Core.List.{List}
 use lib.ListN.{getD}
+use Rattle.computed_tests.specs.Lists.{listBelow}
 use Rattle.computed_tests.specs.Numbers.{oneTo}
 use Rattle.gf256.specs.Polynomial.{sumBelow}
 use Rattle.gf256.specs.Field.{product}
@@ -31,10 +31,6 @@ greatest (suc n) size = max (greatest n size) (size (suc n))
 -- "Byte p of volume v is the sum, over all saved files, of factor times byte p; a file that has ended counts as zero"
 unfoldable pub parityByte : (ℕ → ℕ → ℕ) → ℕ → Contents → ℕ → ℕ → ℕ
 parityByte rule n X v p = sumBelow n (λ i. product (rule (suc i) v) (getD (X (suc i)) p 0))
-
-unfoldable pub listBelow : ℕ → (ℕ → ℕ) → List ℕ
-listBelow zero f = []
-listBelow (suc m) f = f 0 ∷ listBelow m (λ p. f (suc p))
 
 -- "a volume's data", of m bytes
 unfoldable pub parity : (ℕ → ℕ → ℕ) → ℕ → Contents → ℕ → ℕ → List ℕ

@@ -11,11 +11,12 @@ use Prim.Native.Nat.{ℕ, zero, suc}
 use lib.Dec.{eqb}
 use lib.ListN.{getD}
 use borrow.Author.Tests.{eqb-true}
+use Rattle.computed_tests.specs.Lists.{listBelow}
 use Rattle.computed_tests.proofs.Tests.{and-both}
 use Rattle.gf256.specs.Polynomial.{coeff, sumBelow, polyProduct, remainder}
 use Rattle.gf256.specs.Field.{product, power}
 use Rattle.parity.specs.Coefficient.{coefficient}
-use Rattle.parity.specs.Parity.{greatest, listBelow, parityByte, parity}
+use Rattle.parity.specs.Parity.{greatest, parityByte, parity}
 use Rattle.worked_examples.specs.Examples.{contentsOf, volumeOf, Example, Holds, examples, ExamplesHold}
 use Rattle.worked_examples.specs.Examples.Example.{numbers, weights, recoverable, undetermined}
 use Rattle.worked_examples.proofs.Tests.{every}
