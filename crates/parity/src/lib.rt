@@ -1,10 +1,10 @@
 // Coefficients of files in volumes (document 01, "The parity bytes"). The parity that they make is defined in specs/.
 ghost use mathlib.Core.Path.{_≡_};
-ghost use Rattle.parity.specs.Coefficient.{coefficientAnswer};
+ghost use Rattle.parity.specs.Coefficient.{coefficient, coefficientAnswer};
 use gf256::ByteAnswer;
 use refusals::OUT_OF_RANGE;
 
-// The coefficient of a file in a volume (document 01: the factor).
+// The coefficient of a file in a volume (document 01: the factor), or 10 where either is out of range.
 pub fn coefficient(file: u64, volume: u64) -> ByteAnswer
     ensures { λ r. ⌜ r ≡ coefficientAnswer file volume ⌝ }
 {
@@ -20,5 +20,15 @@ pub fn coefficient(file: u64, volume: u64) -> ByteAnswer
     if 255 - file < volume {
         return ByteAnswer::Refused(OUT_OF_RANGE);
     }
-    ByteAnswer::Byte(gf256::power(file as u8, (volume - 1) as u8))
+    ByteAnswer::Byte(coefficient_of(file as u8, volume as u8))
+}
+
+// The rule of the coefficients: the file's number to the power of the volume's less 1. It answers for all bytes.
+pub fn coefficient_of(file: u8, volume: u8) -> u8
+    ensures { λ r. ⌜ r ≡ coefficient file volume ⌝ }
+{
+    if volume == 0 {
+        return 1;
+    }
+    gf256::power(file, volume - 1)
 }

@@ -4,7 +4,6 @@ use mathlib.Core.Path.{sym, ap, _∙_}
 use native.Mathlib.Omega.{arith}
 use borrow.Author.Needs.{needs}
 use Rattle.gf256.specs.declared.ByteAnswer.the-variants.{Byte}
-use Rattle.parity.specs.Coefficient.{coefficient}
 use Rattle.parity.proofs.Coefficients.{answer-in-range, answer-file-zero, answer-volume-zero, answer-sum-above}
 use Rattle.parity.proofs.coefficient.Statement.{statement}
 use Rattle.parity.proofs.coefficient.Tie as tie
@@ -26,10 +25,9 @@ returns-4 c =
     sym (answer-sum-above (a .file) (a .volume) (omega arith))
 
 returns-5 : tie.Need-returns-5
-unfolding coefficient
 returns-5 c =
     let a = c .before .before .before .before .before .args in
-    ap Byte (c .power .ensures) ∙ sym (answer-in-range (a .file) (a .volume) (omega arith) (omega arith) (omega arith))
+    ap Byte (c .coefficient-of .ensures) ∙ sym (answer-in-range (a .file) (a .volume) (omega arith) (omega arith) (omega arith))
 
 pub coefficient-spec : {M : Type 1} → statement M
 coefficient-spec =
@@ -39,7 +37,6 @@ coefficient-spec =
     returns-2
     returns-3
     returns-4
-    (λ c. search needs)
     (λ c. search needs)
     (λ c. search needs)
     (λ c κs. search needs)
