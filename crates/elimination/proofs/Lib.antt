@@ -1,8 +1,8 @@
 pub mod Sums
 pub mod Elimination
 pub mod Solutions
+mod Pivots
 mod Steps
 mod AddedRow
 pub mod ByteField
 pub mod Reductions
-pub mod Determined

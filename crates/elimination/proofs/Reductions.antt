@@ -4,6 +4,7 @@
 --   entries m i j, ownerOf owners k     entry (i, j) of the matrix m as a field element, and the owner of column k
 --   zeros-at                      a list of zeros is 0 everywhere
 --   ReducedBytes A m owners t     m and owners after the first t rows of A
+--   ReducedPair A s t             the same of the pair s of a matrix and owners
 --   start-reduced                 no row
 --   skip-reduced                  a row of zeros may be left out
 --   add-reduced                   a row that was added
@@ -14,22 +15,25 @@
 -- Assumes nothing.
 use mathlib.Core.Path.{_≡_, refl, sym, ap, ap₂, _∙_, subst}
 use mathlib.Core.Logic.{_≢_}
-use mathlib.Core.Bool.{Bool, true, false, cond, true≢false, false≢true}
+use mathlib.Core.Bool.{Bool, true, false, cond}
 use mathlib.Core.List.{List}
-use Prim.Native.Nat.{ℕ, zero, suc, _<_, _≤_, _+_, _*_}
+use Prim.Native.Nat.{ℕ, zero, suc, _<_, _≤_, _+_, _*_, _/_, _%_}
 use native.Mathlib.Nat.{not-suc-le-zero}
 use native.Mathlib.Omega.{arith}
-use native.Mathlib.Decide.{ℕ-discrete}
+use native.Mathlib.Decide.{ℕ-discrete, decLt}
 use lib.Bits.{bitXor}
 use lib.Dec.{eqb}
 use lib.ListN.{length, getD, set, replicate, length-set, length-replicate}
 use lib.Seq.{getD-set-same, getD-set-other}
 use borrow.Author.Tests.{eq-eqb, ne-eqb}
+use Rattle.computed_tests.proofs.Lists.{listBelow-at}
 use Rattle.gf256.specs.Field.{product, inverse}
 use Rattle.gf256.proofs.Polynomials.{sumBelow-same, sumBelow-none}
 use Rattle.elimination.specs.Field.{δ}
 use Rattle.elimination.specs.Matrix.{IsSolution, IsKernelVector}
-use Rattle.elimination.specs.Reduction.{entry, withDiagonal, rowProduct, IsPivot, sweptEntry, RowAdded, dependent, independent, IsSolvable, solvable, unsolvable, weightOf}
+use Rattle.elimination.specs.Reduction.{entry, withDiagonal, rowProduct, pivotOf, sweptEntry, swept, columnTaken, rowAdded, isSolvable, weightOf}
+use Rattle.elimination.proofs.Pivots.{IsPivot, pivot-is, pivot-none, pivot-some}
+use Rattle.elimination.proofs.AddedRow.{row-left, row-taken}
 use Rattle.elimination.proofs.Sums as S
 use Rattle.elimination.proofs.Elimination.{rowTimes, Reduced, rowWeight, reduced-start, reduced-dependent, reduced-independent}
 use Rattle.elimination.proofs.Solutions.{solution, kernel-vector}
@@ -47,6 +51,9 @@ pub record ReducedBytes (A : ℕ → ℕ → Byte) (m owners : List ℕ) (t : �
   pub bytes : (i j : ℕ) → i < 256 → j < 256 → entry m i j < 256
   pub owners-length : length owners ≡ 256
   pub reduced : Reduced byteField A 256 (entries m) (ownerOf owners) t
+
+abbrev pub ReducedPair : (ℕ → ℕ → Byte) → List ℕ × List ℕ → ℕ → Type 0
+ReducedPair A s t = ReducedBytes A (s .0) (s .1) t
 
 -- ---- no row
 
@@ -142,46 +149,66 @@ module _ (A : ℕ → ℕ → Byte) (m owners : List ℕ) (t : ℕ) (R : Reduced
         ∙ sumBelow-same 256 (λ i. product (A t i .0) (entries m i j .0)) (λ i. product (getD u i 0) (entry m i j))
         (λ i b. ap₂ product (row i b) (value i j b l))
 
-    module _ (k : ℕ) (lk : k < 256) (P : IsPivot (rowProduct u m) owners k) (m′ : List ℕ)
-        (swept : (i j : ℕ) → i < 256 → j < 256
-        → entry m′ i j ≡ sweptEntry (λ j. bitXor (rowProduct u m j) (cond (eqb k j) 1 0)) k (inverse (rowProduct u m k)) m i j) where
+    module _ (k : ℕ) (lk : k < 256) (P : IsPivot (rowProduct u m) owners k) where
       sweptByte : ℕ → ℕ → Byte
       sweptByte i j =
           byteField .add (entries m i j)
           (byteField .mul (byteField .mul (byteField .inv (timesM k)) (entries m i k)) (byteField .add (timesM j) (δ byteField k j)))
 
-      swept-value : (i j : ℕ) → i < 256 → j < 256 → entry m′ i j ≡ sweptByte i j .0
-      unfolding sweptEntry sweptByte
+      abbrev taken : List ℕ × List ℕ
+      taken = columnTaken u (suc t) m owners k
+
+      swept-value : (i j : ℕ) → i < 256 → j < 256 → entry (taken .0) i j ≡ sweptByte i j .0
+      unfolding columnTaken swept sweptEntry sweptByte
       swept-value i j li lj =
-          swept i j li lj
+          let row : (i * 256 + j) / 256 ≡ i = omega arith in
+          let column : (i * 256 + j) % 256 ≡ j = omega arith in
+          listBelow-at 65536 _ (i * 256 + j) (omega arith)
+          ∙ ap₂ (sweptEntry (λ j. bitXor (rowProduct u m j) (cond (eqb k j) 1 0)) k (inverse (rowProduct u m k)) m) row column
           ∙ sym (ap₂ bitXor (value i j li lj)
           (ap₂ product (ap₂ (λ (x z : ℕ). product (inverse x) z) (product-value k lk) (value i k li lk))
           (ap₂ bitXor (product-value j lj) (δ-value k j))))
 
-      independent-reduced : (owners′ : List ℕ) → owners′ ≡ set owners k (suc t) → ReducedBytes A m′ owners′ (suc t)
-      unfolding timesM sweptByte
-      independent-reduced owners′ e = record {
+      independent-reduced : ReducedBytes A (taken .0) (taken .1) (suc t)
+      unfolding columnTaken timesM sweptByte
+      independent-reduced = record {
         bytes = λ i j li lj. subst (λ (x : ℕ). x < 256) (sym (swept-value i j li lj)) (sweptByte i j .1);
-        owners-length = ap length e ∙ length-set owners k (suc t) ∙ R .owners-length;
+        owners-length = length-set owners k (suc t) ∙ R .owners-length;
         reduced = reduced-independent byteField A 256 (entries m) (ownerOf owners) t (R .reduced) k lk (P .found lk .0)
             (λ z. P .found lk .1 (sym (product-value k lk) ∙ ap (λ (b : Byte). b .0) z))
-            (entries m′) (ownerOf owners′)
+            (entries (taken .0)) (ownerOf (taken .1))
             (λ i j li lj. ap toByte (swept-value i j li lj) ∙ toByte-of-value (sweptByte i j))
-            (ap (λ (os : List ℕ). getD os k 0) e ∙ getD-set-same owners k (suc t) 0 (let b = R .owners-length in omega arith))
-            (λ j l q. ap (λ (os : List ℕ). getD os j 0) e ∙ getD-set-other owners k j (suc t) 0 q);
+            (getD-set-same owners k (suc t) 0 (let b = R .owners-length in omega arith))
+            (λ j l q. getD-set-other owners k j (suc t) 0 q);
       }
 
-    pub add-reduced : (m′ owners′ : List ℕ) → RowAdded u (suc t) m owners m′ owners′ → ReducedBytes A m′ owners′ (suc t)
+    dependent-reduced : IsPivot (rowProduct u m) owners 256 → ReducedBytes A m owners (suc t)
     unfolding timesM
-    add-reduced m′ owners′ (dependent P e o) =
-        subst (λ (z : List ℕ). ReducedBytes A z owners′ (suc t)) (sym e)
-        (subst (λ (z : List ℕ). ReducedBytes A m z (suc t)) (sym o) record {
-          bytes = R .bytes;
-          owners-length = R .owners-length;
-          reduced = reduced-dependent byteField A 256 (entries m) (ownerOf owners) t (R .reduced)
-              (λ j l h. byte-eq (timesM j) (byteField .𝟘) (product-value j l ∙ P .before j l h));
-        })
-    add-reduced m′ owners′ (independent k l P swept o) = independent-reduced k l P m′ swept owners′ o
+    dependent-reduced P = record {
+      bytes = R .bytes;
+      owners-length = R .owners-length;
+      reduced = reduced-dependent byteField A 256 (entries m) (ownerOf owners) t (R .reduced)
+          (λ j l h. byte-eq (timesM j) (byteField .𝟘) (product-value j l ∙ P .before j l h));
+    }
+
+    pub add-reduced : ReducedPair A (rowAdded u (suc t) m owners) (suc t)
+    add-reduced =
+        elim (decLt k 256) [
+          | yes l ↦ subst after (sym (row-taken u (suc t) m owners l)) (independent-reduced k l P)
+          | no q ↦
+              let b = P .within in
+              subst after (sym (row-left u (suc t) m owners (omega arith)))
+              (dependent-reduced (subst (IsPivot (rowProduct u m) owners) (omega arith) P))
+        ]
+      where
+        k : ℕ
+        k = pivotOf (rowProduct u m) owners
+
+        P : IsPivot (rowProduct u m) owners k
+        P = pivot-is (rowProduct u m) owners
+
+        after : List ℕ × List ℕ → Type 0
+        after s = ReducedPair A s (suc t)
 
   -- ---- the answers
 
@@ -211,29 +238,27 @@ module _ (A : ℕ → ℕ → Byte) (m owners : List ℕ) (t : ℕ) (R : Reduced
       (ne-eqb (ownerOf owners k) (suc s) (λ e. let h = R .reduced .earlier k s b e in omega arith)))
       ∙ sumBelow-none 256
 
-  pub weight-none : (f : ℕ) → IsSolvable m owners f true → weightOf m owners f 0 ≡ 0
+  pub weight-none : (f : ℕ) → isSolvable m owners f ≡ true → weightOf m owners f 0 ≡ 0
   unfolding weightOf
-  weight-none f (solvable P) =
+  weight-none f h =
       sumBelow-same 256 (λ k. cond (eqb (ownerOf owners k) 0) (entry m f k) 0) (λ k. 0)
       (λ k b.
       elim (ℕ-discrete (ownerOf owners k) 0) [
-        | yes e ↦ ap (λ (c : Bool). cond c (entry m f k) 0) (eq-eqb (ownerOf owners k) 0 e) ∙ P .before k b e
+        | yes e ↦ ap (λ (c : Bool). cond c (entry m f k) 0) (eq-eqb (ownerOf owners k) 0 e) ∙ pivot-none m owners f h .before k b e
         | no q ↦ ap (λ (c : Bool). cond c (entry m f k) 0) (ne-eqb (ownerOf owners k) 0 q)
       ])
       ∙ sumBelow-none 256
 
-  pub solvable-solution : (f : ℕ) → f < 256 → (answer : Bool) → IsSolvable m owners f answer → answer ≡ true
-      → IsSolution byteField A 256 t f (weights f)
-  solvable-solution f l answer (solvable P) e =
+  pub solvable-solution : (f : ℕ) → f < 256 → isSolvable m owners f ≡ true → IsSolution byteField A 256 t f (weights f)
+  solvable-solution f l h =
       solution byteField A 256 (entries m) (ownerOf owners) t (R .reduced) f l
-      (λ j b o. byte-eq (entries m f j) (byteField .𝟘) (value f j l b ∙ P .before j b o))
-  solvable-solution f l answer (unsolvable k b P) e = absurd (false≢true e)
+      (λ j b o. byte-eq (entries m f j) (byteField .𝟘) (value f j l b ∙ pivot-none m owners f h .before j b o))
 
-  pub unsolvable-kernel : (f : ℕ) → f < 256 → (answer : Bool) → IsSolvable m owners f answer → answer ≡ false
+  pub unsolvable-kernel : (f : ℕ) → f < 256 → isSolvable m owners f ≡ false
       → (x : ℕ → Byte) × IsKernelVector byteField A 256 t f x
-  unsolvable-kernel f l answer (solvable P) e = absurd (true≢false e)
-  unsolvable-kernel f l answer (unsolvable k b P) e = (
-    λ i. entries m i k,
-    kernel-vector byteField A 256 (entries m) (ownerOf owners) t (R .reduced) f k b (P .found b .0)
-        (λ z. P .found b .1 (sym (value f k l b) ∙ ap (λ (x : Byte). x .0) z)),
-  )
+  unsolvable-kernel f l h =
+      let (k, b, P) = pivot-some m owners f h in (
+        λ i. entries m i k,
+        kernel-vector byteField A 256 (entries m) (ownerOf owners) t (R .reduced) f k b (P .found b .0)
+            (λ z. P .found b .1 (sym (value f k l b) ∙ ap (λ (x : Byte). x .0) z)),
+      )

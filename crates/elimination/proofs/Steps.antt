@@ -3,14 +3,15 @@
 --   diagonal-more              the diagonal
 --   product-more               a row times the matrix
 --   pivot-more                 the search for a pivot
+--   Swept n y k scale m m′     the first n rows of m′ are those of m swept, the others those of m
 --   swept-none, swept-more     the sweep, before its first row and one row further
---   solvable-by                the answer, by the pivot that was found
+--   swept-all                  after its last
 --   weight-more                the weights
 -- Assumes nothing.
-use mathlib.Core.Path.{_≡_, refl, sym, ap, ap₂, _∙_, subst}
+use mathlib.Core.Path.{_≡_, refl, sym, ap, ap₂, _∙_}
 use mathlib.Core.Bool.{Bool, cond}
 use mathlib.Core.List.{List, _++_}
-use Prim.Native.Nat.{ℕ, _<_, _≤_, _+_, _*_, _-_}
+use Prim.Native.Nat.{ℕ, _<_, _≤_, _+_, _*_, _-_, _/_, _%_}
 use native.Mathlib.Numerals.{add-one}
 use native.Mathlib.Omega.{arith}
 use native.Mathlib.Decide.{ℕ-discrete}
@@ -20,11 +21,12 @@ use lib.ListN.{length, getD, set, take, drop, length-drop, List·getD-append}
 use lib.Seq.{getD-set-same, getD-set-other, getD-take, getD-drop, getD-append-add, length-take-le}
 use borrow.Author.Tests.{eq-eqb, ne-eqb}
 use borrow.Rule.Slice.PartMut.{putMid, same-len-mid, take-put, drop-put}
+use Rattle.computed_tests.proofs.Lists.{listBelow-is}
 use Rattle.gf256.specs.Polynomial.{sumBelow}
 use Rattle.gf256.specs.Field.{product}
 use Rattle.mul_add.specs.MulAdd.{mulAdd}
 use Rattle.mul_add.proofs.MulAdds.{length-mulAdd, mulAdd-at}
-use Rattle.elimination.specs.Reduction.{entry, withDiagonal, sweptEntry, Swept, IsPivot, IsSolvable, solvable, unsolvable}
+use Rattle.elimination.specs.Reduction.{entry, withDiagonal, sweptEntry, swept}
 
 -- byte j of a row that is lent
 row-at : (m : List ℕ) (i j : ℕ) → j < 256 → getD (take 256 (drop (i * 256) m)) j 0 ≡ entry m i j
@@ -60,6 +62,11 @@ pivot-more y owners k h e j l o =
     ]
 
 -- ---- the sweep
+
+pub record Swept (n : ℕ) (y : List ℕ) (k scale : ℕ) (m m′ : List ℕ) : Type 0 where
+  pub same-length : length m′ ≡ length m
+  pub rows : (i j : ℕ) → i < n → j < 256 → entry m′ i j ≡ sweptEntry (λ j. getD y j 0) k scale m i j
+  pub rest : (p : ℕ) → n * 256 ≤ p → getD m′ p 0 ≡ getD m p 0
 
 -- a list with ys in the place of its elements from a to b
 module _ (a b : ℕ) (xs ys : List ℕ) (ha : a ≤ b) (hb : b ≤ length xs) (hy : length ys ≡ b - a) where
@@ -134,17 +141,14 @@ module _ (r : ℕ) (y : List ℕ) (k scale : ℕ) (m m′ : List ℕ) (hr : r < 
           (getD-take width (drop from m′) j 0 (omega arith) ∙ getD-drop from m′ j 0 ∙ S .rest (from + j) (omega arith))
           (hw ∙ ap (product scale) (S .rest (from + k) (omega arith)))
 
--- ---- the answer
-
-pub solvable-by : (m owners : List ℕ) (f k : ℕ) → IsPivot (entry m f) owners k → IsSolvable m owners f (eqb k 256)
-solvable-by m owners f k P =
-    elim (ℕ-discrete k 256) [
-      | yes e ↦
-          subst (IsSolvable m owners f) (sym (eq-eqb k 256 e)) (solvable (subst (IsPivot (entry m f) owners) e P))
-      | no q ↦
-          let b = P .within in
-          subst (IsSolvable m owners f) (sym (ne-eqb k 256 q)) (unsolvable k (omega arith) P)
-    ]
+pub swept-all : (y : List ℕ) (k scale : ℕ) (m m′ : List ℕ) → length m ≡ 65536 → Swept 256 y k scale m m′
+    → m′ ≡ swept (λ j. getD y j 0) k scale m
+unfolding swept
+swept-all y k scale m m′ hm S =
+    listBelow-is 65536 _ m′ (S .same-length ∙ hm)
+    (λ p l.
+    let e : p ≡ p / 256 * 256 + p % 256 = omega arith in
+    ap (λ (q : ℕ). getD m′ q 0) e ∙ S .rows (p / 256) (p % 256) (omega arith) (omega arith))
 
 -- ---- the weights
 

@@ -4,10 +4,11 @@
 // number of a row. Rows are numbered 1, 2, .. in the order in which they come; a row of zeros may be left out. Where n
 // columns are wanted, the others are 0 in each row. The matrix takes 65,536 bytes of the caller's stack.
 ghost use mathlib.Core.Path.{_≡_};
-ghost use Prim.Native.Nat.{ℕ, _+_, _<_, _≤_};
+ghost use Prim.Native.Nat.{_+_, _<_, _≤_};
 ghost use lib.ListN.{length, getD};
+ghost use Rattle.computed_tests.specs.Lists.{listBelow};
 ghost use Rattle.mul_add.specs.MulAdd.{mulAdd};
-ghost use Rattle.elimination.specs.Reduction.{withDiagonal, rowProduct, IsPivot, Swept, RowAdded, IsSolvable, weightOf};
+ghost use Rattle.elimination.specs.Reduction.{withDiagonal, rowProduct, pivotOf, swept, rowAdded, isSolvable, weightOf};
 use gf256::ByteAnswer;
 
 // Sets the diagonal to 1: makes the identity of a matrix of zeros.
@@ -24,7 +25,7 @@ pub fn set_diagonal(matrix: &mut [u8; 65536])
 // Takes one row more. It is a sum of multiples of earlier rows where its product with the matrix is 0 in each column
 // that has no owner; otherwise it becomes the owner of the first such column where it is not.
 pub fn add_row(matrix: &mut [u8; 65536], owners: &mut [u8; 256], row: &[u8; 256], number: u8)
-    ensures { λ _. ⌜ RowAdded (now (row .entry)) number (now (matrix .entry)) (now (owners .entry)) (now (matrix .exit)) (now (owners .exit)) ⌝ }
+    ensures { λ _. ⌜ (now (matrix .exit), now (owners .exit)) ≡ rowAdded (now (row .entry)) number (now (matrix .entry)) (now (owners .entry)) ⌝ }
 {
     let mut y = row_times(row, matrix);
     let k = pivot(&y, 0, owners);
@@ -40,7 +41,7 @@ pub fn add_row(matrix: &mut [u8; 65536], owners: &mut [u8; 256], row: &[u8; 256]
 
 // Whether weights of the rows sum them to 1 in this column and to 0 in the others.
 pub fn solvable(matrix: &[u8; 65536], owners: &[u8; 256], column: u8) -> bool
-    ensures { λ r. ⌜ IsSolvable (now (matrix .entry)) (now (owners .entry)) column r ⌝ }
+    ensures { λ r. ⌜ r ≡ isSolvable (now (matrix .entry)) (now (owners .entry)) column ⌝ }
 {
     let k = pivot(matrix, index(column) * 256, owners);
     k == 256
@@ -48,7 +49,7 @@ pub fn solvable(matrix: &[u8; 65536], owners: &[u8; 256], column: u8) -> bool
 
 // These weights, by the numbers of the rows; what stands at 0 means nothing.
 pub fn weights(matrix: &[u8; 65536], owners: &[u8; 256], column: u8) -> [u8; 256]
-    ensures { λ r. ⌜ ((v : ℕ) → v < 256 → getD r v 0 ≡ weightOf (now (matrix .entry)) (now (owners .entry)) column v) ⌝ }
+    ensures { λ r. ⌜ r ≡ listBelow 256 (weightOf (now (matrix .entry)) (now (owners .entry)) column) ⌝ }
 {
     let from = index(column) * 256;
     let mut weights = [0u8; 256];
@@ -64,7 +65,7 @@ pub fn weights(matrix: &[u8; 65536], owners: &[u8; 256], column: u8) -> [u8; 256
 // The product of a row and the matrix.
 fn row_times(row: &[u8; 256], matrix: &[u8]) -> [u8; 256]
     requires { ⌜ length (now matrix) ≡ 65536 ⌝ }
-    ensures { λ r. ⌜ ((j : ℕ) → j < 256 → getD r j 0 ≡ rowProduct (now (row .entry)) (now (matrix .entry)) j) ⌝ }
+    ensures { λ r. ⌜ r ≡ listBelow 256 (rowProduct (now (row .entry)) (now (matrix .entry))) ⌝ }
 {
     let mut sum = [0u8; 256];
     let mut i: usize = 0;
@@ -80,7 +81,7 @@ fn row_times(row: &[u8; 256], matrix: &[u8]) -> [u8; 256]
 // The first column that has no owner in which the row from this place on is not 0, or 256.
 fn pivot(rows: &[u8], from: usize, owners: &[u8; 256]) -> usize
     requires { ⌜ from + 256 ≤ length (now rows) ⌝ }
-    ensures { λ r. ⌜ IsPivot (λ j. getD (now (rows .entry)) (from + j) 0) (now (owners .entry)) r ⌝ }
+    ensures { λ r. ⌜ r ≡ pivotOf (λ j. getD (now (rows .entry)) (from + j) 0) (now (owners .entry)) ⌝ }
 {
     let mut k: usize = 0;
     while k < 256 {
@@ -97,7 +98,7 @@ fn pivot(rows: &[u8], from: usize, owners: &[u8; 256]) -> usize
 // Adds to each row of the matrix y, times `scale`, times the row's entry in column k.
 fn sweep(matrix: &mut [u8], y: &[u8; 256], k: usize, scale: u8)
     requires { ⌜ (length (now matrix) ≡ 65536) × (k < 256) ⌝ }
-    ensures { λ _. ⌜ Swept 256 (now (y .entry)) k scale (now (matrix .entry)) (now (matrix .exit)) ⌝ }
+    ensures { λ _. ⌜ now (matrix .exit) ≡ swept (λ j. getD (now (y .entry)) j 0) k scale (now (matrix .entry)) ⌝ }
 {
     let mut r: usize = 0;
     while r < 256 {

@@ -69,7 +69,7 @@ module _ (s : Inventory) (valid : isInventory s ≡ true) where
               ∙ sym (R.inColumn-past rule small (stateOf s size) few i (omega (arith, few)))
         ]
 
-    pub table-matrix : tableOf (s .nonempty) (s .files) (s .volumes) ≡ R.matrix rule small (stateOf s size) few
+    pub table-matrix : tableOf rule (s .nonempty) (s .files) (s .volumes) ≡ R.matrix rule small (stateOf s size) few
     unfolding tableOf R.matrix R.coef mask
     table-matrix = fun-ext (λ v. fun-ext (λ i. at v i))
       where
@@ -78,7 +78,7 @@ module _ (s : Inventory) (valid : isInventory s ≡ true) where
         masked true false x = toByte-of-value (byteField .𝟘)
         masked false b x = toByte-of-value (byteField .𝟘)
 
-        at : (v i : ℕ) → tableOf (s .nonempty) (s .files) (s .volumes) v i ≡ R.matrix rule small (stateOf s size) few v i
+        at : (v i : ℕ) → tableOf rule (s .nonempty) (s .files) (s .volumes) v i ≡ R.matrix rule small (stateOf s size) few v i
         at v i =
             masked (member (s .volumes) (suc v)) (columnIn (s .nonempty) (s .files) (suc i)) (rule (suc i) (suc v))
             ∙ ap (λ (b : Bool). mask (member (s .volumes) (suc v)) (mask b (toByte (rule (suc i) (suc v))))) (column-same i)

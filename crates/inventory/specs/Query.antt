@@ -46,11 +46,11 @@ pub record Queried (rule : ℕ → ℕ → ℕ) (s : Inventory) (f : ℕ) (room 
 -- an empty file comes back by no weight; any other by those that solve the rows of the volumes present
 pub data Found (n : ℕ) (files volumes nonempty : List ℕ) (f : ℕ) (found : Bool) (ws : List ℕ) : Type 0 where
   empty : member nonempty f ≡ false → found ≡ true → ((v : ℕ) → getD ws v 0 ≡ 0) → Found n files volumes nonempty f found ws
-  notEmpty : member nonempty f ≡ true → Solved nonempty files volumes (255 - n) (f - 1) ws found
+  notEmpty : member nonempty f ≡ true → Solved coefficient nonempty files volumes (255 - n) (f - 1) ws found
       → Found n files volumes nonempty f found ws
 
 pub record Written (n : ℕ) (files ws room room′ : List ℕ) (p : ℕ) : Type 0 where
   pub same-length : length room′ ≡ length room
-  pub of-files : (i : ℕ) → i < p → i < n → getD room′ i 0 ≡ fileWeight files ws (255 - n) i
+  pub of-files : (i : ℕ) → i < p → i < n → getD room′ i 0 ≡ fileWeight coefficient files ws (255 - n) i
   pub of-volumes : (i : ℕ) → i < p → n ≤ i → getD room′ i 0 ≡ getD ws (i - n + 1) 0
   pub rest : (i : ℕ) → p ≤ i → getD room′ i 0 ≡ getD room i 0

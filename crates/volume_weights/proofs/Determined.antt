@@ -1,27 +1,26 @@
--- What the calls of this crate promise determines what they do.
+-- What `solve` promises determines what it does.
 --
---   solved-determined         one answer, and one list of weights, meet the promise of `solve`
---   file-weights-determined   one list of weights that of `file_weights`
+--   solved-determined     one answer, and one list of weights, meet the promise
 -- Assumes nothing.
 use mathlib.Core.Path.{_≡_, refl, sym, ap, _∙_, subst}
 use mathlib.Core.Bool.{Bool, cond}
 use mathlib.Core.List.{List}
 use Prim.Native.Nat.{ℕ, zero, suc, _<_}
-use native.Mathlib.Decide.{ℕ-discrete, decLt}
+use native.Mathlib.Decide.{decLt}
 use native.Mathlib.Omega.{arith}
 use lib.Dec.{leb}
-use lib.ListN.{length, getD}
+use lib.ListN.{length}
 use lib.Seq.{ext-getD}
 use borrow.Author.Tests.{lt-leb}
 use Rattle.elimination.specs.Matrix.{IsSolution}
 use Rattle.elimination.specs.ByteField.{Byte, byteField}
 use Rattle.elimination.proofs.ByteField.{is-zero}
 use Rattle.elimination.proofs.Solutions.{Elimination, eliminate, solution-unique, solution-no-kernel}
-use Rattle.volume_weights.specs.Weights.{tableOf, weightAt, Solved, solved, unsolved, FileWeights}
+use Rattle.volume_weights.specs.Weights.{tableOf, weightAt, Solved, solved, unsolved}
 
-module _ (inside outside volumes : List ℕ) (rows i : ℕ) (small : i < 256) where
+module _ (rule : ℕ → ℕ → ℕ) (nonempty present volumes : List ℕ) (rows i : ℕ) (inside : i < 256) where
   abbrev table : ℕ → ℕ → Byte
-  table = tableOf inside outside volumes
+  table = tableOf rule nonempty present volumes
 
   weight-same : (w w′ : ℕ → Byte) → IsSolution byteField table 256 rows i w → IsSolution byteField table 256 rows i w′
       → (v : ℕ) → weightAt rows w v ≡ weightAt rows w′ v
@@ -42,24 +41,12 @@ module _ (inside outside volumes : List ℕ) (rows i : ℕ) (small : i < 256) wh
           go (D, owner, R) = solution-unique byteField table 256 D owner rows R i w w′ W W′ v l
 
   pub solved-determined : (a b : Bool) (ws ws′ : List ℕ) → length ws ≡ 256 → length ws′ ≡ 256
-      → Solved inside outside volumes rows i ws a → Solved inside outside volumes rows i ws′ b → (a ≡ b) × (ws ≡ ws′)
+      → Solved rule nonempty present volumes rows i ws a → Solved rule nonempty present volumes rows i ws′ b → (a ≡ b) × (ws ≡ ws′)
   solved-determined a b ws ws′ e e′ (solved w W h) (solved w′ W′ h′) = (
     refl,
     ext-getD 0 ws ws′ (e ∙ sym e′)
         (λ v l. let m = subst (λ (n : ℕ). v < n) e l in h v m ∙ weight-same w w′ W W′ v ∙ sym (h′ v m)),
   )
-  solved-determined a b ws ws′ e e′ (solved w W h) (unsolved x X z) = absurd (solution-no-kernel byteField table 256 rows i w x small W X)
-  solved-determined a b ws ws′ e e′ (unsolved x X z) (solved w W h) = absurd (solution-no-kernel byteField table 256 rows i w x small W X)
+  solved-determined a b ws ws′ e e′ (solved w W h) (unsolved x X z) = absurd (solution-no-kernel byteField table 256 rows i w x inside W X)
+  solved-determined a b ws ws′ e e′ (unsolved x X z) (solved w W h) = absurd (solution-no-kernel byteField table 256 rows i w x inside W X)
   solved-determined a b ws ws′ e e′ (unsolved x X z) (unsolved x′ X′ z′) = (refl, z ∙ sym z′)
-
-pub file-weights-determined : (files ws : List ℕ) (rows : ℕ) (r r′ : List ℕ) → length r ≡ 256 → length r′ ≡ 256
-    → FileWeights files ws rows r → FileWeights files ws rows r′ → r ≡ r′
-file-weights-determined files ws rows r r′ e e′ W W′ =
-    ext-getD 0 r r′ (e ∙ sym e′)
-    (λ i l.
-    let m = subst (λ (n : ℕ). i < n) e l in
-    elim (ℕ-discrete i 255) [
-      | yes p ↦
-          ap (λ (k : ℕ). getD r k 0) p ∙ W .last ∙ sym (W′ .last) ∙ ap (λ (k : ℕ). getD r′ k 0) (sym p)
-      | no q ↦ W .inside i (omega arith) ∙ sym (W′ .inside i (omega arith))
-    ])

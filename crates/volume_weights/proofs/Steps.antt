@@ -1,82 +1,107 @@
 -- The parts of a solution, put together.
 --
---   volume-reduced              one volume more, taken or left out
---   solved-by, unsolved-by      what the elimination answers
+--   volumes-more                the rows of one volume more
+--   volumes-reduced             the elimination after the rows of the volumes present
+--   solved-by, unsolved-by      what it answers
 --   weight-below                the weight of a volume
---   sums-more, all-chosen       the loop of `file_weights`, and the files that it takes
+--   weightedSum rule ws f present m   the weight of file f by the first m volumes
+--   weight-absent, weight-more        of a file that is not present; by one volume more
 -- Assumes nothing.
 use mathlib.Core.Path.{_≡_, refl, sym, ap, ap₂, _∙_, subst}
-use mathlib.Core.Bool.{Bool, true, false, not, cond, _&&_}
+use mathlib.Core.Bool.{Bool, true, false, cond}
 use mathlib.Core.List.{List}
 use Prim.Native.Nat.{ℕ, zero, suc, _<_, _+_}
 use native.Mathlib.Numerals.{add-one}
 use native.Mathlib.Omega.{arith}
 use native.Mathlib.Decide.{decLt}
 use lib.Bits.{bitXor}
-use lib.ListN.{length, getD, replicate}
+use lib.ListN.{getD, replicate}
 use borrow.Author.Tests.{le-leb, lt-leb}
+use Rattle.computed_tests.specs.Lists.{listBelow}
+use Rattle.computed_tests.proofs.Lists.{listBelow-at}
 use Rattle.gf256.specs.Polynomial.{sumBelow}
 use Rattle.gf256.specs.Field.{product}
+use Rattle.gf256.proofs.Polynomials.{sumBelow-same, sumBelow-none}
 use Rattle.gf256.proofs.Products.{product-zero-r}
-use Rattle.parity.specs.Coefficient.{coefficient}
-use Rattle.mul_add.specs.MulAdd.{mulAdd}
-use Rattle.mul_add.proofs.MulAdds.{mulAdd-at}
-use Rattle.elimination.specs.Reduction.{RowAdded, IsSolvable, weightOf}
-use Rattle.elimination.proofs.Reductions.{entries, ownerOf, ReducedBytes, skip-reduced, add-reduced, weight-value, weight-late, weight-none, solvable-solution, unsolvable-kernel}
+use Rattle.elimination.specs.Reduction.{withDiagonal, rowAdded, isSolvable, weightOf}
+use Rattle.elimination.proofs.Reductions.{entries, ownerOf, ReducedBytes, ReducedPair, start-reduced, skip-reduced, add-reduced}
+use Rattle.elimination.proofs.Reductions.{weight-value, weight-late, weight-none, solvable-solution, unsolvable-kernel}
 use Rattle.elimination.proofs.Elimination.{rowWeight}
 use Rattle.elimination.specs.ByteField.{Byte, byteField}
 use Rattle.number_sets.specs.Sets.{member}
-use Rattle.number_sets.proofs.Words.{member-none}
-use Rattle.volume_weights.specs.Weights.{tableOf, MaskedRow, VolumeTaken, absent, added, weightAt, Solved, solved, unsolved, fileWeight, FileWeights}
+use Rattle.volume_weights.specs.Weights.{tableOf, rowOf, volumeAdded, volumesAdded, weightAt, Solved, solved, unsolved}
 use Rattle.volume_weights.proofs.CoefficientRows.{table-row, table-absent}
 
--- ---- the rows of the volumes
+-- one volume more
+pub volumes-more : (rule : ℕ → ℕ → ℕ) (nonempty present volumes : List ℕ) (v : ℕ) (start s s′ : List ℕ × List ℕ)
+    → s ≡ volumesAdded rule nonempty present volumes v start → s′ ≡ volumeAdded rule nonempty present volumes (v + 1) s
+    → s′ ≡ volumesAdded rule nonempty present volumes (v + 1) start
+unfolding volumesAdded
+volumes-more rule nonempty present volumes v start s s′ e h =
+    h ∙ ap₂ (volumeAdded rule nonempty present volumes) (add-one v) e
+    ∙ ap (λ (k : ℕ). volumesAdded rule nonempty present volumes k start) (sym (add-one v))
 
-module _ (inside outside volumes : List ℕ) where
+module _ (rule : ℕ → ℕ → ℕ) (small : (f v : ℕ) → f < 256 → rule f v < 256) (nonempty present volumes : List ℕ) where
   abbrev table : ℕ → ℕ → Byte
-  table = tableOf inside outside volumes
+  table = tableOf rule nonempty present volumes
 
-  pub volume-reduced : (v : ℕ) (row m owners m′ owners′ : List ℕ) (present : Bool)
-      → MaskedRow (λ g. member inside g && not (member outside g)) v row → present ≡ member volumes (v + 1)
-      → ReducedBytes table m owners v → VolumeTaken present row (v + 1) m owners m′ owners′
-      → ReducedBytes table m′ owners′ (v + 1)
-  volume-reduced v row m owners m′ owners′ present M e R (absent h p q) =
-      subst (λ (k : ℕ). ReducedBytes table m′ owners′ k) (sym (add-one v))
-      (subst (λ (z : List ℕ). ReducedBytes table z owners′ (suc v)) (sym p)
-      (subst (λ (z : List ℕ). ReducedBytes table m z (suc v)) (sym q)
-      (skip-reduced table m owners v R
-      (λ i l. table-absent inside outside volumes v (sym (ap (member volumes) (add-one v)) ∙ sym e ∙ h) i))))
-  volume-reduced v row m owners m′ owners′ present M e R (added h A) =
-      subst (λ (k : ℕ). ReducedBytes table m′ owners′ k) (sym (add-one v))
-      (add-reduced table m owners v R row
-      (table-row inside outside volumes v row M (sym (ap (member volumes) (add-one v)) ∙ sym e ∙ h)) m′ owners′
-      (subst (λ (k : ℕ). RowAdded row k m owners m′ owners′) (add-one v) A))
+  -- ---- the rows of the volumes
+
+  volume-reduced : (v : ℕ) (s : List ℕ × List ℕ) → ReducedPair table s v
+      → ReducedPair table (volumeAdded rule nonempty present volumes (suc v) s) (suc v)
+  unfolding volumeAdded
+  volume-reduced v s R = go (member volumes (suc v)) refl
+    where
+      go : (b : Bool) → member volumes (suc v) ≡ b
+          → ReducedPair table (cond b (rowAdded (rowOf rule nonempty present (suc v)) (suc v) (s .0) (s .1)) s) (suc v)
+      go true e =
+          add-reduced table (s .0) (s .1) v R (rowOf rule nonempty present (suc v)) (table-row rule small nonempty present volumes v e)
+      go false e = skip-reduced table (s .0) (s .1) v R (λ i l. table-absent rule small nonempty present volumes v e i)
+
+  from-start : (k : ℕ) (s : List ℕ × List ℕ) → ReducedPair table s 0 → ReducedPair table (volumesAdded rule nonempty present volumes k s) k
+  unfolding volumesAdded
+  from-start zero s R = R
+  from-start (suc k) s R = volume-reduced k (volumesAdded rule nonempty present volumes k s) (from-start k s R)
+
+  pub volumes-reduced : (rows : ℕ) (identity m owners : List ℕ) → identity ≡ withDiagonal 256 (replicate 65536 0)
+      → (m, owners) ≡ volumesAdded rule nonempty present volumes rows (identity, replicate 256 0) → ReducedBytes table m owners rows
+  volumes-reduced rows identity m owners d e =
+      subst (λ (s : List ℕ × List ℕ). ReducedPair table s rows) (sym e)
+      (from-start rows (identity, replicate 256 0)
+      (subst (λ (z : List ℕ). ReducedBytes table z (replicate 256 0) 0) (sym d) (start-reduced table)))
 
   -- ---- what the elimination answers
 
-  module _ (rows i : ℕ) (small : i < 256) (m owners ws : List ℕ) (X : ReducedBytes table m owners rows) where
-    weight-at : IsSolvable m owners i true → (v : ℕ) → weightOf m owners i v ≡ weightAt rows (λ s. rowWeight byteField 256 (ownerOf owners) (entries m i) s) v
+  module _ (rows i : ℕ) (inside : i < 256) (m owners : List ℕ) (X : ReducedBytes table m owners rows) where
+    abbrev weights : ℕ → Byte
+    weights s = rowWeight byteField 256 (ownerOf owners) (entries m i) s
+
+    weight-at : isSolvable m owners i ≡ true → (v : ℕ) → weightOf m owners i v ≡ weightAt rows weights v
     unfolding weightAt
-    weight-at A zero = weight-none table m owners rows X i A
-    weight-at A (suc v) =
+    weight-at h zero = weight-none table m owners rows X i h
+    weight-at h (suc v) =
         elim (decLt v rows) [
           | yes l ↦
-              weight-value table m owners rows X i v small
-              ∙ sym (ap (λ (b : Bool). cond b (rowWeight byteField 256 (ownerOf owners) (entries m i) v .0) 0) (le-leb (suc v) rows l))
+              weight-value table m owners rows X i v inside
+              ∙ sym (ap (λ (b : Bool). cond b (weights v .0) 0) (le-leb (suc v) rows l))
           | no q ↦
               weight-late table m owners rows X i v (omega arith)
-              ∙ sym (ap (λ (b : Bool). cond b (rowWeight byteField 256 (ownerOf owners) (entries m i) v .0) 0) (lt-leb (suc v) rows (omega arith)))
+              ∙ sym (ap (λ (b : Bool). cond b (weights v .0) 0) (lt-leb (suc v) rows (omega arith)))
         ]
 
-    pub solved-by : IsSolvable m owners i true → ((v : ℕ) → v < 256 → getD ws v 0 ≡ weightOf m owners i v)
-        → Solved inside outside volumes rows i ws true
-    solved-by A h =
-        solved _ (solvable-solution table m owners rows X i small true A refl) (λ v l. h v l ∙ weight-at A v)
+    pub solved-by : (found : Bool) (ws : List ℕ) → found ≡ isSolvable m owners i → found ≡ true → ws ≡ listBelow 256 (weightOf m owners i)
+        → Solved rule nonempty present volumes rows i ws found
+    solved-by found ws e y w =
+        let h = sym e ∙ y in
+        subst (Solved rule nonempty present volumes rows i ws) (sym y)
+        (solved weights (solvable-solution table m owners rows X i inside h)
+        (λ v l. ap (λ (l : List ℕ). getD l v 0) w ∙ listBelow-at 256 (weightOf m owners i) v l ∙ weight-at h v))
 
-    pub unsolved-by : IsSolvable m owners i false → ws ≡ replicate 256 0 → Solved inside outside volumes rows i ws false
-    unsolved-by A h =
-        let kernel = unsolvable-kernel table m owners rows X i small false A refl in
-        unsolved (kernel .0) (kernel .1) h
+    pub unsolved-by : (found : Bool) → found ≡ isSolvable m owners i → found ≡ false
+        → Solved rule nonempty present volumes rows i (replicate 256 0) found
+    unsolved-by found e y =
+        let kernel = unsolvable-kernel table m owners rows X i inside (sym e ∙ y) in
+        subst (Solved rule nonempty present volumes rows i (replicate 256 0)) (sym y) (unsolved (kernel .0) (kernel .1) refl)
 
 pub weight-below : (rows : ℕ) (w : ℕ → Byte) (v : ℕ) → v < rows → weightAt rows w (suc v) ≡ w v .0
 unfolding weightAt
@@ -84,30 +109,16 @@ weight-below rows w v l = ap (λ (b : Bool). cond b (w v .0) 0) (le-leb (suc v) 
 
 -- ---- the weights of the files
 
-pub sums-more : (files ws row sums : List ℕ) (v : ℕ) → length sums ≡ 256 → MaskedRow (member files) v row
-    → FileWeights files ws v sums → FileWeights files ws (v + 1) (mulAdd (getD ws (v + 1) 0) row sums)
-unfolding fileWeight sumBelow
-sums-more files ws row sums v e M W = record {
-  inside = λ i l.
-      mulAdd-at weight row sums i (omega arith)
-      ∙ ap₂ bitXor (W .inside i l) (ap₂ (λ (k x : ℕ). product (getD ws k 0) x) (add-one v) (M .inside i l))
-      ∙ ap (λ (k : ℕ). fileWeight files ws k i) (sym (add-one v));
-  last = mulAdd-at weight row sums 255 (omega arith) ∙ ap₂ bitXor (W .last) (ap (product weight) (M .last) ∙ product-zero-r weight);
-}
-  where
-    weight : ℕ
-    weight = getD ws (v + 1) 0
+module _ (rule : ℕ → ℕ → ℕ) (ws : List ℕ) (f : ℕ) where
+  -- the sum over the first m volumes, for a file that is present or not
+  abbrev pub weightedSum : Bool → ℕ → ℕ
+  weightedSum present m = sumBelow m (λ v. product (getD ws (suc v) 0) (cond present (rule f (suc v)) 0))
 
--- every file of a set, with none left out
-pub all-chosen : (files row : List ℕ) → MaskedRow (λ g. member files g && not (member (replicate 4 0) g)) 0 row → MaskedRow (member files) 0 row
-all-chosen files row M = record {
-  inside = λ i l.
-      M .inside i l
-      ∙ ap (λ (b : Bool). cond b (coefficient (suc i) 1) 0)
-      (ap (λ (b : Bool). member files (suc i) && not b) (member-none (suc i)) ∙ and-one (member files (suc i)));
-  last = M .last;
-}
-  where
-    and-one : (b : Bool) → (b && true) ≡ b
-    and-one true = refl
-    and-one false = refl
+  pub weight-absent : (m : ℕ) → 0 ≡ weightedSum false m
+  weight-absent m = sym (sumBelow-same m _ (λ v. 0) (λ v l. product-zero-r (getD ws (suc v) 0)) ∙ sumBelow-none m)
+
+  pub weight-more : (v sum term : ℕ) → sum ≡ weightedSum true v → term ≡ product (getD ws (v + 1) 0) (rule f (v + 1))
+      → bitXor sum term ≡ weightedSum true (v + 1)
+  unfolding sumBelow
+  weight-more v sum term e t =
+      ap₂ bitXor e (t ∙ ap (λ (k : ℕ). product (getD ws k 0) (rule f k)) (add-one v)) ∙ ap (weightedSum true) (sym (add-one v))

@@ -22,7 +22,7 @@ returns-2 c =
     let y = searched .before .before .before .row-times in
     let a = searched .before .before .before .before .before .before .args in
     row-independent (a .row .now) (a .matrix .now) (a .owners .now) (y .result) (searched .pivot .result) (y .ensures) (searched .pivot .ensures)
-    (a .number) _ (c .sweep .last .0) (search needs) (inverted .before .if1 .taken)
+    (a .number) _ (c .sweep .last .0) (inverted .before .if1 .taken)
     (sym (inverted .inverse .ensures) ∙ told .before .scale .given .1) (c .sweep .ensures)
 
 returns-3 : tie.Need-returns-3

@@ -5,6 +5,7 @@ use mathlib.Core.Logic.{⊎-elim}
 use Prim.Native.Nat.{ℕ, _≤_, _<_, _-_, _+_}
 use native.Mathlib.Omega.{arith}
 use lib.ListN.{getD}
+use Rattle.elimination.proofs.Pivots.{pivot-only}
 use Rattle.elimination.proofs.Steps.{pivot-more}
 use native.Mathlib.Nat.{not-suc-le-zero}
 use Rattle.elimination.proofs.pivot.Statement.{statement}
@@ -31,7 +32,7 @@ shared-slice-read-if2 c = omega arith
 returns : tie.Need-returns Inv-loop μ-loop
 returns c =
     let l = c .before .before .before .before .before .loop in
-    record { within = omega arith; found = λ h. (c .before .before .if1 .taken, c .if2 .taken); before = l .inv .1 }
+    pivot-only _ _ _ record { within = omega arith; found = λ h. (c .before .before .if1 .taken, c .if2 .taken); before = l .inv .1 }
 
 add-k : tie.Need-add-k Inv-loop μ-loop
 add-k c = omega arith
@@ -52,7 +53,7 @@ returns-2 : tie.Need-returns-2 Inv-loop μ-loop
 returns-2 c =
     let l = c .before .loop in
     let none : l .k < 256 → ⊥ = λ h. omega arith in
-    record { within = omega arith; found = λ h. absurd (none h); before = l .inv .1 }
+    pivot-only _ _ _ record { within = omega arith; found = λ h. absurd (none h); before = l .inv .1 }
 
 pub pivot-spec : {M : Type 1} → statement M
 pivot-spec =

@@ -4,6 +4,7 @@ use mathlib.Core.Path.{_≡_, refl, ap, _∙_}
 use Prim.Native.Nat.{ℕ, _≤_, _<_, _-_, _+_, _*_}
 use native.Mathlib.Omega.{arith}
 use lib.ListN.{length, getD, take, drop, getD-replicate}
+use Rattle.computed_tests.proofs.Lists.{listBelow-is}
 use Rattle.gf256.specs.Polynomial.{sumBelow}
 use Rattle.gf256.specs.Field.{product}
 use Rattle.elimination.specs.Reduction.{entry, rowProduct}
@@ -66,7 +67,8 @@ loop-again c =
       omega arith,
       ap length (called .ensures) ∙ simp length-mulAdd (l .inv .1),
       λ j h.
-          ap (λ (zs : List ℕ). getD zs j 0) (called .ensures ∙ ap (λ (n : ℕ). mulAdd (getD (a .row .now) (l .i) 0) (take n (drop (l .i * 256) (a .matrix .now))) (l .sum)) e)
+          ap (λ (zs : List ℕ). getD zs j 0)
+          (called .ensures ∙ ap (λ (n : ℕ). mulAdd (getD (a .row .now) (l .i) 0) (take n (drop (l .i * 256) (a .matrix .now))) (l .sum)) e)
           ∙ product-more (a .row .now) (a .matrix .now) (l .sum) (l .i) (l .inv .1) (l .inv .2) j h,
     )
 
@@ -75,7 +77,7 @@ unfolding rowProduct
 returns c =
     let l = c .before .loop in
     let e : l .i ≡ 256 = omega arith in
-    rw e at (l .inv .2)
+    listBelow-is 256 _ _ (l .inv .1) (rw e at (l .inv .2))
 
 pub row-times-spec : {M : Type 1} → statement M
 row-times-spec =

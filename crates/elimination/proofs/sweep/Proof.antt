@@ -3,8 +3,7 @@
 use mathlib.Core.Path.{_≡_}
 use Prim.Native.Nat.{_≤_, _-_}
 use native.Mathlib.Omega.{arith}
-use Rattle.elimination.specs.Reduction.{Swept}
-use Rattle.elimination.proofs.Steps.{swept-none, swept-more}
+use Rattle.elimination.proofs.Steps.{Swept, swept-none, swept-more, swept-all}
 use borrow.Author.Needs.{needs}
 use Rattle.elimination.proofs.sweep.Statement.{statement}
 use Rattle.elimination.proofs.sweep.Tie as tie
@@ -69,8 +68,9 @@ same-length c = omega arith
 returns : tie.Need-returns Inv-loop μ-loop
 returns c =
     let l = c .before .loop in
+    let a = c .before .before .before .args in
     let e : l .r ≡ 256 = omega arith in
-    rw e at (l .inv .1)
+    swept-all (a .y .now) (a .k) (a .scale) (a .matrix .now) (l .matrix) (c .before .before .before .pre .0) (rw e at (l .inv .1))
 
 pub sweep-spec : {M : Type 1} → statement M
 sweep-spec =

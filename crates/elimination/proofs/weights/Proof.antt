@@ -6,6 +6,7 @@ use native.Mathlib.Omega.{arith}
 use lib.ListN.{length, getD, set, length-set, getD-replicate}
 use mathlib.Core.Bool.{cond}
 use lib.Dec.{eqb}
+use Rattle.computed_tests.proofs.Lists.{listBelow-is}
 use Rattle.gf256.specs.Polynomial.{sumBelow}
 use Rattle.elimination.specs.Reduction.{entry, weightOf}
 use Rattle.elimination.proofs.Steps.{weight-more}
@@ -60,12 +61,13 @@ loop-again : tie.Need-loop-again Inv-loop μ-loop
 loop-again c =
     let l = c .before .before .before .before .loop in
     let f = c .before .before .before .before .before .index .ensures .0 in
-    let a = c .before .before .before .before .before .before .args in (
+    let a = c .before .before .before .before .before .before .args in
+    let o = c .before .index2 in (
       omega arith,
       simp length-set (l .inv .1),
       λ v h.
-          ap (λ (f : ℕ). getD (set (l .weights) (c .before .index2 .result) (bitXor (getD (l .weights) (c .before .index2 .result) 0) (entry (a .matrix .now) f (l .k)))) v 0) f
-          ∙ weight-more (a .matrix .now) (a .owners .now) (l .weights) (a .column) (l .k) (l .inv .1) (l .inv .2) (c .before .index2 .result) (c .before .index2 .ensures .0) v h,
+          ap (λ (f : ℕ). getD (set (l .weights) (o .result) (bitXor (getD (l .weights) (o .result) 0) (entry (a .matrix .now) f (l .k)))) v 0) f
+          ∙ weight-more (a .matrix .now) (a .owners .now) (l .weights) (a .column) (l .k) (l .inv .1) (l .inv .2) (o .result) (o .ensures .0) v h,
     )
 
 returns : tie.Need-returns Inv-loop μ-loop
@@ -73,7 +75,7 @@ unfolding weightOf
 returns c =
     let l = c .before .loop in
     let e : l .k ≡ 256 = omega arith in
-    rw e at (l .inv .2)
+    listBelow-is 256 _ _ (l .inv .1) (rw e at (l .inv .2))
 
 pub weights-spec : {M : Type 1} → statement M
 weights-spec =

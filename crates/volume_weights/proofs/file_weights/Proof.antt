@@ -1,84 +1,74 @@
--- `volume_weights::file_weights` meets its contract.
+-- `volume_weights::file_weights` meets its contract. The invariant: the first `i` weights stand.
+-- The measure is what is left of the files.
 -- Assumes nothing.
-use mathlib.Core.Path.{_≡_, refl, sym, ap, _∙_, subst}
-use Prim.Native.Nat.{ℕ, _≤_, _+_, _-_}
-use native.Mathlib.Omega.{arith}
-use lib.ListN.{length, getD-replicate}
-use Rattle.volume_weights.proofs.CoefficientRows.{next-row}
-use Rattle.volume_weights.proofs.Steps.{sums-more, all-chosen}
-use Rattle.volume_weights.specs.Weights.{MaskedRow, FileWeights, fileWeight}
-use Rattle.number_sets.specs.Sets.{member}
-use mathlib.Core.List.{List}
+use mathlib.Core.Path.{_≡_, refl, ap, _∙_}
+use mathlib.Core.Bool.{Bool}
+use Prim.Native.Nat.{ℕ, _≤_, _<_, _-_, _+_}
+use native.Mathlib.Nat.{not-suc-le-zero}
 use native.Mathlib.Numerals.{add-one}
-use Rattle.mul_add.proofs.MulAdds.{length-mulAdd}
-use Rattle.gf256.specs.Polynomial.{sumBelow}
+use native.Mathlib.Omega.{arith}
+use lib.ListN.{length, getD, length-set}
 use borrow.Author.Needs.{needs}
+use Rattle.computed_tests.proofs.Lists.{listBelow-is}
+use Rattle.number_sets.specs.Sets.{member}
+use Rattle.parity.specs.Coefficient.{coefficient}
+use Rattle.volume_weights.specs.Weights.{fileWeight}
+use Rattle.volume_weights.proofs.CoefficientRows.{set-below}
+use Rattle.volume_weights.proofs.Steps.{weightedSum}
 use Rattle.volume_weights.proofs.file_weights.Statement.{statement}
 use Rattle.volume_weights.proofs.file_weights.Tie as tie
 
 abbrev Inv-loop : tie.InvT-loop
-Inv-loop rows₀ weights rows row₀ sums₀ v₀ row sums v =
-    (v ≤ rows) × (length row ≡ 256) × (length sums ≡ 256)
-    × ((files : List ℕ) → MaskedRow (member files) 0 row₀
-    → MaskedRow (member files) v row × FileWeights files weights v sums)
+Inv-loop present rows weights sums₀ i₀ sums i =
+    (i ≤ 255) × (length sums ≡ 255) × ((j : ℕ) → j < i → getD sums j 0 ≡ fileWeight coefficient present weights rows j)
 
 abbrev μ-loop : tie.MeasureT-loop
-μ-loop rows₀ weights rows row₀ sums₀ v₀ row sums v = rows - v
-
-chosen-row-requires : tie.Need-chosen-row-requires Inv-loop μ-loop
-chosen-row-requires c κs = search needs
+μ-loop present rows weights sums₀ i₀ sums i = 255 - i
 
 loop-holds : tie.Need-loop-holds Inv-loop μ-loop
-unfolding fileWeight sumBelow
-loop-holds c = (omega arith, search needs, refl, λ files M. (M, record { inside = λ i l. getD-replicate 256 i 0 0 (omega arith); last = getD-replicate 256 255 0 0 (omega arith) }))
+loop-holds c = (omega arith, refl, λ j l. absurd (not-suc-le-zero l))
 
-add-mul-add : tie.Need-add-mul-add Inv-loop μ-loop
-add-mul-add c = omega arith
+add-file : tie.Need-add-file Inv-loop μ-loop
+add-file c = omega arith
 
-element-copy-out-mul-add : tie.Need-element-copy-out-mul-add Inv-loop μ-loop
-element-copy-out-mul-add c = omega arith
+has-requires : tie.Need-has-requires Inv-loop μ-loop
+has-requires c κs = search needs
 
-slice-aggregate-mul-add : tie.Need-slice-aggregate-mul-add Inv-loop μ-loop
-slice-aggregate-mul-add c = search needs
+cast-file-weight : tie.Need-cast-file-weight Inv-loop μ-loop
+cast-file-weight c = omega arith
 
-slice-aggregate-mul-add-2 : tie.Need-slice-aggregate-mul-add-2 Inv-loop μ-loop
-slice-aggregate-mul-add-2 c = search needs
+file-weight-requires : tie.Need-file-weight-requires Inv-loop μ-loop
+file-weight-requires c κs = search needs
 
-mul-add-requires : tie.Need-mul-add-requires Inv-loop μ-loop
-mul-add-requires c κs = search needs
+array-write-sums : tie.Need-array-write-sums Inv-loop μ-loop
+array-write-sums c = omega arith
 
-advance-requires : tie.Need-advance-requires Inv-loop μ-loop
-advance-requires c κs = search needs
-
-add-v : tie.Need-add-v Inv-loop μ-loop
-add-v c = omega arith
+add-i : tie.Need-add-i Inv-loop μ-loop
+add-i c = omega arith
 
 loop-less : tie.Need-loop-less Inv-loop μ-loop
 loop-less c = omega arith
 
 loop-again : tie.Need-loop-again Inv-loop μ-loop
+unfolding fileWeight
 loop-again c =
-    let l = c .before .before .before .before .before .before .before .loop in
-    let weights = c .before .before .before .before .before .before .before .before .before .args .weights .now in
-    let added = c .before .before .mul-add in (
+    let l = c .before .before .before .loop in
+    let a = c .before .before .before .before .args in
+    let sum : Bool → ℕ → ℕ = λ (b : Bool) (f : ℕ). weightedSum coefficient (a .weights .now) f b (a .rows) in
+    let inside : l .i < length (l .sums) = omega (arith, l .inv .1) in
+    let e : c .file-weight .result ≡ fileWeight coefficient (a .present) (a .weights .now) (a .rows) (l .i) =
+    c .file-weight .ensures ∙ ap (λ (b : Bool). sum b (l .i + 1)) (c .before .has .ensures)
+    ∙ ap (λ (f : ℕ). sum (member (a .present) f) f) (add-one (l .i)) in (
       omega arith,
-      search needs,
-      ap length (added .ensures) ∙ simp length-mulAdd (l .inv .2),
-      λ files M.
-          let now = l .inv .3 files M in (
-            subst (λ (k : ℕ). MaskedRow (member files) k (c .advance .result)) (sym (add-one (l .v)))
-                (next-row (member files) (l .v) (l .row) (c .advance .result) (now .0) (c .advance .ensures)),
-            subst (FileWeights files weights (l .v + 1)) (sym (added .ensures)) (sums-more files weights (l .row) (l .sums) (l .v) (l .inv .2) (now .0) (now .1)),
-          ),
+      simp length-set (l .inv .1),
+      set-below (fileWeight coefficient (a .present) (a .weights .now) (a .rows)) (l .sums) (l .i) (c .file-weight .result) inside e (l .inv .2),
     )
 
 returns : tie.Need-returns Inv-loop μ-loop
 returns c =
     let l = c .before .loop in
-    let a = c .before .before .before .args in
-    let e : l .v ≡ a .rows = omega arith in
-    subst (λ (k : ℕ). FileWeights (a .files) (a .weights .now) k (l .sums)) e
-    (l .inv .3 (a .files) (all-chosen (a .files) (c .before .before .chosen-row .result) (c .before .before .chosen-row .ensures)) .1)
+    let e : l .i ≡ 255 = omega arith in
+    listBelow-is 255 _ _ (l .inv .1) (rw e at (l .inv .2))
 
 pub file-weights-spec : {M : Type 1} → statement M
 file-weights-spec =
@@ -86,15 +76,13 @@ file-weights-spec =
     (tie.spec
     Inv-loop
     μ-loop
-    chosen-row-requires
     loop-holds
-    add-mul-add
-    element-copy-out-mul-add
-    slice-aggregate-mul-add
-    slice-aggregate-mul-add-2
-    mul-add-requires
-    advance-requires
-    add-v
+    add-file
+    has-requires
+    cast-file-weight
+    file-weight-requires
+    array-write-sums
+    add-i
     loop-less
     loop-again
     returns)

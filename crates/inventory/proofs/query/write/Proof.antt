@@ -7,6 +7,8 @@ use native.Mathlib.Omega.{arith}
 use lib.ListN.{length, getD, length-set}
 use Rattle.inventory.proofs.QuerySteps.{written-none, written-file, written-volume}
 use Rattle.inventory.specs.Query.{Written}
+use Rattle.computed_tests.proofs.Lists.{listBelow-at}
+use Rattle.parity.specs.Coefficient.{coefficient}
 use Rattle.volume_weights.specs.Weights.{fileWeight}
 use mathlib.Core.List.{List}
 use borrow.Author.Needs.{needs}
@@ -16,7 +18,7 @@ use Rattle.inventory.proofs.query.write.Tie as tie
 abbrev Inv-loop : tie.InvT-loop
 Inv-loop n₀ weights out₀ sums n p₀ out p =
     (p ≤ 255) × (length out ≡ length out₀)
-    × ((files : List ℕ) → ((i : ℕ) → i < 255 → getD sums i 0 ≡ fileWeight files weights (255 - n) i)
+    × ((files : List ℕ) → ((i : ℕ) → i < 255 → getD sums i 0 ≡ fileWeight coefficient files weights (255 - n) i)
     → Written n files weights out₀ out p)
 
 abbrev μ-loop : tie.MeasureT-loop
@@ -80,7 +82,7 @@ returns c =
     let a = c .before .before .before .before .args in
     let e : l .p ≡ 255 = omega arith in
     subst (Written (a .n) (a .files) (a .weights .now) (a .out .now) (l .out)) e
-    (l .inv .2 (a .files) (c .before .before .file-weights .ensures .inside))
+    (l .inv .2 (a .files) (λ i b. ap (λ (zs : List ℕ). getD zs i 0) (c .before .before .file-weights .ensures) ∙ listBelow-at 255 _ i b))
 
 pub write-spec : {M : Type 1} → statement M
 write-spec =

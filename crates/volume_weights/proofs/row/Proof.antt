@@ -1,0 +1,93 @@
+-- `volume_weights::row` meets its contract. The invariant: the first `i` entries are those of the row, and the last is 0.
+-- The measure is what is left of the files.
+-- Assumes nothing.
+use mathlib.Core.Path.{_≡_, refl, ap, ap₂, _∙_}
+use mathlib.Core.Bool.{Bool, not, cond, _&&_}
+use Prim.Native.Nat.{ℕ, _≤_, _<_, _+_, _-_}
+use native.Mathlib.Nat.{not-suc-le-zero}
+use native.Mathlib.Numerals.{add-one}
+use native.Mathlib.Omega.{arith}
+use lib.ListN.{length, getD, length-set}
+use lib.Seq.{getD-set-other}
+use borrow.Author.Needs.{needs}
+use Rattle.number_sets.specs.Sets.{member}
+use Rattle.parity.specs.Coefficient.{coefficient}
+use Rattle.volume_weights.proofs.CoefficientRows.{set-below, entryOf, column-below, row-filled}
+use Rattle.volume_weights.proofs.row.Statement.{statement}
+use Rattle.volume_weights.proofs.row.Tie as tie
+
+abbrev Inv-loop : tie.InvT-loop
+Inv-loop nonempty present volume row₀ i₀ row i =
+    (i ≤ 255) × (length row ≡ 256) × (getD row 255 0 ≡ 0)
+    × ((j : ℕ) → j < i → getD row j 0 ≡ entryOf coefficient nonempty present volume j)
+
+abbrev μ-loop : tie.MeasureT-loop
+μ-loop nonempty present volume row₀ i₀ row i = 255 - i
+
+loop-holds : tie.Need-loop-holds Inv-loop μ-loop
+loop-holds c = (omega arith, refl, refl, λ j l. absurd (not-suc-le-zero l))
+
+add-file : tie.Need-add-file Inv-loop μ-loop
+add-file c = omega arith
+
+has-requires : tie.Need-has-requires Inv-loop μ-loop
+has-requires c κs = search needs
+
+has-requires-2 : tie.Need-has-requires-2 Inv-loop μ-loop
+has-requires-2 c κs = search needs
+
+cast-entry : tie.Need-cast-entry Inv-loop μ-loop
+cast-entry c = omega arith
+
+entry-requires : tie.Need-entry-requires Inv-loop μ-loop
+entry-requires c κs = search needs
+
+array-write-row : tie.Need-array-write-row Inv-loop μ-loop
+array-write-row c = omega arith
+
+add-i : tie.Need-add-i Inv-loop μ-loop
+add-i c = omega arith
+
+loop-less : tie.Need-loop-less Inv-loop μ-loop
+loop-less c = omega arith
+
+loop-again : tie.Need-loop-again Inv-loop μ-loop
+loop-again c =
+    let l = c .before .before .before .before .loop in
+    let a = c .before .before .before .before .before .args in
+    let inside : l .i < length (l .row) = omega (arith, l .inv .1) in
+    let file : ℕ → ℕ = λ (k : ℕ). cond (member (a .nonempty) k && not (member (a .present) k)) (coefficient k (a .volume)) 0 in
+    let e : c .entry .result ≡ entryOf coefficient (a .nonempty) (a .present) (a .volume) (l .i) =
+    c .entry .ensures
+    ∙ ap₂ (λ (x y : Bool). cond (x && not y) (coefficient (l .i + 1) (a .volume)) 0) (c .before .before .has .ensures) (c .before .has2 .ensures)
+    ∙ ap file (add-one (l .i)) ∙ column-below coefficient (a .nonempty) (a .present) (a .volume) (l .i) (omega arith) in (
+      omega arith,
+      simp length-set (l .inv .1),
+      getD-set-other (l .row) (l .i) 255 (c .entry .result) 0 (λ z. omega arith) ∙ l .inv .2,
+      set-below (entryOf coefficient (a .nonempty) (a .present) (a .volume)) (l .row) (l .i) (c .entry .result) inside e (l .inv .3),
+    )
+
+returns : tie.Need-returns Inv-loop μ-loop
+returns c =
+    let l = c .before .loop in
+    let a = c .before .before .args in
+    let e : l .i ≡ 255 = omega arith in
+    row-filled coefficient (a .nonempty) (a .present) (a .volume) (l .row) (l .inv .1) (l .inv .2) (rw e at (l .inv .3))
+
+pub row-spec : {M : Type 1} → statement M
+row-spec =
+    tie.close
+    (tie.spec
+    Inv-loop
+    μ-loop
+    loop-holds
+    add-file
+    has-requires
+    has-requires-2
+    cast-entry
+    entry-requires
+    array-write-row
+    add-i
+    loop-less
+    loop-again
+    returns)
