@@ -1,31 +1,44 @@
 -- Every call refuses an inventory that no calls give.
 --
---   refused-by         so over any rule
+--   change-refused, count-refused     a change, a count
+--   refused-by         every call, over any rule
 --   others-refused     so at document 01's
---   zeros-refused      that of zeros is one of them
+--   zeros-none, zeros-refused     the inventory of zeros is such a one
 -- Assumes nothing.
-use mathlib.Core.Path.{_≡_, refl, _∙_}
+use mathlib.Core.Path.{_≡_, refl, ap, _∙_}
 use mathlib.Core.Bool.{false}
 use Prim.Native.Nat.{ℕ}
 use Rattle.parity.specs.Coefficient.{coefficient}
-use Rattle.inventory.specs.Model.{Call, change, count, query, Reply, reply}
-use Rattle.inventory.specs.Steps.{isInventory, ifInventory, zeros, changeStep, countStep}
+use Rattle.inventory.specs.Model.{Change, Call, change, count, query, Reply, reply, numbered}
+use Rattle.inventory.specs.Steps.{isInventory, ifInventory, zeros, outcome, changeStep, countStep}
 use Rattle.inventory.specs.Claim.{roomOf, Step, OthersRefused, ZerosRefused}
 use Rattle.inventory.specs.declared.Inventory.{Inventory}
+use Rattle.inventory.specs.declared.Outcome.{Outcome}
 
-pub refused-by : (rule : ℕ → ℕ → ℕ) (s : Inventory) → isInventory s ≡ false
-    → (c : Call) (r : Reply) (s₁ : Inventory) → Step rule s c r s₁ → (r ≡ reply 10 (roomOf c)) × (s₁ ≡ s)
-unfolding Step changeStep ifInventory countStep
-refused-by rule s e (change c k) r s₁ (p, q) = (simp e at p, simp e at q)
-refused-by rule s e count r s₁ (p, q) = (simp e at p, q)
-refused-by rule s e (query f room) r s₁ (a, room′, Q, p, q) = (p ∙ Q .first e, q)
+module _ (s : Inventory) (e : isInventory s ≡ false) where
+  pub change-refused : (c : Change) (k : ℕ) → changeStep c s k ≡ outcome s 10
+  unfolding changeStep ifInventory
+  change-refused c k = simp e
+
+  pub count-refused : countStep s ≡ numbered 10
+  unfolding countStep
+  count-refused = simp e
+
+  pub refused-by : (rule : ℕ → ℕ → ℕ) (c : Call) (r : Reply) (s₁ : Inventory) → Step rule s c r s₁ → (r ≡ reply 10 (roomOf c)) × (s₁ ≡ s)
+  unfolding Step
+  refused-by rule (change c k) r s₁ (p, q) = (
+    p ∙ ap (λ (o : Outcome). numbered (o .number)) (change-refused c k),
+    q ∙ ap (λ (o : Outcome). o .next) (change-refused c k),
+  )
+  refused-by rule count r s₁ (p, q) = (p ∙ count-refused, q)
+  refused-by rule (query f room) r s₁ (a, room′, Q, p, q) = (p ∙ Q .first e, q)
 
 pub others-refused : OthersRefused
-others-refused = refused-by coefficient
+others-refused s e = refused-by s e coefficient
 
-none : isInventory zeros ≡ false
+pub zeros-none : isInventory zeros ≡ false
 unfolding isInventory
-none = refl
+zeros-none = refl
 
 pub zeros-refused : ZerosRefused
-zeros-refused = others-refused zeros none
+zeros-refused = others-refused zeros zeros-none

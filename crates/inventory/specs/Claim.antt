@@ -8,9 +8,10 @@
 --   Adds t c                  the call c adds a file or a volume that is present in t
 --   AddsExactly t cs          the calls cs add what is present in t and nothing else, in whatever order
 --   sizeIn sizes f            the size of file f in the sizes of an opening
---   roomOf c                    the room lent to the call c
+--   roomOf c                  the room lent to the call c
 --   Condition rule n size o cs rs s     what holds after the calls cs on the inventory o opened for n files of these sizes
 --   ConditionFor rule         it holds for every accepted opening and every list of calls
+--   AnsweredFor rule, ExactlyGivenFor rule     Answered and ExactlyGiven, over any rule
 -- The claims:
 --   Condition3                the condition
 --   Answered                  every list of calls has its replies, on whatever inventory
@@ -83,7 +84,7 @@ module _ (rule : ℕ → ℕ → ℕ) where
   Run s (c ∷ cs) [] e = ⊥
   Run s (c ∷ cs) (r ∷ rs) e = (s₁ : Inventory) × Step s c r s₁ × Run s₁ cs rs e
 
-  -- "a sheet that opening and accepted calls could not have given" is one without this
+  -- what "opening and accepted calls" could have given
   abbrev pub Given : Inventory → Type 0
   Given s = (n : ℕ) × (sizes : List ℕ) × (cs : List Call) × (rs : List Reply) × (openStep n sizes .number ≡ 0) × Run (openStep n sizes .next) cs rs s
 

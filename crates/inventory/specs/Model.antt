@@ -6,7 +6,7 @@
 --   opened n size              a set of n files of these sizes, nothing present
 --   withFiles t s, withVolumes t s     the state t with the files, the volumes of the set s present
 --   insert f s, remove f s     the set s with f, without f
---   inRange c n k              whether the change c of n files is for the number k
+--   inRange c n k              whether k is a number that the change c of n files can be of
 --   already c files volumes k  whether all is as the change c of number k is to make it, these files and volumes being present
 --   changed c t k              the state t after the change c of number k
 --   changeNumber r a           the number of a change: r says whether it is in range, a whether all is already so
