@@ -10,7 +10,7 @@
 --   Holds e            what a row claims of the definitions
 --   examples           the table
 --   row k              row k of the table, counted from 0
---   ExamplesHold       the statement: each row holds (proved in proofs/Examples.antt: `examples-hold`)
+--   ExamplesHold       the statement: each row holds
 -- Assumes nothing.
 use mathlib.Core.Path.{_≡_}
 use mathlib.Core.Bool.{Bool, true, false, not, _||_}
@@ -108,5 +108,6 @@ examples =
 abbrev pub row : ℕ → Example
 row k = getD examples k (numbers [] [])
 
+-- proved: proofs/Examples.antt, `examples-hold`
 abbrev pub ExamplesHold : Type 0
 ExamplesHold = (k : ℕ) → Holds (row k)
