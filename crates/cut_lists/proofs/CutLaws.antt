@@ -3,13 +3,9 @@
 --   cut-none, cut-stop, cut-more     cut, as equations: the empty list, no first piece, a first piece and what follows it
 --   cut-induct     what holds in these three cases holds of every list
 --   cut-joins      the pieces and the rest, joined, are the list
---   cut-rest       the rest begins with no piece
 --   cut-length     the lengths of the pieces joined and of the rest add up to that of the list
 --   cut-count      there are no more pieces than elements
 --   cut-all        what holds of the first piece of any list holds of each piece
---   after ps s     what remains of s after the pieces ps at its front
---   Nth f s c k    piece k of the cut c of s is the first piece of what remains before it
---   cut-nth        piece k is the first piece of what remains after the pieces before it
 -- Assumes nothing.
 use mathlib.Core.Path.{_≡_, refl, sym, ap, _∙_, subst}
 use mathlib.Core.Logic.{_⊎_, inl, inr}
@@ -17,8 +13,7 @@ use mathlib.Core.List.{List, [], _∷_, _++_, append-assoc, flatten}
 use Prim.Native.Nat.{ℕ, zero, suc, _+_, _≤_, _<_}
 use native.Mathlib.Nat.{le-refl}
 use native.Mathlib.Omega.{arith}
-use lib.ListN.{length, take, drop, getD, length-append, length-drop, take-append-drop}
-use lib.Seq.{drop-append-add}
+use lib.ListN.{length, take, drop, length-append, length-drop, take-append-drop}
 use Rattle.cut_lists.specs.All.{All, all-none, all-more}
 use Rattle.cut_lists.specs.Pieces.{Cut, none, before, ifZero, cutIn, cut}
 
@@ -99,10 +94,6 @@ cut-joins f =
     cut-induct f (λ s c. flatten (c .pieces) ++ c .rest ≡ s) refl (λ s e. refl)
     (λ s h k e. append-assoc (take (f s) s) _ _ ∙ ap (λ (t : List ℕ). take (f s) s ++ t) e ∙ take-append-drop (f s) s)
 
-pub cut-rest : (f : List ℕ → ℕ) (s : List ℕ) → 0 < length (cut f s .rest) → f (cut f s .rest) ≡ 0
-cut-rest f =
-    cut-induct f (λ s c. 0 < length (c .rest) → f (c .rest) ≡ 0) (λ h. absurd (omega arith)) (λ s e h. e) (λ s h k e. e)
-
 pub cut-length : (f : List ℕ → ℕ) (s : List ℕ) → length (flatten (cut f s .pieces)) + length (cut f s .rest) ≡ length s
 cut-length f s = sym (length-append (flatten (cut f s .pieces)) (cut f s .rest)) ∙ ap length (cut-joins f s)
 
@@ -117,34 +108,3 @@ pub cut-all : (f : List ℕ → ℕ) (P : List ℕ → Type 0) → ((s : List �
     → (s : List ℕ) → All P (cut f s .pieces)
 cut-all f P first =
     cut-induct f (λ s c. All P (c .pieces)) all-none (λ s e. all-none) (λ s h k e. all-more (first s h k) e)
-
--- the pieces ps stand at the front of s, one after another
-abbrev pub after : List (List ℕ) → List ℕ → List ℕ
-after ps s = drop (length (flatten ps)) s
-
--- what remains after a first piece and the pieces ps
-after-more : (n : ℕ) (ps : List (List ℕ)) (s : List ℕ) → after (take n s ∷ ps) s ≡ after ps (drop n s)
-unfolding flatten
-after-more n ps s =
-    ap (λ (k : ℕ). drop k s) (length-append (take n s) (flatten ps))
-    ∙ ap (drop (length (take n s) + length (flatten ps))) (sym (take-append-drop n s))
-    ∙ drop-append-add (take n s) (drop n s) (length (flatten ps))
-
--- piece k of c is the first piece of what remains of s after the pieces before it
-pub record Nth (f : List ℕ → ℕ) (s : List ℕ) (c : Cut) (k : ℕ) : Type 0 where
-  pub found : 0 < f (after (take k (c .pieces)) s)
-  pub taken : getD (c .pieces) k [] ≡ take (f (after (take k (c .pieces)) s)) (after (take k (c .pieces)) s)
-
-module _ (f : List ℕ → ℕ) where
-  nth-more : (s : List ℕ) (c : Cut) → 0 < f s → ((k : ℕ) → k < length (c .pieces) → Nth f (drop (f s) s) c k)
-      → (k : ℕ) → k < suc (length (c .pieces)) → Nth f s (before (take (f s) s) c) k
-  unfolding flatten
-  nth-more s c g e zero h = record { found = g; taken = refl }
-  nth-more s c g e (suc k) h =
-      let n = e k (omega arith) in
-      record { found = rw (after-more (f s)) (n .found); taken = rw (after-more (f s)) (n .taken) }
-
-  pub cut-nth : (s : List ℕ) (k : ℕ) → k < length (cut f s .pieces) → Nth f s (cut f s) k
-  cut-nth =
-      cut-induct f (λ s c. (k : ℕ) → k < length (c .pieces) → Nth f s c k) (λ k h. absurd (omega arith))
-      (λ s e k h. absurd (omega arith)) (λ s h g e. nth-more s _ g e)

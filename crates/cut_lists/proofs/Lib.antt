@@ -1,4 +1,3 @@
 pub mod AllLaws
 pub mod CutLaws
 mod Examples
-mod WholeLaws

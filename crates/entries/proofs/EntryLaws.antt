@@ -5,7 +5,7 @@
 --   IsEntry, IsFault, is-end, is-entry, is-fault      what each answer of firstOf tells
 --   EntryAt, entry-at                                 an entry at a position of a list, as a loop over it meets it
 -- Assumes nothing.
-use mathlib.Core.Path.{_≡_, refl, sym, ap, _∙_, subst}
+use mathlib.Core.Path.{_≡_, refl, sym, _∙_, subst}
 use mathlib.Core.Bool.{Bool, true, false, cond, _&&_}
 use mathlib.Core.List.{List, [], _∷_}
 use Prim.Native.Nat.{ℕ, _+_, _%_, _≤_, _<_}
@@ -15,7 +15,8 @@ use lib.ListN.{length, take, drop, length-drop}
 use lib.Seq.{length-take-le, drop-drop}
 use borrow.Author.Tests.{leb-true, eqb-true}
 use Rattle.computed_tests.proofs.Tests.{and-both}
-use Rattle.entries.specs.Entry.{entrySize, statusOf, fileSizeOf, nameOf, nameAllowed, fileSizeAllowed, entrySizeAllowed, bodyAllowed, entryAllowed, lengthOf}
+use Rattle.entries.specs.Entry.{entrySize, statusOf, fileSizeOf, nameOf, lengthOf}
+use Rattle.entries.specs.Entry.{nameAllowed, fileSizeAllowed, entrySizeAllowed, bodyAllowed, entryAllowed}
 use Rattle.entries.specs.Walk.{faultOf, itemOf, firstOf}
 use Rattle.entries.specs.declared.Fault.{Fault}
 use Rattle.entries.specs.declared.Fault.the-variants as fault

@@ -6,8 +6,7 @@
 --   saved-most     an entry is one saved entry at most
 --   walk-start     the walk from no entries at all
 --   walk-more, walk-end, walk-fault    a step of the walk, by what is at the front
---   Filled s t     the entries of s fill it, and t are their totals
---   is-filled, walk-count, walk-saved    what a walk to the end tells
+--   walk-totals, walk-count, walk-saved    what a walk to the end tells
 --   Added t u      u is t with one entry more, and at most one saved entry more
 --   add-added      an entry more is one entry more, and one saved entry more at most
 -- Assumes nothing.
@@ -132,22 +131,17 @@ walk-fault t {s} i =
 
 -- ---- a walk to the end
 
--- the entries of s fill it, and t are their totals
-pub record Filled (s : List ℕ) (t : Totals) : Type 0 where
-  pub totals-are : t ≡ totalsOf (entriesOf s .pieces)
-  pub rest-none : entriesOf s .rest ≡ []
-
-pub is-filled : (s : List ℕ) {t : Totals} → walkOf s ≡ walked.Entries t → Filled s t
+pub walk-totals : (s : List ℕ) {t : Totals} → walkOf s ≡ walked.Entries t → t ≡ totalsOf (entriesOf s .pieces)
 unfolding walkOf
-is-filled s {t} e = by (entriesOf s .rest) refl e
+walk-totals s {t} e = by (entriesOf s .rest) e
   where
-    by : (r : List ℕ) → r ≡ entriesOf s .rest → walkedTo (totalsOf (entriesOf s .pieces)) r ≡ walked.Entries t → Filled s t
-    by [] n e = record { totals-are = cc; rest-none = sym n }
-    by (b ∷ r) n e = absurd (let z : _≡_ {A = ℕ} 0 1 = cc in omega arith)
+    by : (r : List ℕ) → walkedTo (totalsOf (entriesOf s .pieces)) r ≡ walked.Entries t → t ≡ totalsOf (entriesOf s .pieces)
+    by [] e = cc
+    by (b ∷ r) e = absurd (let z : _≡_ {A = ℕ} 0 1 = cc in omega arith)
 
 module _ (s : List ℕ) {t : Totals} (e : walkOf s ≡ walked.Entries t) where
   pub walk-count : t .entries ≡ length (entriesOf s .pieces)
-  walk-count = ap (λ (u : Totals). u .entries) (is-filled s e .totals-are)
+  walk-count = ap (λ (u : Totals). u .entries) (walk-totals s e)
 
   pub walk-saved : t .saved ≡ length (savedOf (entriesOf s .pieces))
-  walk-saved = ap (λ (u : Totals). u .saved) (is-filled s e .totals-are)
+  walk-saved = ap (λ (u : Totals). u .saved) (walk-totals s e)

@@ -9,7 +9,7 @@
 -- Assumes nothing.
 use mathlib.Core.Path.{_≡_, refl, sym, ap, _∙_, subst}
 use mathlib.Core.Bool.{Bool, true, false, cond, _&&_, _||_}
-use mathlib.Core.List.{List, [], _∷_, _++_, flatten}
+use mathlib.Core.List.{List, [], _∷_, flatten}
 use Prim.Native.Nat.{ℕ, zero, suc, _+_, _≤_, _<_}
 use native.Mathlib.Omega.{arith}
 use lib.Dec.{leb, eqb}
@@ -21,7 +21,8 @@ use Rattle.computed_tests.proofs.Tests.{and-both}
 use Rattle.lent_bytes.proofs.WritingLaws.{written-fits}
 use Rattle.cut_lists.specs.All.{All, all-none, all-more}
 use Rattle.cut_lists.proofs.CutLaws.{cut-all, cut-count, cut-length}
-use Rattle.entries.specs.Entry.{entrySize, statusOf, fileSizeOf, nameOf, unitsOf, isSaved, savedCount, entrySizeAllowed, fileSizeAllowed, bodyAllowed, entryAllowed, lengthOf}
+use Rattle.entries.specs.Entry.{entrySize, statusOf, fileSizeOf, nameOf, unitsOf, isSaved, savedCount, lengthOf}
+use Rattle.entries.specs.Entry.{entrySizeAllowed, fileSizeAllowed, bodyAllowed, entryAllowed}
 use Rattle.entries.specs.Walk.{faultNumber, walkOf}
 use Rattle.entries.specs.declared.Fault.{Fault}
 use Rattle.entries.specs.declared.Fault.the-variants.{Size, FileSize, Name}

@@ -11,7 +11,7 @@
 --   Passed, passed-none, ReadAccepted, read-tells  the tests that an accepted file passed
 -- A test of document 01 is passed where it does not hold.
 -- Assumes nothing.
-use mathlib.Core.Path.{_≡_, refl, sym, ap, ap₂, _∙_}
+use mathlib.Core.Path.{_≡_, refl, sym, ap, _∙_}
 use mathlib.Core.Bool.{true}
 use mathlib.Core.List.{List}
 use Prim.Native.Nat.{ℕ, zero, suc}
@@ -19,10 +19,8 @@ use native.Mathlib.Omega.{arith}
 use lib.Dec.{eqb}
 use lib.ListN.{length}
 use borrow.Author.Tests.{eqb-true, eq-eqb}
-use Rattle.cut_lists.specs.Pieces.{ifZero}
 use Rattle.lent_bytes.specs.Equal.{equal}
 use Rattle.lent_bytes.proofs.EqualLaws.{equal-true, equal-same}
-use Rattle.refusals.specs.Tests.{orElse}
 use Rattle.refusals.proofs.TestLaws.{test-passed, or-else, or-none}
 use Rattle.entries.specs.Numbering.{savedOf}
 use Rattle.entries.specs.Walk.{entriesOf, walkOf}

@@ -1,9 +1,8 @@
 -- `entries::at` meets its contract: past the end, and within the list.
 -- Assumes nothing.
 use mathlib.Core.Path.{sym, ap, _∙_}
-use Prim.Native.Nat.{_≤_}
 use native.Mathlib.Omega.{arith}
-use lib.ListN.{length, length-drop}
+use lib.ListN.{length-drop}
 use denote.Ref.{now}
 use Rattle.lent_bytes.proofs.PartLaws.{part-to-end}
 use Rattle.entries.specs.Walk.{firstOf}

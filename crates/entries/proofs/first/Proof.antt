@@ -17,10 +17,11 @@ use Rattle.entries.proofs.first.Statement.{statement}
 use Rattle.entries.proofs.first.Tie as tie
 
 -- the entry lies within the list
-allowed-at : (c : tie.Else2) → entrySizeAllowed (c .before .before .read64 .result) (length (now (c .before .before .before .before .before .args .list))) ≡ true
+allowed-at : (c : tie.Else2)
+    → let b = c .before .before in entrySizeAllowed (b .read64 .result) (length (now (b .before .before .before .args .list))) ≡ true
 allowed-at c = sym (c .before .entry-size-allowed .ensures) ∙ not-false _ (c .if2 .left)
 
-sized-at : (c : tie.Else2) → Sized (c .before .before .read64 .result) (length (now (c .before .before .before .before .before .args .list)))
+sized-at : (c : tie.Else2) → let b = c .before .before in Sized (b .read64 .result) (length (now (b .before .before .before .args .list)))
 sized-at c = sized _ _ (allowed-at c)
 
 returns : tie.Need-returns

@@ -17,7 +17,8 @@ returns : tie.Need-returns
 unfolding listingOf
 returns c =
     let a = c .before .before .before .before .before .before .before .args in
-    c .before .before .list-as .ensures ∙ ap (λ (r : Reading). written (listingBy r (now (a .file))) (now (a .out))) (c .before .before .before .before .read .ensures)
+    let read = c .before .before .before .before .read .ensures in
+    c .before .before .list-as .ensures ∙ ap (λ (r : Reading). written (listingBy r (now (a .file))) (now (a .out))) read
 
 pub list-spec : {M : Type 1} → statement M
 list-spec = tie.close (tie.spec (λ c κs. search needs) list-as-requires (λ c. search needs) returns)

@@ -11,7 +11,8 @@ use Rattle.listing.proofs.list_as.Tie as tie
 returns : tie.Need-returns
 returns c =
     let s = c .before .before .before .before .before .before .before .before .before .before .before in
-    fit-written (listingBy (s .args .reading) (now (s .args .file))) (now (s .args .out)) (c .before .before .before .before .before .before .before .put-listing .ensures)
+    let measured = c .before .before .before .before .before .before .before .put-listing .ensures in
+    fit-written (listingBy (s .args .reading) (now (s .args .file))) (now (s .args .out)) measured
     (omega (arith, s .good .1 .1 .0 .1)) (c .before .before .before .before .if1 .taken) (c .before .before .put-listing2 .ensures)
 
 returns-2 : tie.Need-returns-2

@@ -18,7 +18,9 @@ use Rattle.listing.proofs.put_listing.Tie as tie
 
 -- the list of an accepted reading lies in the file
 list-in : (c : tie.After-known-told) → ListIn (Accepted (c .before .reading .given .0 .0)) (now (c .before .before .before .before .before .args .file))
-list-in c = subst (λ (r : Reading). ListIn r (now (c .before .before .before .before .before .args .file))) (c .before .reading .given .1) (c .before .before .before .before .before .pre)
+list-in c =
+    let s = c .before .before .before .before .before in
+    subst (λ (r : Reading). ListIn r (now (s .args .file))) (c .before .reading .given .1) (s .pre)
 
 returns : tie.Need-returns
 returns c =
@@ -40,11 +42,12 @@ returns-2 c =
     let s = c .before .before .before .before .before .before .before .before .before .before .before .before .before .before in
     let f : List ℕ = now (s .args .file) in
     let here = buffer (now (s .args .out)) 0 in
-    let p = c .before .before .before .before .before .before .before .before .before .before .reading .given .0 .0 in
-    let size : 96 + p .«list_size» - 96 ≡ listSizeOf f = omega (arith, list-in (c .before .before .before .before .before .before .before .before .before) .0) in
+    let known = c .before .before .before .before .before .before .before .before .before in
+    let p = known .before .reading .given .0 .0 in
+    let size : 96 + p .«list_size» - 96 ≡ listSizeOf f = omega (arith, list-in known .0) in
     let entries = c .before .before .put-entries .ensures in
     put-then here _ _ (omega (arith, s .good .0 .0)) (c .before .before .before .before .before .before .before .put-head .ensures) (rw size at entries)
-    ∙ ap (λ (r : Reading). put here (listingBy r f)) (sym (c .before .before .before .before .before .before .before .before .before .before .reading .given .1))
+    ∙ ap (λ (r : Reading). put here (listingBy r f)) (sym (known .before .reading .given .1))
 
 pub put-listing-spec : {M : Type 1} → statement M
 put-listing-spec =

@@ -8,11 +8,15 @@ use Rattle.listing.proofs.lines.put_label.Tie as tie
 
 returns : tie.Need-returns
 unfolding label
-returns c = simp (sym (c .before .before .before .before .before .is-saved .ensures) ∙ c .before .before .before .before .if1 .taken) (c .before .before .put-decimal .ensures)
+returns c =
+    let saved = c .before .before .before .before in
+    simp (sym (saved .before .is-saved .ensures) ∙ saved .if1 .taken) (c .before .before .put-decimal .ensures)
 
 returns-2 : tie.Need-returns-2
 unfolding label
-returns-2 c = simp (sym (c .before .before .before .before .before .is-saved .ensures) ∙ c .before .before .before .before .if1 .left) (c .before .before .put .ensures)
+returns-2 c =
+    let other = c .before .before .before .before in
+    simp (sym (other .before .is-saved .ensures) ∙ other .if1 .left) (c .before .before .put .ensures)
 
 pub put-label-spec : {M : Type 1} → statement M
 put-label-spec =

@@ -13,7 +13,9 @@ unfolding loneRefusal
 returns c =
     let known = c .before .before in
     let b = known .before .before .before in
-    cc (c .test .ensures, c .before .fault-number .ensures, ap (itemRefusal (length (now (b .before .before .args .entry)))) (sym (known .before .length .given .1) ∙ b .first .ensures))
+    let n = length (now (b .before .before .args .entry)) in
+    let told = ap (itemRefusal n) (sym (known .before .length .given .1) ∙ b .first .ensures) in
+    cc (c .test .ensures, c .before .fault-number .ensures, told)
 
 returns-2 : tie.Need-returns-2
 unfolding loneRefusal

@@ -24,13 +24,17 @@ returns-4 : tie.Need-returns-4
 unfolding numberAllowed
 returns-4 c =
     let a = c .before .before .before .before .args in
-    simp (le-leb _ _ (c .before .before .before .if1 .left), ne-eqb _ _ (c .before .before .if2 .left), le-leb 1 (a .saved) (omega arith), lt-leb (a .number + a .saved) 255 (omega arith))
+    let few = le-leb _ _ (c .before .before .before .if1 .left) in
+    let volume = ne-eqb _ _ (c .before .before .if2 .left) in
+    simp (few, volume, le-leb 1 (a .saved) (omega arith), lt-leb (a .number + a .saved) 255 (omega arith))
 
 returns-5 : tie.Need-returns-5
 unfolding numberAllowed
 returns-5 c =
     let a = c .before .before .before .before .args in
-    simp (le-leb _ _ (c .before .before .before .if1 .left), ne-eqb _ _ (c .before .before .if2 .left), le-leb 1 (a .saved) (omega arith), le-leb (a .number + a .saved) 255 (omega arith))
+    let few = le-leb _ _ (c .before .before .before .if1 .left) in
+    let volume = ne-eqb _ _ (c .before .before .if2 .left) in
+    simp (few, volume, le-leb 1 (a .saved) (omega arith), le-leb (a .number + a .saved) 255 (omega arith))
 
 pub number-allowed-spec : {M : Type 1} → statement M
 number-allowed-spec = tie.close (tie.spec returns returns-2 returns-3 (λ c. search needs) returns-4 returns-5)
