@@ -1,6 +1,6 @@
 -- What reading a file gives (document 01, "What comes back": "Reading tests 1 to 9 in this order and returns the first that holds").
 -- The tests look at the header, the length of the file, two digests and the walk over the list. Of a list `head` that begins with the
--- header they read no more than the first 96 bytes.
+-- header they read no more than its 96 bytes (specs/Claim, `HeaderAlone`).
 --
 --   headerRefusal head n           the number of the first of tests 1 to 4 that holds of a file of n bytes, 0 where none does
 --   controlRefusal head digest     that of test 5, where digest is the MD5 of the bytes from 32 on
