@@ -53,7 +53,7 @@ module _ (n : ℕ) (files ws room : List ℕ) where
           ]
 
   module _ (few : n ≤ 254) (bytes : (v : ℕ) → v < 256 → getD ws v 0 < 256) where
-    file-weight-byte : (i : ℕ) → i < n → fileWeight coefficient files ws (255 - n) i < 256
+    file-weight-byte : (i : ℕ) → i < n → fileWeight rule files ws (255 - n) i < 256
     unfolding fileWeight
     file-weight-byte i l =
         sumBelow-lt (255 - n) 8 _ (λ v h. product-byte _ _ (bytes (suc v) (omega arith)) (chosen (member files (suc i)) (suc v)))
@@ -107,7 +107,7 @@ module _ (s : Inventory) (valid : isInventory s ≡ true) (f : ℕ) (room : List
     missing-answered = go (member (s .nonempty) f) refl
       where
         table : ℕ → ℕ → Byte
-        table = tableOf coefficient (s .nonempty) (s .files) (s .volumes)
+        table = tableOf rule (s .nonempty) (s .files) (s .volumes)
 
         decided : member (s .nonempty) f ≡ true
             → ((w : ℕ → Byte) × IsSolution byteField table 256 (255 - s .n) (f - 1) w)

@@ -91,7 +91,7 @@ module _ (s : Inventory) (valid : isInventory s ≡ true) (f : ℕ) where
     state size = stateOf s size
 
     abbrev table : ℕ → ℕ → Byte
-    table = tableOf coefficient (s .nonempty) (s .files) (s .volumes)
+    table = tableOf rule (s .nonempty) (s .files) (s .volumes)
 
     abbrev matrix : (ℕ → ℕ) → ℕ → ℕ → Byte
     matrix size = R.matrix rule small (state size) (few-files s valid)

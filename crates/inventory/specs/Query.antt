@@ -13,6 +13,7 @@ use mathlib.Core.List.{List}
 use Prim.Native.Nat.{ℕ, _<_, _≤_, _+_, _-_}
 use lib.Dec.{leb}
 use lib.ListN.{length, getD}
+use Rattle.parity.specs.Coefficient.{coefficient}
 use Rattle.parity.specs.Parity.{isFile}
 use Rattle.number_sets.specs.Sets.{member}
 use Rattle.volume_weights.specs.Weights.{Solved, fileWeight}

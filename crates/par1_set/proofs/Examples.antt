@@ -13,7 +13,8 @@ use Rattle.gf256.specs.Field.{product, power}
 use Rattle.little_endian.specs.Bytes.{fromLe, leAt}
 use Rattle.par1_write.proofs.EntryWritingLaws.{length-entry}
 use Rattle.parity.specs.Coefficient.{coefficient}
-use Rattle.parity.specs.Parity.{parityByte, listBelow, parity}
+use Rattle.computed_tests.specs.Lists.{listBelow}
+use Rattle.parity.specs.Parity.{parityByte, parity}
 use Rattle.par1_set.specs.Files.{File, listFor}
 use Rattle.par1_set.specs.Volume.{dataFor, VolumeRight}
 
