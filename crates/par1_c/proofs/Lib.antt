@@ -1,3 +1,4 @@
 mod CallLaws
 mod Determined
 pub mod OnBytes
+pub mod OtherBytes

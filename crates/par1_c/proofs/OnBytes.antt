@@ -33,7 +33,6 @@ use Rattle.inventory_bytes.specs.Inventories.{inventoryBytes, openedBy, storedB
 use Rattle.inventory_bytes.proofs.BackLaws.{length-inventory, loaded-back}
 use Rattle.number_sets.specs.Sets.{Words}
 use Rattle.number_sets.proofs.Words.{words-none, words-inserted, words-removed}
-use Rattle.par1_c.specs.Inventories.{otherLength, answered}
 use Rattle.par1_c.specs.Claim.{OnBytes, OpenedOnBytes, ChangedOnBytes, CountedOnBytes, QueriedOnBytes}
 use Rattle.par1_c.proofs.CallLaws.{changed-same, counted-same}
 
@@ -66,7 +65,7 @@ on-bytes : (step : Inventory → ℕ → Outcome) (s : Inventory) (k n : ℕ) (c
     → OnBytes step s k
 on-bytes step s k n changed e hc hs =
     let b : List ℕ = inventoryBytes s in
-    let same = changed-same step k b (length-inventory s hs) (sym (loaded-back s hs)) (sym e) (stored n changed s hc hs) in
+    let same = changed-same b step k (sym (loaded-back s hs)) (sym e) (stored n changed s hc hs) in
     record {
       gives = sym same ∙ ap (λ (o : Outcome). (o .number, inventoryBytes (o .next))) (sym e);
       held = subst (λ (o : Outcome). Held (o .next)) (sym e) (held-one n changed s hc hs);
@@ -93,11 +92,14 @@ changed-on-bytes s h c k = on-bytes (changeStep c) s k _ _ refl (held-change c s
 -- ---- counts and queries
 
 pub counted-on-bytes : CountedOnBytes
-counted-on-bytes s h out = sym (counted-same (inventoryBytes s) out (length-inventory s h) (sym (loaded-back s h)) refl refl)
+counted-on-bytes s h out = sym (counted-same (inventoryBytes s) out (sym (loaded-back s h)) refl refl)
 
 pub queried-on-bytes : QueriedOnBytes
-queried-on-bytes s h f out r out′ (otherLength l e o) = absurd (eqb-false (length (inventoryBytes s)) 104 l (length-inventory s h))
-queried-on-bytes s h f out r out′ (answered l a q e) = (a, subst (λ (i : Inventory). Queried coefficient i f out a out′) (loaded-back s h) q, e)
+queried-on-bytes s h f out r out′ q = (
+  q .answer,
+  subst (λ (i : Inventory). Queried coefficient i f out (q .answer) out′) (loaded-back s h) (q .queried),
+  q .number-is,
+)
 
 -- ---- opening
 

@@ -6,12 +6,13 @@
 --   ChangedOnBytes       so are the calls that add and remove
 --   CountedOnBytes       so is a count
 --   QueriedOnBytes       so is a query
+--   OthersRefused        bytes of another length are refused with 10 by each of them, and nothing changes
 --   QueryDetermined      what a query promises determines its number and the bytes lent to it
 -- Assumes nothing.
 use mathlib.Core.Path.{_≡_}
 use mathlib.Core.List.{List}
 use Prim.Native.Nat.{ℕ, _^_, _<_}
-use lib.ListN.{getD}
+use lib.ListN.{length, getD}
 use Rattle.parity.specs.Coefficient.{coefficient}
 use Rattle.inventory.specs.Model.{Change}
 use Rattle.inventory.specs.Query.{Queried}
@@ -36,8 +37,7 @@ OpenedOnBytes =
 
 -- proved: proofs/OnBytes.antt, `changed-on-bytes`
 abbrev pub ChangedOnBytes : Type 0
-ChangedOnBytes =
-    (s : Inventory) → Held s → (c : Change) (k : ℕ) → OnBytes (changeStep c) s k
+ChangedOnBytes = (s : Inventory) → Held s → (c : Change) (k : ℕ) → OnBytes (changeStep c) s k
 
 -- proved: proofs/OnBytes.antt, `counted-on-bytes`
 abbrev pub CountedOnBytes : Type 0
@@ -48,6 +48,14 @@ abbrev pub QueriedOnBytes : Type 0
 QueriedOnBytes =
     (s : Inventory) → Held s → (f : ℕ) (out : List ℕ) (r : ℕ) (out′ : List ℕ) → QueryInto (inventoryBytes s) f out r out′
     → (a : Answer) × Queried coefficient s f out a out′ × (r ≡ answerNumber a)
+
+-- "10: .. a sheet that no calls give": bytes that are no inventory are none; proved: proofs/OtherBytes.antt, `others-refused`
+abbrev pub OthersRefused : Type 0
+OthersRefused =
+    (b : List ℕ) → (length b ≡ 104 → ⊥)
+    → ((c : Change) (k : ℕ) → changedBy (changeStep c) k b ≡ (10, b))
+    × ((out : List ℕ) → countInto b out ≡ (10, out))
+    × ((f : ℕ) (out : List ℕ) (r : ℕ) (out′ : List ℕ) → QueryInto b f out r out′ → (r ≡ 10) × (out′ ≡ out))
 
 -- proved: proofs/Determined.antt, `query-into-one`
 abbrev pub QueryDetermined : Type 0

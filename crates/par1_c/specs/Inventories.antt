@@ -6,12 +6,8 @@
 --   QueryInto b f out r out′   r is the number of a query for file f of the inventory b, and out′ what `out` then holds
 -- Assumes nothing.
 use mathlib.Core.Path.{_≡_}
-use mathlib.Core.Bool.{true, false, cond}
 use mathlib.Core.List.{List}
 use Prim.Native.Nat.{ℕ}
-use lib.Dec.{eqb}
-use lib.ListN.{length}
-use Rattle.lent_bytes.specs.Writing.{refused, withNumber}
 use Rattle.parity.specs.Coefficient.{coefficient}
 use Rattle.inventory.specs.Steps.{countStep, answerNumber}
 use Rattle.inventory.specs.Query.{Queried}
@@ -23,14 +19,14 @@ use Rattle.inventory_bytes.specs.Inventories.{inventoryOf, openedBy, storedBy, 
 abbrev pub openInto : ℕ → List ℕ → List ℕ → ℕ × List ℕ
 openInto n s out = storedBy (openedBy n s) out
 
--- an inventory of another length is 10
-unfoldable pub changedBy : (Inventory → ℕ → Outcome) → ℕ → List ℕ → ℕ × List ℕ
-changedBy step k b = cond (eqb (length b) 104) (storedBy (step (inventoryOf b) k) b) (withNumber (refused 10 b))
+abbrev pub changedBy : (Inventory → ℕ → Outcome) → ℕ → List ℕ → ℕ × List ℕ
+changedBy step k b = storedBy (step (inventoryOf b) k) b
 
-unfoldable pub countInto : List ℕ → List ℕ → ℕ × List ℕ
-countInto b out = cond (eqb (length b) 104) (countedInto (countStep (inventoryOf b)) out) (withNumber (refused 10 out))
+abbrev pub countInto : List ℕ → List ℕ → ℕ × List ℕ
+countInto b out = countedInto (countStep (inventoryOf b)) out
 
 -- as the query of the inventory answers
-pub data QueryInto (b : List ℕ) (f : ℕ) (out : List ℕ) (r : ℕ) (out′ : List ℕ) : Type 0 where
-  otherLength : eqb (length b) 104 ≡ false → r ≡ 10 → out′ ≡ out → QueryInto b f out r out′
-  answered : eqb (length b) 104 ≡ true → (a : Answer) → Queried coefficient (inventoryOf b) f out a out′ → r ≡ answerNumber a → QueryInto b f out r out′
+pub record QueryInto (b : List ℕ) (f : ℕ) (out : List ℕ) (r : ℕ) (out′ : List ℕ) : Type 0 where
+  pub answer : Answer
+  pub queried : Queried coefficient (inventoryOf b) f out answer out′
+  pub number-is : r ≡ answerNumber answer

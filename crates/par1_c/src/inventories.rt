@@ -1,15 +1,14 @@
-// The calls on inventories in lent bytes.
+// The calls on inventories in lent bytes. Bytes of another length than an inventory's are loaded as the inventory of zeros, which every call
+// refuses with 10.
 ghost use mathlib.Core.Path.{_≡_};
 ghost use Rattle.inventory.specs.Model.{addFile, removeFile, addVolume, removeVolume};
 ghost use Rattle.inventory.specs.Steps.{changeStep};
 ghost use Rattle.par1_c.specs.Inventories.{openInto, changedBy, countInto, QueryInto};
-use inventory_bytes::LENGTH;
 use inventory_bytes::answer_number;
 use inventory_bytes::loaded;
 use inventory_bytes::opened;
 use inventory_bytes::store;
 use inventory_bytes::store_count;
-use refusals::OUT_OF_RANGE;
 
 // Opens an inventory of n files, whose sizes are n numbers, over the first 104 bytes of `out`.
 #[no_mangle]
@@ -24,9 +23,6 @@ pub extern "C" fn par1_open(n: u64, sizes: &[u8], out: &mut [u8]) -> u32
 pub extern "C" fn par1_add_file(inventory: &mut [u8], file: u64) -> u32
     ensures { λ r. ⌜ (r, now (inventory .exit)) ≡ changedBy (changeStep addFile) file (now (inventory .entry)) ⌝ }
 {
-    if inventory.len() != LENGTH {
-        return OUT_OF_RANGE;
-    }
     store(loaded(inventory).add_file(file), inventory)
 }
 
@@ -35,9 +31,6 @@ pub extern "C" fn par1_add_file(inventory: &mut [u8], file: u64) -> u32
 pub extern "C" fn par1_remove_file(inventory: &mut [u8], file: u64) -> u32
     ensures { λ r. ⌜ (r, now (inventory .exit)) ≡ changedBy (changeStep removeFile) file (now (inventory .entry)) ⌝ }
 {
-    if inventory.len() != LENGTH {
-        return OUT_OF_RANGE;
-    }
     store(loaded(inventory).remove_file(file), inventory)
 }
 
@@ -46,9 +39,6 @@ pub extern "C" fn par1_remove_file(inventory: &mut [u8], file: u64) -> u32
 pub extern "C" fn par1_add_volume(inventory: &mut [u8], volume: u64) -> u32
     ensures { λ r. ⌜ (r, now (inventory .exit)) ≡ changedBy (changeStep addVolume) volume (now (inventory .entry)) ⌝ }
 {
-    if inventory.len() != LENGTH {
-        return OUT_OF_RANGE;
-    }
     store(loaded(inventory).add_volume(volume), inventory)
 }
 
@@ -57,9 +47,6 @@ pub extern "C" fn par1_add_volume(inventory: &mut [u8], volume: u64) -> u32
 pub extern "C" fn par1_remove_volume(inventory: &mut [u8], volume: u64) -> u32
     ensures { λ r. ⌜ (r, now (inventory .exit)) ≡ changedBy (changeStep removeVolume) volume (now (inventory .entry)) ⌝ }
 {
-    if inventory.len() != LENGTH {
-        return OUT_OF_RANGE;
-    }
     store(loaded(inventory).remove_volume(volume), inventory)
 }
 
@@ -68,9 +55,6 @@ pub extern "C" fn par1_remove_volume(inventory: &mut [u8], volume: u64) -> u32
 pub extern "C" fn par1_count(inventory: &[u8], out: &mut [u8]) -> u32
     ensures { λ r. ⌜ (r, now (out .exit)) ≡ countInto (now (inventory .entry)) (now (out .entry)) ⌝ }
 {
-    if inventory.len() != LENGTH {
-        return OUT_OF_RANGE;
-    }
     store_count(loaded(inventory).count(), out)
 }
 
@@ -79,8 +63,5 @@ pub extern "C" fn par1_count(inventory: &[u8], out: &mut [u8]) -> u32
 pub extern "C" fn par1_query(inventory: &[u8], file: u64, out: &mut [u8]) -> u32
     ensures { λ r. ⌜ QueryInto (now (inventory .entry)) file (now (out .entry)) r (now (out .exit)) ⌝ }
 {
-    if inventory.len() != LENGTH {
-        return OUT_OF_RANGE;
-    }
     answer_number(loaded(inventory).query(file, out))
 }

@@ -1,8 +1,6 @@
 -- `par1_c::inventories::par1_query` meets its contract.
 -- Assumes nothing.
-use mathlib.Core.Path.{refl, subst}
-use borrow.Author.Tests.{eq-eqb, ne-eqb}
-use Rattle.par1_c.specs.Inventories.{otherLength, answered}
+use mathlib.Core.Path.{subst}
 use denote.Ref.{now}
 use Rattle.parity.specs.Coefficient.{coefficient}
 use Rattle.inventory.specs.Query.{Queried}
@@ -12,19 +10,16 @@ use Rattle.par1_c.proofs.inventories.par1_query.Statement.{statement}
 use Rattle.par1_c.proofs.inventories.par1_query.Tie as tie
 
 returns : tie.Need-returns
-returns c = otherLength (ne-eqb _ _ (c .if1 .taken)) refl refl
-
-returns-2 : tie.Need-returns-2
-returns-2 c =
+returns c =
     let q = c .before .before .before in
     let l = q .before .before in
-    let a = l .before .before .before .before .args in
-    let r = q .query .result in
-    answered (eq-eqb _ _ (l .before .if1 .left)) r
-    (subst (λ (s : Inventory). Queried coefficient s (a .file) (now (a .out)) r (q .query .last .1 .1 .0)) (l .loaded .ensures) (q .query .ensures))
-    (c .answer-number .ensures)
+    let a = l .before .before .before .args in
+    record {
+      answer = q .query .result;
+      queried = subst (λ (s : Inventory). Queried coefficient s (a .file) (now (a .out)) (q .query .result) (q .query .last .1 .1 .0))
+          (l .loaded .ensures) (q .query .ensures);
+      number-is = c .answer-number .ensures;
+    }
 
 pub par1-query-spec : {M : Type 1} → statement M
-par1-query-spec =
-    tie.close
-    (tie.spec returns (λ c κs. search needs) (λ c κs. search needs) (λ c κs. search needs) (λ c. search needs) returns-2)
+par1-query-spec = tie.close (tie.spec (λ c κs. search needs) (λ c κs. search needs) (λ c κs. search needs) (λ c. search needs) returns)
