@@ -27,36 +27,6 @@ loop-holds : tie.Need-loop-holds Inv-loop μ-loop
 unfolding sumBelow
 loop-holds c = (omega arith, refl, λ j l. getD-replicate 256 j 0 0 l)
 
-mul-from : tie.Need-mul-from Inv-loop μ-loop
-mul-from c = omega arith
-
-add-to : tie.Need-add-to Inv-loop μ-loop
-add-to c = omega arith
-
-element-copy-out-add-multiple : tie.Need-element-copy-out-add-multiple Inv-loop μ-loop
-element-copy-out-add-multiple c = omega arith
-
-sub-add-multiple : tie.Need-sub-add-multiple Inv-loop μ-loop
-sub-add-multiple c = omega arith
-
-part-add-multiple-start : tie.Need-part-add-multiple-start Inv-loop μ-loop
-part-add-multiple-start c = omega arith
-
-part-add-multiple-end : tie.Need-part-add-multiple-end Inv-loop μ-loop
-part-add-multiple-end c = omega arith
-
-slice-aggregate-add-multiple : tie.Need-slice-aggregate-add-multiple Inv-loop μ-loop
-slice-aggregate-add-multiple c = search needs
-
-add-multiple-requires : tie.Need-add-multiple-requires Inv-loop μ-loop
-add-multiple-requires c κs = search needs
-
-add-i : tie.Need-add-i Inv-loop μ-loop
-add-i c = omega arith
-
-loop-less : tie.Need-loop-less Inv-loop μ-loop
-loop-less c = omega arith
-
 loop-again : tie.Need-loop-again Inv-loop μ-loop
 loop-again c =
     let called = c .before .add-multiple in
@@ -86,15 +56,15 @@ row-times-spec =
     Inv-loop
     μ-loop
     loop-holds
-    mul-from
-    add-to
-    element-copy-out-add-multiple
-    sub-add-multiple
-    part-add-multiple-start
-    part-add-multiple-end
-    slice-aggregate-add-multiple
-    add-multiple-requires
-    add-i
-    loop-less
+    (λ c. omega arith)
+    (λ c. omega arith)
+    (λ c. omega arith)
+    (λ c. omega arith)
+    (λ c. omega arith)
+    (λ c. omega arith)
+    (λ c. search needs)
+    (λ c κs. search needs)
+    (λ c. omega arith)
+    (λ c. omega arith)
     loop-again
     returns)

@@ -18,21 +18,6 @@ loop-holds : tie.Need-loop-holds Inv-loop μ-loop
 unfolding withDiagonal
 loop-holds c = (omega arith, refl)
 
-mul-matrix : tie.Need-mul-matrix Inv-loop μ-loop
-mul-matrix c = omega arith
-
-add-matrix : tie.Need-add-matrix Inv-loop μ-loop
-add-matrix c = omega arith
-
-element-write-matrix : tie.Need-element-write-matrix Inv-loop μ-loop
-element-write-matrix c = omega arith
-
-add-i : tie.Need-add-i Inv-loop μ-loop
-add-i c = omega arith
-
-loop-less : tie.Need-loop-less Inv-loop μ-loop
-loop-less c = omega arith
-
 loop-again : tie.Need-loop-again Inv-loop μ-loop
 loop-again c =
     let l = c .before .loop in
@@ -51,10 +36,10 @@ set-diagonal-spec =
     Inv-loop
     μ-loop
     loop-holds
-    mul-matrix
-    add-matrix
-    element-write-matrix
-    add-i
-    loop-less
+    (λ c. omega arith)
+    (λ c. omega arith)
+    (λ c. omega arith)
+    (λ c. omega arith)
+    (λ c. omega arith)
     loop-again
     returns)

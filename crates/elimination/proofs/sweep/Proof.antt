@@ -17,39 +17,6 @@ abbrev μ-loop : tie.MeasureT-loop
 loop-holds : tie.Need-loop-holds Inv-loop μ-loop
 loop-holds c = (omega arith, swept-none _ _ _ _)
 
-mul-from : tie.Need-mul-from Inv-loop μ-loop
-mul-from c = omega arith
-
-add-to : tie.Need-add-to Inv-loop μ-loop
-add-to c = omega arith
-
-add-product : tie.Need-add-product Inv-loop μ-loop
-add-product c = omega arith
-
-slice-read-product : tie.Need-slice-read-product Inv-loop μ-loop
-slice-read-product c = omega arith
-
-product-requires : tie.Need-product-requires Inv-loop μ-loop
-product-requires c κs = search needs
-
-sub-add-multiple : tie.Need-sub-add-multiple Inv-loop μ-loop
-sub-add-multiple c = omega arith
-
-part-add-multiple-start : tie.Need-part-add-multiple-start Inv-loop μ-loop
-part-add-multiple-start c = omega arith
-
-part-add-multiple-end : tie.Need-part-add-multiple-end Inv-loop μ-loop
-part-add-multiple-end c = omega arith
-
-add-multiple-requires : tie.Need-add-multiple-requires Inv-loop μ-loop
-add-multiple-requires c κs = search needs
-
-add-r : tie.Need-add-r Inv-loop μ-loop
-add-r c = omega arith
-
-loop-less : tie.Need-loop-less Inv-loop μ-loop
-loop-less c = omega arith
-
 loop-again : tie.Need-loop-again Inv-loop μ-loop
 loop-again c =
     let called = c .before .before .add-multiple in
@@ -61,9 +28,6 @@ loop-again c =
       swept-more (l .r) (a .y .now) (a .k) (a .scale) (a .matrix .now) (l .matrix) (omega arith) (omega arith) (omega arith) (l .inv .1)
           (multiplied .result) (multiplied .ensures) (called .last .1 .1 .0) (called .ensures),
     )
-
-same-length : tie.Need-same-length Inv-loop μ-loop
-same-length c = omega arith
 
 returns : tie.Need-returns Inv-loop μ-loop
 returns c =
@@ -79,17 +43,17 @@ sweep-spec =
     Inv-loop
     μ-loop
     loop-holds
-    mul-from
-    add-to
-    add-product
-    slice-read-product
-    product-requires
-    sub-add-multiple
-    part-add-multiple-start
-    part-add-multiple-end
-    add-multiple-requires
-    add-r
-    loop-less
+    (λ c. omega arith)
+    (λ c. omega arith)
+    (λ c. omega arith)
+    (λ c. omega arith)
+    (λ c κs. search needs)
+    (λ c. omega arith)
+    (λ c. omega arith)
+    (λ c. omega arith)
+    (λ c κs. search needs)
+    (λ c. omega arith)
+    (λ c. omega arith)
     loop-again
-    same-length
+    (λ c. omega arith)
     returns)

@@ -23,39 +23,9 @@ Inv-loop matrix owners column from weights₀ k₀ weights k =
 abbrev μ-loop : tie.MeasureT-loop
 μ-loop matrix owners column from weights₀ k₀ weights k = 256 - k
 
-index-requires : tie.Need-index-requires Inv-loop μ-loop
-index-requires c κs = search needs
-
-mul-from : tie.Need-mul-from Inv-loop μ-loop
-mul-from c = omega arith
-
 loop-holds : tie.Need-loop-holds Inv-loop μ-loop
 unfolding sumBelow
 loop-holds c = (omega arith, refl, λ j l. getD-replicate 256 j 0 0 l)
-
-element-copy-out-index : tie.Need-element-copy-out-index Inv-loop μ-loop
-element-copy-out-index c = omega arith
-
-index-requires-2 : tie.Need-index-requires-2 Inv-loop μ-loop
-index-requires-2 c κs = search needs
-
-array-read-weights : tie.Need-array-read-weights Inv-loop μ-loop
-array-read-weights c = omega arith
-
-add-weights : tie.Need-add-weights Inv-loop μ-loop
-add-weights c = omega arith
-
-element-copy-out-weights : tie.Need-element-copy-out-weights Inv-loop μ-loop
-element-copy-out-weights c = omega arith
-
-array-write-weights : tie.Need-array-write-weights Inv-loop μ-loop
-array-write-weights c = omega arith
-
-add-k : tie.Need-add-k Inv-loop μ-loop
-add-k c = omega arith
-
-loop-less : tie.Need-loop-less Inv-loop μ-loop
-loop-less c = omega arith
 
 loop-again : tie.Need-loop-again Inv-loop μ-loop
 loop-again c =
@@ -83,16 +53,16 @@ weights-spec =
     (tie.spec
     Inv-loop
     μ-loop
-    index-requires
-    mul-from
+    (λ c κs. search needs)
+    (λ c. omega arith)
     loop-holds
-    element-copy-out-index
-    index-requires-2
-    array-read-weights
-    add-weights
-    element-copy-out-weights
-    array-write-weights
-    add-k
-    loop-less
+    (λ c. omega arith)
+    (λ c κs. search needs)
+    (λ c. omega arith)
+    (λ c. omega arith)
+    (λ c. omega arith)
+    (λ c. omega arith)
+    (λ c. omega arith)
+    (λ c. omega arith)
     loop-again
     returns)

@@ -26,18 +26,6 @@ loop-holds c =
     let h : x < 256 = search needs in
     (product-one-l (product x x) (product-byte x x h h), search needs, h, h)
 
-double-requires : tie.Need-double-requires Inv-loop μ-loop
-double-requires c κs = search needs
-
-double-requires-2 : tie.Need-double-requires-2 Inv-loop μ-loop
-double-requires-2 c κs = search needs
-
-sub-left : tie.Need-sub-left Inv-loop μ-loop
-sub-left c = omega arith
-
-loop-less : tie.Need-loop-less Inv-loop μ-loop
-loop-less c = omega arith
-
 loop-again : tie.Need-loop-again Inv-loop μ-loop
 loop-again c =
     let l = c .before .before .before .before .loop in
@@ -77,9 +65,9 @@ squared-spec =
     Inv-loop
     μ-loop
     loop-holds
-    double-requires
-    double-requires-2
-    sub-left
-    loop-less
+    (λ c κs. search needs)
+    (λ c κs. search needs)
+    (λ c. omega arith)
+    (λ c. omega arith)
     loop-again
     returns)

@@ -22,18 +22,6 @@ loop-holds : tie.Need-loop-holds Inv-loop μ-loop
 unfolding volumesAdded
 loop-holds c = (omega arith, refl)
 
-add-add-volume : tie.Need-add-add-volume Inv-loop μ-loop
-add-add-volume c = omega arith
-
-add-volume-requires : tie.Need-add-volume-requires Inv-loop μ-loop
-add-volume-requires c κs = search needs
-
-add-v : tie.Need-add-v Inv-loop μ-loop
-add-v c = omega arith
-
-loop-less : tie.Need-loop-less Inv-loop μ-loop
-loop-less c = omega arith
-
 loop-again : tie.Need-loop-again Inv-loop μ-loop
 loop-again c =
     let l = c .before .before .before .before .loop in
@@ -53,9 +41,9 @@ add-volumes-spec =
     Inv-loop
     μ-loop
     loop-holds
-    add-add-volume
-    add-volume-requires
-    add-v
-    loop-less
+    (λ c. omega arith)
+    (λ c κs. search needs)
+    (λ c. omega arith)
+    (λ c. omega arith)
     loop-again
     returns)

@@ -23,27 +23,6 @@ loop-holds : tie.Need-loop-holds Inv-loop μ-loop
 unfolding sumBelow
 loop-holds c = (omega arith, refl)
 
-cast-term : tie.Need-cast-term Inv-loop μ-loop
-cast-term c = omega arith
-
-add-term : tie.Need-add-term Inv-loop μ-loop
-add-term c = omega arith
-
-element-copy-out-term : tie.Need-element-copy-out-term Inv-loop μ-loop
-element-copy-out-term c = omega arith
-
-add-term-2 : tie.Need-add-term-2 Inv-loop μ-loop
-add-term-2 c = omega arith
-
-term-requires : tie.Need-term-requires Inv-loop μ-loop
-term-requires c κs = search needs
-
-add-v : tie.Need-add-v Inv-loop μ-loop
-add-v c = omega arith
-
-loop-less : tie.Need-loop-less Inv-loop μ-loop
-loop-less c = omega arith
-
 loop-again : tie.Need-loop-again Inv-loop μ-loop
 loop-again c =
     let l = c .before .before .before .loop in
@@ -71,12 +50,12 @@ file-weight-spec =
     μ-loop
     returns
     loop-holds
-    cast-term
-    add-term
-    element-copy-out-term
-    add-term-2
-    term-requires
-    add-v
-    loop-less
+    (λ c. omega arith)
+    (λ c. omega arith)
+    (λ c. omega arith)
+    (λ c. omega arith)
+    (λ c κs. search needs)
+    (λ c. omega arith)
+    (λ c. omega arith)
     loop-again
     returns-2)

@@ -28,27 +28,6 @@ abbrev μ-loop : tie.MeasureT-loop
 loop-holds : tie.Need-loop-holds Inv-loop μ-loop
 loop-holds c = (omega arith, refl, λ j l. absurd (not-suc-le-zero l))
 
-add-file : tie.Need-add-file Inv-loop μ-loop
-add-file c = omega arith
-
-has-requires : tie.Need-has-requires Inv-loop μ-loop
-has-requires c κs = search needs
-
-cast-file-weight : tie.Need-cast-file-weight Inv-loop μ-loop
-cast-file-weight c = omega arith
-
-file-weight-requires : tie.Need-file-weight-requires Inv-loop μ-loop
-file-weight-requires c κs = search needs
-
-array-write-sums : tie.Need-array-write-sums Inv-loop μ-loop
-array-write-sums c = omega arith
-
-add-i : tie.Need-add-i Inv-loop μ-loop
-add-i c = omega arith
-
-loop-less : tie.Need-loop-less Inv-loop μ-loop
-loop-less c = omega arith
-
 loop-again : tie.Need-loop-again Inv-loop μ-loop
 unfolding fileWeight
 loop-again c =
@@ -77,12 +56,12 @@ file-weights-spec =
     Inv-loop
     μ-loop
     loop-holds
-    add-file
-    has-requires
-    cast-file-weight
-    file-weight-requires
-    array-write-sums
-    add-i
-    loop-less
+    (λ c. omega arith)
+    (λ c κs. search needs)
+    (λ c. omega arith)
+    (λ c κs. search needs)
+    (λ c. omega arith)
+    (λ c. omega arith)
+    (λ c. omega arith)
     loop-again
     returns)
