@@ -1,7 +1,6 @@
--- The rows of a query are those of the state that the inventory stands for.
+-- The rows of a query are those of the state that the inventory stands for, over any rule for the coefficients that gives bytes.
 --
---   rule, small                the rule for the coefficients that the code follows, document 01's; it gives bytes
---   table-matrix               the table of its sets is the matrix of its state
+--   table-matrix     the table of its sets is the matrix of its state
 -- Assumes nothing.
 use mathlib.Core.Path.{_≡_, refl, sym, ap, _∙_, fun-ext}
 use mathlib.Core.Bool.{Bool, true, false, not, cond, _&&_, and-false}
@@ -10,9 +9,7 @@ use native.Mathlib.Omega.{arith}
 use native.Mathlib.Decide.{decLt}
 use lib.Dec.{leb}
 use borrow.Author.Tests.{le-leb, lt-leb}
-use Rattle.parity.specs.Coefficient.{coefficient}
 use Rattle.parity.specs.Parity.{isFile}
-use Rattle.parity.proofs.Coefficients.{coefficient-byte}
 use Rattle.elimination.specs.ByteField.{toByte, byteField}
 use Rattle.elimination.proofs.ByteField.{toByte-of-value}
 use Rattle.number_sets.specs.Sets.{member}
@@ -24,16 +21,7 @@ use Rattle.inventory.proofs.ValidInventories.{within-bits, few-files, n
 use Rattle.inventory.proofs.Rows as R
 use Rattle.inventory.proofs.Rows.{mask}
 
-abbrev pub rule : ℕ → ℕ → ℕ
-rule = coefficient
-
-abbrev pub small : (f v : ℕ) → f < 256 → rule f v < 256
-small = coefficient-byte
-
 module _ (s : Inventory) (valid : isInventory s ≡ true) where
-  abbrev few : s .n ≤ 254
-  few = few-files s valid
-
   -- a file that is not empty and not present is a column
   column-bits : (g : ℕ) → g < 256
       → (member (s .nonempty) g && not (member (s .files) g)) ≡ (isFile (s .n) g && (not (member (s .files) g) && member (s .nonempty) g))
@@ -45,40 +33,44 @@ module _ (s : Inventory) (valid : isInventory s ≡ true) where
       go false e true = sym (and-false (isFile (s .n) g))
       go false e false = sym (and-false (isFile (s .n) g))
 
-  module _ (size : ℕ → ℕ) (matches : Matches s size) where
-    abbrev inColumn : ℕ → Bool
-    inColumn = R.inColumn rule small (stateOf s size) few
+module _ (rule : ℕ → ℕ → ℕ) (small : (f v : ℕ) → f < 256 → rule f v < 256) (s : Inventory) (valid : isInventory s ≡ true)
+    (size : ℕ → ℕ) (matches : Matches s size) where
+  abbrev few : s .n ≤ 254
+  few = few-files s valid
 
-    sized : (i : ℕ) → (isFile (s .n) (suc i) && (not (member (s .files) (suc i)) && member (s .nonempty) (suc i))) ≡ inColumn i
-    sized i = go (isFile (s .n) (suc i)) refl
-      where
-        go : (b : Bool) → isFile (s .n) (suc i) ≡ b
-            → (b && (not (member (s .files) (suc i)) && member (s .nonempty) (suc i)))
-            ≡ (b && (not (member (s .files) (suc i)) && leb 1 (size (suc i))))
-        go true e = ap (λ (c : Bool). not (member (s .files) (suc i)) && c) (matches (suc i) e)
-        go false e = refl
+  abbrev inColumn : ℕ → Bool
+  inColumn = R.inColumn rule small (stateOf s size) few
 
-    column-same : (i : ℕ) → columnIn (s .nonempty) (s .files) (suc i) ≡ inColumn i
-    column-same i =
-        elim (decLt i 255) [
-          | yes l ↦
-              ap (λ (b : Bool). b && (member (s .nonempty) (suc i) && not (member (s .files) (suc i)))) (le-leb (suc i) 255 (omega arith))
-              ∙ column-bits (suc i) (omega arith) ∙ sized i
-          | no q ↦
-              ap (λ (b : Bool). b && (member (s .nonempty) (suc i) && not (member (s .files) (suc i)))) (lt-leb (suc i) 255 (omega arith))
-              ∙ sym (R.inColumn-past rule small (stateOf s size) few i (omega (arith, few)))
-        ]
+  sized : (i : ℕ) → (isFile (s .n) (suc i) && (not (member (s .files) (suc i)) && member (s .nonempty) (suc i))) ≡ inColumn i
+  sized i = go (isFile (s .n) (suc i)) refl
+    where
+      go : (b : Bool) → isFile (s .n) (suc i) ≡ b
+          → (b && (not (member (s .files) (suc i)) && member (s .nonempty) (suc i)))
+          ≡ (b && (not (member (s .files) (suc i)) && leb 1 (size (suc i))))
+      go true e = ap (λ (c : Bool). not (member (s .files) (suc i)) && c) (matches (suc i) e)
+      go false e = refl
 
-    pub table-matrix : tableOf rule (s .nonempty) (s .files) (s .volumes) ≡ R.matrix rule small (stateOf s size) few
-    unfolding tableOf R.matrix R.coef mask
-    table-matrix = fun-ext (λ v. fun-ext (λ i. at v i))
-      where
-        masked : (a b : Bool) (x : ℕ) → toByte (cond a (cond b x 0) 0) ≡ mask a (mask b (toByte x))
-        masked true true x = refl
-        masked true false x = toByte-of-value (byteField .𝟘)
-        masked false b x = toByte-of-value (byteField .𝟘)
+  column-same : (i : ℕ) → columnIn (s .nonempty) (s .files) (suc i) ≡ inColumn i
+  column-same i =
+      elim (decLt i 255) [
+        | yes l ↦
+            ap (λ (b : Bool). b && (member (s .nonempty) (suc i) && not (member (s .files) (suc i)))) (le-leb (suc i) 255 (omega arith))
+            ∙ column-bits s valid (suc i) (omega arith) ∙ sized i
+        | no q ↦
+            ap (λ (b : Bool). b && (member (s .nonempty) (suc i) && not (member (s .files) (suc i)))) (lt-leb (suc i) 255 (omega arith))
+            ∙ sym (R.inColumn-past rule small (stateOf s size) few i (omega (arith, few)))
+      ]
 
-        at : (v i : ℕ) → tableOf rule (s .nonempty) (s .files) (s .volumes) v i ≡ R.matrix rule small (stateOf s size) few v i
-        at v i =
-            masked (member (s .volumes) (suc v)) (columnIn (s .nonempty) (s .files) (suc i)) (rule (suc i) (suc v))
-            ∙ ap (λ (b : Bool). mask (member (s .volumes) (suc v)) (mask b (toByte (rule (suc i) (suc v))))) (column-same i)
+  pub table-matrix : tableOf rule (s .nonempty) (s .files) (s .volumes) ≡ R.matrix rule small (stateOf s size) few
+  unfolding tableOf R.matrix R.coef mask
+  table-matrix = fun-ext (λ v. fun-ext (λ i. at v i))
+    where
+      masked : (a b : Bool) (x : ℕ) → toByte (cond a (cond b x 0) 0) ≡ mask a (mask b (toByte x))
+      masked true true x = refl
+      masked true false x = toByte-of-value (byteField .𝟘)
+      masked false b x = toByte-of-value (byteField .𝟘)
+
+      at : (v i : ℕ) → tableOf rule (s .nonempty) (s .files) (s .volumes) v i ≡ R.matrix rule small (stateOf s size) few v i
+      at v i =
+          masked (member (s .volumes) (suc v)) (columnIn (s .nonempty) (s .files) (suc i)) (rule (suc i) (suc v))
+          ∙ ap (λ (b : Bool). mask (member (s .volumes) (suc v)) (mask b (toByte (rule (suc i) (suc v))))) (column-same i)

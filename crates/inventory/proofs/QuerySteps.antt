@@ -1,4 +1,4 @@
--- The loop of `write`: the room with one weight more.
+-- The loop of `write`: the room with one weight more, over any rule for the coefficients.
 --
 --   written-none, written-file, written-volume     none; that of a file; that of a volume
 -- Assumes nothing.
@@ -10,18 +10,17 @@ use native.Mathlib.Omega.{arith}
 use native.Mathlib.Decide.{ℕ-discrete}
 use lib.ListN.{length, getD, set, length-set}
 use lib.Seq.{getD-set-same, getD-set-other}
-use Rattle.parity.specs.Coefficient.{coefficient}
 use Rattle.volume_weights.specs.Weights.{fileWeight}
 use Rattle.inventory.specs.Query.{Written}
 
-module _ (n : ℕ) (files ws room room′ : List ℕ) (p x : ℕ) (lp : p < length room) (W : Written n files ws room room′ p) where
-  written-more : (p < n → x ≡ fileWeight coefficient files ws (255 - n) p) → (n ≤ p → x ≡ getD ws (p - n + 1) 0)
-      → Written n files ws room (set room′ p x) (p + 1)
+module _ (rule : ℕ → ℕ → ℕ) (n : ℕ) (files ws room room′ : List ℕ) (p x : ℕ) (lp : p < length room) (W : Written rule n files ws room room′ p) where
+  written-more : (p < n → x ≡ fileWeight rule files ws (255 - n) p) → (n ≤ p → x ≡ getD ws (p - n + 1) 0)
+      → Written rule n files ws room (set room′ p x) (p + 1)
   written-more hf hv = record {
     same-length = length-set room′ p x ∙ W .same-length;
     of-files = λ i l b. elim (ℕ-discrete i p) [
       | yes e ↦
-          at i e ∙ hf (subst (λ (k : ℕ). k < n) e b) ∙ ap (fileWeight coefficient files ws (255 - n)) (sym e)
+          at i e ∙ hf (subst (λ (k : ℕ). k < n) e b) ∙ ap (fileWeight rule files ws (255 - n)) (sym e)
       | no q ↦ getD-set-other room′ p i x 0 q ∙ W .of-files i (omega arith) b
     ];
     of-volumes = λ i l b. elim (ℕ-discrete i p) [
@@ -36,14 +35,14 @@ module _ (n : ℕ) (files ws room room′ : List ℕ) (p x : ℕ) (lp : p < leng
           let l = W .same-length in
           ap (λ (k : ℕ). getD (set room′ p x) k 0) e ∙ getD-set-same room′ p x 0 (omega arith)
 
-  pub written-file : p < n → x ≡ fileWeight coefficient files ws (255 - n) p → Written n files ws room (set room′ p x) (p + 1)
+  pub written-file : p < n → x ≡ fileWeight rule files ws (255 - n) p → Written rule n files ws room (set room′ p x) (p + 1)
   written-file l e = written-more (λ b. e) (λ b. absurd (omega arith))
 
-  pub written-volume : n ≤ p → x ≡ getD ws (p - n + 1) 0 → Written n files ws room (set room′ p x) (p + 1)
+  pub written-volume : n ≤ p → x ≡ getD ws (p - n + 1) 0 → Written rule n files ws room (set room′ p x) (p + 1)
   written-volume l e = written-more (λ b. absurd (omega arith)) (λ b. e)
 
-pub written-none : (n : ℕ) (files ws room : List ℕ) → Written n files ws room room 0
-written-none n files ws room = record {
+pub written-none : (rule : ℕ → ℕ → ℕ) (n : ℕ) (files ws room : List ℕ) → Written rule n files ws room room 0
+written-none rule n files ws room = record {
   same-length = refl;
   of-files = λ i l b. absurd (not-suc-le-zero l);
   of-volumes = λ i l b. absurd (not-suc-le-zero l);

@@ -17,12 +17,13 @@ use Rattle.computed_tests.specs.Numbers.{oneTo}
 use Rattle.computed_tests.proofs.Tests.{oneTo-inside}
 use Rattle.parity.specs.Coefficient.{coefficient}
 use Rattle.parity.specs.Parity.{isFile}
+use Rattle.parity.proofs.Coefficients.{coefficient-byte}
 use Rattle.number_sets.specs.Sets.{member, Words}
 use Rattle.inventory.specs.Recoverable.{State}
 use Rattle.inventory.specs.Model.{Change, addFile, removeFile, addVolume, removeVolume, Call, change, count, query, Reply, opened}
 use Rattle.inventory.specs.Steps.{isInventory, within, nonemptyOf, fresh, outcome, openStep, afterChange, changeStep}
 use Rattle.inventory.specs.Query.{stateOf}
-use Rattle.inventory.specs.Claim.{AddsExactly, sizeIn, Step, Run, Given, AnsweredFor, ExactlyGivenFor, ExactlyGiven}
+use Rattle.inventory.specs.Claim.{AddsExactly, sizeIn, Step, Run, Given, ExactlyGivenFor, ExactlyGiven}
 use Rattle.inventory.specs.declared.Inventory.{Inventory}
 use Rattle.inventory.specs.declared.Outcome.{Outcome}
 use Rattle.number_sets.proofs.Words.{member-above, words-same, words-none, words-inserted, words-removed}
@@ -33,7 +34,7 @@ use Rattle.inventory.proofs.Openings.{opened-represents, nonempty-words
 use Rattle.inventory.proofs.Calls.{Ranged}
 use Rattle.inventory.proofs.Told.{opened-told, calls-for}
 use Rattle.inventory.proofs.Condition.{sound}
-use Rattle.inventory.proofs.Answered.{answered}
+use Rattle.inventory.proofs.Answered.{answered-for}
 
 given-valid : (rule : ℕ → ℕ → ℕ) (n : ℕ) (sizes : List ℕ) → openStep n sizes .number ≡ 0
     → (cs : List Call) (rs : List Reply) (s : Inventory) → Run rule (openStep n sizes .next) cs rs s → isInventory s ≡ true
@@ -210,14 +211,14 @@ module _ (s : Inventory) (valid : isInventory s ≡ true) (fw : Words (s .files)
           nonempty = (k .same-nonempty ∙ nonempty-same) i;
         }
 
-    valid-given : AnsweredFor rule → Given rule s
-    valid-given answers = let (rs, e, run) = answers start (calls .0) in given-by rs e run
+    valid-given : ((f v : ℕ) → f < 256 → rule f v < 256) → Given rule s
+    valid-given small = let (rs, e, run) = answered-for rule small start (calls .0) in given-by rs e run
 
-pub exactly-given-for : (rule : ℕ → ℕ → ℕ) → AnsweredFor rule → ExactlyGivenFor rule
-exactly-given-for rule answers s fw vw ew = (
-  λ valid. valid-given s valid fw vw ew rule answers,
+pub exactly-given-for : (rule : ℕ → ℕ → ℕ) → ((f v : ℕ) → f < 256 → rule f v < 256) → ExactlyGivenFor rule
+exactly-given-for rule small s fw vw ew = (
+  λ valid. valid-given s valid fw vw ew rule small,
   λ given. let (n, sizes, cs, rs, well, run) = given in given-valid rule n sizes well cs rs s run,
 )
 
 pub exactly-given : ExactlyGiven
-exactly-given = exactly-given-for coefficient answered
+exactly-given = exactly-given-for coefficient coefficient-byte

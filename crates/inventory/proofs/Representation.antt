@@ -19,7 +19,8 @@ use Rattle.parity.specs.Parity.{isFile}
 use Rattle.number_sets.specs.Sets.{member, inserted, removed}
 use Rattle.inventory.specs.Recoverable.{State}
 use Rattle.inventory.specs.Model as M
-use Rattle.inventory.specs.Model.{Change, addFile, removeFile, addVolume, removeVolume, insert, remove, inRange, already, changed, changeNumber, unlessRefused}
+use Rattle.inventory.specs.Model.{Change, addFile, removeFile, addVolume, removeVolume}
+use Rattle.inventory.specs.Model.{insert, remove, inRange, already, changed, changeNumber, unlessRefused}
 use Rattle.inventory.specs.Model.{Call, change, count, query, Reply, numbered, queried, next, Gives}
 use Rattle.inventory.specs.Steps.{within, isInventory, ifInventory, accepted, withFiles, withVolumes, afterChange, changeStep, countStep, answerNumber}
 use Rattle.inventory.specs.Query.{stateOf, Matches, Queried}

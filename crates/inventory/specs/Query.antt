@@ -1,10 +1,10 @@
--- What a query does (document 01, "The sheet": ask), and the parts that it is made of.
+-- What a query does (document 01, "The sheet": ask), and the parts that it is made of, over any rule for the coefficients.
 --
 --   stateOf s size          the state that an inventory stands for, of files of these sizes
 --   Matches s size          a size is 0 exactly where the inventory has the file as empty
 --   Queried rule s f room r room′     the answer r to a query, and the room after it
---   Found n files volumes nonempty f found ws     whether weights bring file f back, and these weights by volume number
---   Written n files ws room room′ p     the first p weights of n files and the volumes, in the room
+--   Found rule n files volumes nonempty f found ws     whether weights bring file f back, and these weights by volume number
+--   Written rule n files ws room room′ p     the first p weights of n files and the volumes, in the room
 -- Assumes nothing.
 use mathlib.Core.Path.{_≡_}
 use mathlib.Core.Logic.{_⊎_}
@@ -13,7 +13,6 @@ use mathlib.Core.List.{List}
 use Prim.Native.Nat.{ℕ, _<_, _≤_, _+_, _-_}
 use lib.Dec.{leb}
 use lib.ListN.{length, getD}
-use Rattle.parity.specs.Coefficient.{coefficient}
 use Rattle.parity.specs.Parity.{isFile}
 use Rattle.number_sets.specs.Sets.{member}
 use Rattle.volume_weights.specs.Weights.{Solved, fileWeight}
@@ -42,16 +41,16 @@ pub record Queried (rule : ℕ → ℕ → ℕ) (s : Inventory) (f : ℕ) (room 
   -- a refusal is 10 or 14, so the number tells the answer
   pub refusal : (k : ℕ) → r ≡ answer.Refused k → (k ≡ 10) ⊎ (k ≡ 14)
 
--- ---- the weights, by document 01's rule for the coefficients
+-- ---- the weights
 
 -- an empty file comes back by no weight; any other by those that solve the rows of the volumes present
-pub data Found (n : ℕ) (files volumes nonempty : List ℕ) (f : ℕ) (found : Bool) (ws : List ℕ) : Type 0 where
-  empty : member nonempty f ≡ false → found ≡ true → ((v : ℕ) → getD ws v 0 ≡ 0) → Found n files volumes nonempty f found ws
-  notEmpty : member nonempty f ≡ true → Solved coefficient nonempty files volumes (255 - n) (f - 1) ws found
-      → Found n files volumes nonempty f found ws
+pub data Found (rule : ℕ → ℕ → ℕ) (n : ℕ) (files volumes nonempty : List ℕ) (f : ℕ) (found : Bool) (ws : List ℕ) : Type 0 where
+  empty : member nonempty f ≡ false → found ≡ true → ((v : ℕ) → getD ws v 0 ≡ 0) → Found rule n files volumes nonempty f found ws
+  notEmpty : member nonempty f ≡ true → Solved rule nonempty files volumes (255 - n) (f - 1) ws found
+      → Found rule n files volumes nonempty f found ws
 
-pub record Written (n : ℕ) (files ws room room′ : List ℕ) (p : ℕ) : Type 0 where
+pub record Written (rule : ℕ → ℕ → ℕ) (n : ℕ) (files ws room room′ : List ℕ) (p : ℕ) : Type 0 where
   pub same-length : length room′ ≡ length room
-  pub of-files : (i : ℕ) → i < p → i < n → getD room′ i 0 ≡ fileWeight coefficient files ws (255 - n) i
+  pub of-files : (i : ℕ) → i < p → i < n → getD room′ i 0 ≡ fileWeight rule files ws (255 - n) i
   pub of-volumes : (i : ℕ) → i < p → n ≤ i → getD room′ i 0 ≡ getD ws (i - n + 1) 0
   pub rest : (i : ℕ) → p ≤ i → getD room′ i 0 ≡ getD room i 0

@@ -55,7 +55,7 @@ impl Inventory {
 // Weights of the volumes present that bring a missing file back. An empty file needs none.
 fn solve(n: u64, files: [u64; 4], volumes: [u64; 4], nonempty: [u64; 4], file: u64) -> Solution
     requires { ⌜ (n ≤ 254) × (isFile n file ≡ true) ⌝ }
-    ensures { λ r. ⌜ Found n files volumes nonempty file (r .found) (r .weights) ⌝ }
+    ensures { λ r. ⌜ Found coefficient n files volumes nonempty file (r .found) (r .weights) ⌝ }
 {
     if !has(nonempty, file) {
         return Solution {
@@ -69,7 +69,7 @@ fn solve(n: u64, files: [u64; 4], volumes: [u64; 4], nonempty: [u64; 4], file: u
 // Writes the weights of the files, then those of the volumes.
 fn write(n: u64, files: [u64; 4], weights: &[u8; 256], out: &mut [u8])
     requires { ⌜ (n ≤ 254) × (255 ≤ length (now out)) ⌝ }
-    ensures { λ _. ⌜ Written n files (now (weights .entry)) (now (out .entry)) (now (out .exit)) 255 ⌝ }
+    ensures { λ _. ⌜ Written coefficient n files (now (weights .entry)) (now (out .entry)) (now (out .exit)) 255 ⌝ }
 {
     let sums = file_weights(files, (255 - n) as u8, weights);
     let n = n as usize;

@@ -19,7 +19,7 @@ abbrev Inv-loop : tie.InvT-loop
 Inv-loop n₀ weights out₀ sums n p₀ out p =
     (p ≤ 255) × (length out ≡ length out₀)
     × ((files : List ℕ) → ((i : ℕ) → i < 255 → getD sums i 0 ≡ fileWeight coefficient files weights (255 - n) i)
-    → Written n files weights out₀ out p)
+    → Written coefficient n files weights out₀ out p)
 
 abbrev μ-loop : tie.MeasureT-loop
 μ-loop n₀ weights out₀ sums n p₀ out p = 255 - p
@@ -34,7 +34,7 @@ file-weights-requires : tie.Need-file-weights-requires Inv-loop μ-loop
 file-weights-requires c κs = search needs
 
 loop-holds : tie.Need-loop-holds Inv-loop μ-loop
-loop-holds c = (omega arith, refl, λ files h. written-none _ files _ _)
+loop-holds c = (omega arith, refl, λ files h. written-none coefficient _ files _ _)
 
 array-read-out : tie.Need-array-read-out Inv-loop μ-loop
 array-read-out c = omega arith
@@ -66,10 +66,11 @@ loop-again c =
       ⊎-elim (λ w. ap length (w .1) ∙ simp length-set (l .inv .1)) (λ w. ap length (w .2) ∙ simp length-set (l .inv .1)) (c .if1 .came),
       λ files h.
           ⊎-elim
-          (λ w. subst (λ (o : List ℕ). Written (a .n) files (a .weights .now) (a .out .now) o (l .p + 1)) (sym (w .1))
-          (written-file (a .n) files (a .weights .now) (a .out .now) (l .out) (l .p) _ inside (l .inv .2 files h) (w .0 .taken) (h (l .p) (omega arith))))
-          (λ w. subst (λ (o : List ℕ). Written (a .n) files (a .weights .now) (a .out .now) o (l .p + 1)) (sym (w .2))
-          (written-volume (a .n) files (a .weights .now) (a .out .now) (l .out) (l .p) _ inside (l .inv .2 files h) (w .0 .left) refl))
+          (λ w. subst (λ (o : List ℕ). Written coefficient (a .n) files (a .weights .now) (a .out .now) o (l .p + 1)) (sym (w .1))
+          (written-file coefficient (a .n) files (a .weights .now) (a .out .now) (l .out) (l .p) _ inside (l .inv .2 files h) (w .0 .taken)
+          (h (l .p) (omega arith))))
+          (λ w. subst (λ (o : List ℕ). Written coefficient (a .n) files (a .weights .now) (a .out .now) o (l .p + 1)) (sym (w .2))
+          (written-volume coefficient (a .n) files (a .weights .now) (a .out .now) (l .out) (l .p) _ inside (l .inv .2 files h) (w .0 .left) refl))
           (c .if1 .came),
     )
 
@@ -81,7 +82,7 @@ returns c =
     let l = c .before .loop in
     let a = c .before .before .before .before .args in
     let e : l .p ≡ 255 = omega arith in
-    subst (Written (a .n) (a .files) (a .weights .now) (a .out .now) (l .out)) e
+    subst (Written coefficient (a .n) (a .files) (a .weights .now) (a .out .now) (l .out)) e
     (l .inv .2 (a .files) (λ i b. ap (λ (zs : List ℕ). getD zs i 0) (c .before .before .file-weights .ensures) ∙ listBelow-at 255 _ i b))
 
 pub write-spec : {M : Type 1} → statement M
