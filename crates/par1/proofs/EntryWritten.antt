@@ -93,7 +93,8 @@ module _ {e m : List ℕ} {status : ℕ} {name : List ℕ} (size : length e ≡ 
       let own : take (length e) s ≡ e = take-append-seam e rest in
       let told : length e ≡ entrySize s = sym (leAt-append 8 e rest 0 (omega (arith, right .some)) ∙ d .entry-size ∙ sym size) in
       let allowed = size-right (length e) (length s) (omega (arith, right .even)) (omega (arith, right .some)) (omega arith) in
-      let file-size : fileSizeAllowed (fileSizeOf (take (length e) s)) ≡ true = ap (λ (l : List ℕ). fileSizeAllowed (fileSizeOf l)) own ∙ ap fileSizeAllowed (d .size-is) ∙ short in
+      let file-size : fileSizeAllowed (fileSizeOf (take (length e) s)) ≡ true =
+      ap (λ (l : List ℕ). fileSizeAllowed (fileSizeOf l)) own ∙ ap fileSizeAllowed (d .size-is) ∙ short in
       let name-right = ap (λ (l : List ℕ). nameAllowed (nameOf l)) own ∙ ap nameAllowed (d .named) ∙ right .allowed in
       first-entry s (omega (arith, right .some)) told allowed file-size name-right
       ∙ ap (λ (l : List ℕ). Entry (length l) (statusOf l) (fileSizeOf l)) own

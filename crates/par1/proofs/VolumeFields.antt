@@ -12,7 +12,8 @@ use Rattle.little_endian.specs.Bytes.{toLe, numbers}
 use Rattle.little_endian.proofs.Numbers.{length-toLe}
 use Rattle.md5.specs.Digest.{md5}
 use Rattle.entries.specs.Walk.{entriesOf}
-use Rattle.par1_rules.specs.Layout.{signature, version, signatureOf, versionOf, programOf, controlHashOf, hashedOf, setHashOf, volumeNumberOf, countOf, listStartOf, listSizeOf, dataStartOf, dataSizeOf, listOf, dataOf}
+use Rattle.par1_rules.specs.Layout.{signature, version, signatureOf, versionOf, programOf, controlHashOf, hashedOf, setHashOf}
+use Rattle.par1_rules.specs.Layout.{volumeNumberOf, countOf, listStartOf, listSizeOf, dataStartOf, dataSizeOf, listOf, dataOf}
 use Rattle.par1_rules.specs.Hashes.{setHash}
 use Rattle.par1_write.specs.VolumeWriting.{numberBytes, bodyBytes, headBytes}
 use Rattle.par1_rules.proofs.HashLaws.{length-md5, length-set-hash}

@@ -22,20 +22,11 @@ Inv-loop n sizes nonempty₀ k₀ nonempty k =
 abbrev μ-loop : tie.MeasureT-loop
 μ-loop n sizes nonempty₀ k₀ nonempty k = length sizes - k
 
-one-to-requires : tie.Need-one-to-requires Inv-loop μ-loop
-one-to-requires c κs = search needs
-
-refused-opening-requires : tie.Need-refused-opening-requires Inv-loop μ-loop
-refused-opening-requires c κs = search needs
-
 returns : tie.Need-returns Inv-loop μ-loop
 returns c =
     let a = c .before .before .before .before .args in
     c .refused-opening .ensures
     ∙ open-out-of-range (a .n) (a .sizes .now) (sym (c .before .before .one-to .ensures) ∙ not-true (c .before .before .one-to .result) (c .before .if1 .taken))
-
-refused-opening-requires-2 : tie.Need-refused-opening-requires-2 Inv-loop μ-loop
-refused-opening-requires-2 c κs = search needs
 
 returns-2 : tie.Need-returns-2 Inv-loop μ-loop
 returns-2 c =
@@ -46,15 +37,6 @@ loop-holds : tie.Need-loop-holds Inv-loop μ-loop
 unfolding nonemptyOf
 loop-holds c = (omega arith, refl, λ j l. absurd (not-suc-le-zero l))
 
-mul-if3 : tie.Need-mul-if3 Inv-loop μ-loop
-mul-if3 c = omega arith
-
-shared-slice-read-if3 : tie.Need-shared-slice-read-if3 Inv-loop μ-loop
-shared-slice-read-if3 c = omega arith
-
-refused-opening-requires-3 : tie.Need-refused-opening-requires-3 Inv-loop μ-loop
-refused-opening-requires-3 c κs = search needs
-
 returns-3 : tie.Need-returns-3 Inv-loop μ-loop
 returns-3 c =
     let l = c .before .before .before .before .loop in
@@ -63,24 +45,6 @@ returns-3 c =
     let in-range = sym (ranged .before .one-to .ensures) ∙ not-false (ranged .before .one-to .result) (ranged .if1 .left) in
     let counted : length (a .sizes .now) ≡ a .n = c .before .before .before .before .before .if2 .left in
     c .refused-opening3 .ensures ∙ open-too-large (a .n) (a .sizes .now) in-range counted (l .k) (omega arith) (c .before .if3 .taken)
-
-mul-if4 : tie.Need-mul-if4 Inv-loop μ-loop
-mul-if4 c = omega arith
-
-shared-slice-read-if4 : tie.Need-shared-slice-read-if4 Inv-loop μ-loop
-shared-slice-read-if4 c = omega arith
-
-add-insert : tie.Need-add-insert Inv-loop μ-loop
-add-insert c = omega arith
-
-insert-requires : tie.Need-insert-requires Inv-loop μ-loop
-insert-requires c κs = search needs
-
-add-k : tie.Need-add-k Inv-loop μ-loop
-add-k c = omega arith
-
-loop-less : tie.Need-loop-less Inv-loop μ-loop
-loop-less c = omega arith
 
 loop-again : tie.Need-loop-again Inv-loop μ-loop
 loop-again c =
@@ -111,21 +75,21 @@ open-spec =
     (tie.spec
     Inv-loop
     μ-loop
-    one-to-requires
-    refused-opening-requires
+    (λ c κs. search needs)
+    (λ c κs. search needs)
     returns
-    refused-opening-requires-2
+    (λ c κs. search needs)
     returns-2
     loop-holds
-    mul-if3
-    shared-slice-read-if3
-    refused-opening-requires-3
+    (λ c. omega arith)
+    (λ c. omega arith)
+    (λ c κs. search needs)
     returns-3
-    mul-if4
-    shared-slice-read-if4
-    add-insert
-    insert-requires
-    add-k
-    loop-less
+    (λ c. omega arith)
+    (λ c. omega arith)
+    (λ c. omega arith)
+    (λ c κs. search needs)
+    (λ c. omega arith)
+    (λ c. omega arith)
     loop-again
     returns-4)

@@ -26,12 +26,6 @@ abbrev μ-loop : tie.MeasureT-loop
 loop-holds : tie.Need-loop-holds Inv-loop μ-loop
 loop-holds c = (omega arith, λ j l. absurd (not-suc-le-zero l))
 
-has-requires : tie.Need-has-requires Inv-loop μ-loop
-has-requires c κs = search needs
-
-one-to-requires : tie.Need-one-to-requires Inv-loop μ-loop
-one-to-requires c κs = search needs
-
 returns : tie.Need-returns Inv-loop μ-loop
 unfolding within
 returns c =
@@ -40,12 +34,6 @@ returns c =
     sym (all-false 256 (λ k. not (member (a .set) k) || oneTo (a .m) k) (l .k) (omega arith)
     (ap₂ (λ (x y : Bool). not x || y) (sym (c .before .before .before .has .ensures) ∙ c .before .before .if1 .taken)
     (sym (c .before .one-to .ensures) ∙ not-true (c .before .one-to .result) (c .if2 .taken))))
-
-add-k : tie.Need-add-k Inv-loop μ-loop
-add-k c = omega arith
-
-loop-less : tie.Need-loop-less Inv-loop μ-loop
-loop-less c = omega arith
 
 loop-again : tie.Need-loop-again Inv-loop μ-loop
 loop-again c =
@@ -73,10 +61,10 @@ within-spec =
     Inv-loop
     μ-loop
     loop-holds
-    has-requires
-    one-to-requires
+    (λ c κs. search needs)
+    (λ c κs. search needs)
     returns
-    add-k
-    loop-less
+    (λ c. omega arith)
+    (λ c. omega arith)
     loop-again
     returns-2)
