@@ -7,13 +7,13 @@
 use mathlib.Core.Path.{_≡_, refl, sym, ap, _∙_, subst}
 use mathlib.Core.Bool.{Bool, true, false, cond, _&&_, false≢true}
 use mathlib.Core.List.{List, [], _∷_}
-use Prim.Native.Nat.{ℕ, zero, suc, _<_, _≤_, _-_}
-use native.Mathlib.Nat.{not-suc-le-zero, le-of-suc-le-suc}
+use Prim.Native.Nat.{ℕ, suc, _<_, _≤_, _-_}
 use native.Mathlib.Omega.{arith}
 use native.Mathlib.Decide.{decLt}
 use lib.Dec.{leb, eqb}
-use lib.ListN.{length, getD}
 use Rattle.computed_tests.specs.Numbers.{oneTo}
+use Rattle.computed_tests.specs.Lists.{listBelow}
+use Rattle.computed_tests.proofs.Lists.{length-listBelow, listBelow-at}
 use Rattle.computed_tests.proofs.Tests.{oneTo-inside}
 use Rattle.parity.specs.Coefficient.{coefficient}
 use Rattle.parity.specs.Parity.{isFile}
@@ -88,21 +88,6 @@ module _ (rule : ℕ → ℕ → ℕ) where
 
 -- ---- sizes for a set of files
 
-table : ℕ → (ℕ → ℕ) → List ℕ
-table zero g = []
-table (suc n) g = g 0 ∷ table n (λ i. g (suc i))
-
-length-table : (n : ℕ) (g : ℕ → ℕ) → length (table n g) ≡ n
-unfolding table
-length-table zero g = refl
-length-table (suc n) g = ap suc (length-table n (λ i. g (suc i)))
-
-table-at : (n : ℕ) (g : ℕ → ℕ) (i : ℕ) → i < n → getD (table n g) i 0 ≡ g i
-unfolding table
-table-at zero g i l = absurd (not-suc-le-zero l)
-table-at (suc n) g zero l = refl
-table-at (suc n) g (suc i) l = table-at n (λ i. g (suc i)) i (le-of-suc-le-suc l)
-
 one-or-none : (b : Bool) → cond b 1 0 ≤ 1
 one-or-none true = omega arith
 one-or-none false = omega arith
@@ -128,7 +113,7 @@ module _ (s : Inventory) (valid : isInventory s ≡ true) (fw : Words (s .files)
   n-range = oneTo-inside 254 (s .n) (n-valid s valid)
 
   sizes : List ℕ
-  sizes = table (s .n) (λ i. cond (member (s .nonempty) (suc i)) 1 0)
+  sizes = listBelow (s .n) (λ i. cond (member (s .nonempty) (suc i)) 1 0)
 
   start : Inventory
   start = fresh (s .n) sizes
@@ -136,9 +121,9 @@ module _ (s : Inventory) (valid : isInventory s ≡ true) (fw : Words (s .files)
   opens : outcome start 0 ≡ openStep (s .n) sizes
   unfolding sizes start
   opens =
-      open-accepted (s .n) sizes (n-valid s valid) (length-table (s .n) (λ i. cond (member (s .nonempty) (suc i)) 1 0))
+      open-accepted (s .n) sizes (n-valid s valid) (length-listBelow (s .n) (λ i. cond (member (s .nonempty) (suc i)) 1 0))
       (λ k l.
-      let e = table-at (s .n) (λ i. cond (member (s .nonempty) (suc i)) 1 0) k l in
+      let e = listBelow-at (s .n) (λ i. cond (member (s .nonempty) (suc i)) 1 0) k l in
       let b = one-or-none (member (s .nonempty) (suc k)) in
       omega arith)
 
@@ -147,7 +132,7 @@ module _ (s : Inventory) (valid : isInventory s ≡ true) (fw : Words (s .files)
   size-bit f h =
       let b = oneTo-inside (s .n) f h in
       let e : suc (f - 1) ≡ f = omega arith in
-      ap (leb 1) (table-at (s .n) (λ i. cond (member (s .nonempty) (suc i)) 1 0) (f - 1) (omega arith))
+      ap (leb 1) (listBelow-at (s .n) (λ i. cond (member (s .nonempty) (suc i)) 1 0) (f - 1) (omega arith))
       ∙ one-is (member (s .nonempty) (suc (f - 1))) ∙ ap (member (s .nonempty)) e
 
   nonempty-same : nonemptyOf sizes (s .n) ≡ s .nonempty

@@ -20,7 +20,6 @@ use Rattle.little_endian.specs.Bytes.{toLe}
 use Rattle.little_endian.proofs.Numbers.{length-toLe}
 use Rattle.little_endian.proofs.Reading.{leAt-append}
 use Rattle.md5.specs.Digest.{md5}
-use Rattle.refusals.specs.Limits.{maxFileSize}
 use Rattle.entries.specs.Entry.{entrySize, statusOf, fileSizeOf, md5Of, md5Of16k, nameOf, unitsOf, unitsAllowed, nameAllowed, fileSizeAllowed, entrySizeAllowed}
 use Rattle.entries.specs.Walk.{firstOf, entriesOf}
 use Rattle.entries.specs.declared.Item.the-variants.{Entry}
