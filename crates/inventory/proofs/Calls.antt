@@ -20,7 +20,9 @@ use Rattle.parity.proofs.Coefficients.{coefficient-byte}
 use Rattle.parity.specs.Coefficient.{coefficient}
 use Rattle.parity.specs.Parity.{isFile}
 use Rattle.inventory.specs.Recoverable.{State, isVolume}
-use Rattle.inventory.specs.Model.{Change, addFile, removeFile, addVolume, removeVolume, insert, inRange, already, changed, changeNumber, numberOf}
+use Rattle.inventory.specs.Model.{Change, addFile, removeFile, addVolume, removeVolume, insert, changed, numberOf}
+use Rattle.inventory.specs.Steps.{inRange}
+use Rattle.inventory.proofs.ChangeNumbers.{accepted-in-range}
 use Rattle.inventory.specs.Model.{Call, change, count, query, Reply, queried, opened, next, after}
 use Rattle.inventory.specs.Model.{Gives, GivesQuery, GivesMissing, undetermined, noRoom, recoverable, GivesAll}
 use Rattle.inventory.specs.Claim.{OneReply}
@@ -81,20 +83,13 @@ changed-ranged removeFile t f h r = record { files = λ g e. h .files g (and-bot
 changed-ranged addVolume t v h r = record { files = h .files; volumes = insert-in-range (isVolume (t .n)) (t .volumes) v r (h .volumes) }
 changed-ranged removeVolume t v h r = record { files = h .files; volumes = λ g e. h .volumes g (and-both (not (eqb g v)) (t .volumes g) e .1) }
 
--- an accepted change is in range
-accepted-in-range : (ranged done : Bool) → changeNumber ranged done ≡ 0 → ranged ≡ true
-unfolding changeNumber
-accepted-in-range true done e = refl
-accepted-in-range false done e = absurd (omega arith)
-
 next-ranged : (t : State) (c : Call) → Ranged t → Ranged (next t c)
 unfolding next
 next-ranged t (change c k) h = go (eqb (numberOf t c k) 0) refl
   where
     go : (b : Bool) → eqb (numberOf t c k) 0 ≡ b → Ranged (cond b (changed c t k) t)
     go true e =
-        changed-ranged c t k h
-        (accepted-in-range (inRange c (t .n) k) (already c (t .files) (t .volumes) k) (eqb-true (numberOf t c k) 0 e))
+        changed-ranged c t k h (accepted-in-range t c k (eqb-true (numberOf t c k) 0 e))
     go false e = h
 next-ranged t count h = h
 next-ranged t (query f room) h = h

@@ -9,6 +9,7 @@ mod Following
 mod CoefficientRows
 mod QuerySteps
 mod Queries
+mod ChangeNumbers
 pub mod Calls
 pub mod Told
 pub mod Determined

@@ -17,7 +17,7 @@ use borrow.Author.Tests.{eq-eqb, ne-eqb, le-leb, lt-leb}
 use Rattle.computed_tests.specs.Numbers.{oneTo, allBelow}
 use Rattle.computed_tests.proofs.Tests.{all-false, all-true}
 use Rattle.number_sets.specs.Sets.{inserted}
-use Rattle.inventory.specs.Model.{changeNumber, unlessRefused}
+use Rattle.inventory.specs.Steps.{changeNumber, unlessRefused}
 use Rattle.inventory.specs.Steps.{ifInventory, outcome, accepted, withFiles, withVolumes, fresh, refusedOpening, nonemptyOf, openStep}
 use Rattle.inventory.specs.declared.Inventory.{Inventory}
 use Rattle.inventory.specs.declared.Outcome.{Outcome}

@@ -20,9 +20,11 @@ use Rattle.number_sets.specs.Sets.{member, inserted, removed}
 use Rattle.inventory.specs.Recoverable.{State}
 use Rattle.inventory.specs.Model as M
 use Rattle.inventory.specs.Model.{Change, addFile, removeFile, addVolume, removeVolume}
-use Rattle.inventory.specs.Model.{insert, remove, inRange, already, changed, changeNumber, unlessRefused}
+use Rattle.inventory.specs.Model.{insert, remove, changed, numberOf}
 use Rattle.inventory.specs.Model.{Call, change, count, query, Reply, numbered, queried, next, Gives}
-use Rattle.inventory.specs.Steps.{within, isInventory, ifInventory, accepted, withFiles, withVolumes, afterChange, changeStep, countStep, answerNumber}
+use Rattle.inventory.specs.Steps.{within, isInventory, ifInventory, inRange, already, changeNumber, unlessRefused}
+use Rattle.inventory.specs.Steps.{accepted, withFiles, withVolumes, afterChange, changeStep, countStep, answerNumber}
+use Rattle.inventory.proofs.ChangeNumbers.{model-number}
 use Rattle.inventory.specs.Query.{stateOf, Matches, Queried}
 use Rattle.inventory.specs.Claim.{Step}
 use Rattle.inventory.specs.declared.Inventory.{Inventory}
@@ -123,7 +125,11 @@ module _ (size : ℕ → ℕ) (s : Inventory) (R : Represents size (stateOf s si
     meets-change : (c : Change) (k : ℕ) → Met rule (change c k) (numbered (changeStep c s k .number)) (changeStep c s k .next)
     unfolding Gives next changeStep ifInventory changeNumber
     meets-change c k =
-        by (isInventory s) (inRange c (s .n) k) (already c (member (s .files)) (member (s .volumes)) k) (R .valid) (changed-represents c k)
+        let same = model-number (stateOf s size) c k in
+        let met = by (isInventory s) (inRange c (s .n) k) (already c (member (s .files)) (member (s .volumes)) k) (R .valid) (changed-represents c k) in (
+          met .0 ∙ ap numbered (sym same),
+          subst (λ (n : ℕ). Represents size (cond (eqb n 0) (changed c (stateOf s size) k) (stateOf s size)) (changeStep c s k .next)) (sym same) (met .1),
+        )
       where
         by : {t₁ : State} {s₁ : Inventory} (valid ranged done : Bool) → valid ≡ true → (ranged ≡ true → Represents size t₁ s₁)
             → (numbered (cond valid (changeNumber ranged done) 10) ≡ numbered (changeNumber ranged done))

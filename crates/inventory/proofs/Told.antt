@@ -6,7 +6,7 @@
 -- Assumes nothing.
 use mathlib.Core.Path.{_≡_, refl, sym, ap, _∙_, subst, fun-ext}
 use mathlib.Core.Logic.{⊎-elim, _⊎_, inl, inr}
-use mathlib.Core.Bool.{Bool, true, false, _||_, false≢true}
+use mathlib.Core.Bool.{Bool, true, false, cond, _||_, false≢true}
 use mathlib.Core.List.{List, [], _∷_, List·Memᴰ, List·Memᴰ·head, List·Memᴰ·tail, List·Memᴰ·not-nil, List·Memᴰ·cases-cons, Memᴰ·cast}
 use Prim.Native.Nat.{ℕ, zero, suc, _≤_, _+_}
 use native.Mathlib.Omega.{arith}
@@ -14,8 +14,9 @@ use native.Mathlib.Decide.{ℕ-discrete}
 use lib.Dec.{eqb}
 use borrow.Author.Tests.{eq-eqb, eqb-true}
 use Rattle.computed_tests.proofs.Tests.{oneTo-inside}
-use Rattle.inventory.specs.Recoverable.{State}
-use Rattle.inventory.specs.Model.{addFile, removeFile, addVolume, removeVolume, inRange, already, changed, changeNumber, unlessRefused}
+use Rattle.parity.specs.Parity.{isFile}
+use Rattle.inventory.specs.Recoverable.{State, isVolume}
+use Rattle.inventory.specs.Model.{addFile, removeFile, addVolume, removeVolume, changed, numberOf}
 use Rattle.inventory.specs.Model.{Call, change, count, query, opened, withFiles, withVolumes, insert, next, after}
 use Rattle.inventory.specs.Claim.{Adds, AddsExactly, Retold}
 use Rattle.inventory.proofs.Calls.{after-same, Ranged, opened-ranged, after-ranged}
@@ -69,11 +70,10 @@ insert-present s f e = fun-ext (λ g. tests-same (insert f s g) (s g) (insert-in
 
 -- adding what is in range gives the set with it, also where it is present already
 add-next : (t : State) (put : (ℕ → Bool) → State) (s : ℕ → Bool) (f : ℕ) (ranged : Bool) → put s ≡ t → ranged ≡ true
-    → unlessRefused (changeNumber ranged (s f)) (put (insert f s)) t ≡ put (insert f s)
-unfolding changeNumber
+    → cond (eqb (cond ranged (cond (s f) 11 0) 10) 0) (put (insert f s)) t ≡ put (insert f s)
 add-next t put s f ranged same r = go ranged r (s f) refl
   where
-    go : (a : Bool) → a ≡ true → (b : Bool) → s f ≡ b → unlessRefused (changeNumber a b) (put (insert f s)) t ≡ put (insert f s)
+    go : (a : Bool) → a ≡ true → (b : Bool) → s f ≡ b → cond (eqb (cond a (cond b 11 0) 10) 0) (put (insert f s)) t ≡ put (insert f s)
     go true r true e = sym same ∙ ap put (sym (insert-present s f e))
     go true r false e = refl
     go false r b e = absurd (false≢true r)
@@ -113,7 +113,7 @@ one-more-added h hf hv a = record {
 
 module _ (t : State) (ranged : Ranged t) where
   after-adds : (cs : List Call) (u : State) → Inside u t → ((c : Call) → List·Memᴰ c cs → Adds t c) → Added t u cs (after u cs)
-  unfolding after next Adds inRange already changed
+  unfolding after next Adds numberOf changed
   after-adds [] u h only = record {
     inside = h;
     keeps = record { same-n = refl; same-size = refl; files = λ f e. e; volumes = λ v e. e };
@@ -122,7 +122,7 @@ module _ (t : State) (ranged : Ranged t) where
   }
   after-adds (change addFile g ∷ cs) u h only =
       subst (λ (x : State). Added t u (change addFile g ∷ cs) (after x cs))
-      (sym (add-next u (withFiles u) (u .files) g _ refl (rw (h .same-n) (ranged .files g there))))
+      (sym (add-next u (withFiles u) (u .files) g (isFile (u .n) g) refl (rw (h .same-n) (ranged .files g there))))
       (one-more-added
       record { same-n = refl; same-size = refl; files = insert-other (u .files) g; volumes = λ v e. e }
       (λ f p. ap (insert g (u .files)) (file-is f g p) ∙ insert-here (u .files) g) (λ v p. absurd (differ g v (sym p)))
@@ -140,7 +140,7 @@ module _ (t : State) (ranged : Ranged t) where
   after-adds (change removeFile g ∷ cs) u h only = absurd (only (change removeFile g) (List·Memᴰ·head refl))
   after-adds (change addVolume w ∷ cs) u h only =
       subst (λ (x : State). Added t u (change addVolume w ∷ cs) (after x cs))
-      (sym (add-next u (withVolumes u) (u .volumes) w _ refl (rw (h .same-n) (ranged .volumes w there))))
+      (sym (add-next u (withVolumes u) (u .volumes) w (isVolume (u .n) w) refl (rw (h .same-n) (ranged .volumes w there))))
       (one-more-added
       record { same-n = refl; same-size = refl; files = λ f e. e; volumes = insert-other (u .volumes) w }
       (λ f p. absurd (differ f w p)) (λ v p. ap (insert w (u .volumes)) (volume-is v w p) ∙ insert-here (u .volumes) w)

@@ -6,12 +6,8 @@
 --   opened n size              a set of n files of these sizes, nothing present
 --   withFiles t s, withVolumes t s     the state t with the files, the volumes of the set s present
 --   insert f s, remove f s     the set s with f, without f
---   inRange c n k              whether k is a number that the change c of n files can be of
---   already c files volumes k  whether all is as the change c of number k is to make it, these files and volumes being present
 --   changed c t k              the state t after the change c of number k
---   changeNumber r a           the number of a change: r says whether it is in range, a whether all is already so
---   numberOf t c k             that of the change c of number k in the state t
---   unlessRefused k a b        a, or b where the number k is a refusal's
+--   numberOf t c k             the number of that change
 --   next t c                   the state after the call c
 --   after t cs                 the state after the calls cs
 --   GivesMissing rule t f room r      the model's reply to a query for the missing file f is r
@@ -76,20 +72,6 @@ remove f s g = not (eqb g f) && s g
 
 -- ---- changes
 
--- "10 if f is not 1 to n", "Volume v: the same, with 1 to 255 - n for its range"
-unfoldable pub inRange : Change → ℕ → ℕ → Bool
-inRange addFile n f = isFile n f
-inRange removeFile n f = isFile n f
-inRange addVolume n v = isVolume n v
-inRange removeVolume n v = isVolume n v
-
--- "11 if f is in hand", "11 if f is not in hand"
-unfoldable pub already : Change → (ℕ → Bool) → (ℕ → Bool) → ℕ → Bool
-already addFile files volumes f = files f
-already removeFile files volumes f = not (files f)
-already addVolume files volumes v = volumes v
-already removeVolume files volumes v = not (volumes v)
-
 -- "and f is in hand", "and f no longer is"
 unfoldable pub changed : Change → State → ℕ → State
 changed addFile t f = withFiles t (insert f (t .files))
@@ -97,19 +79,17 @@ changed removeFile t f = withFiles t (remove f (t .files))
 changed addVolume t v = withVolumes t (insert v (t .volumes))
 changed removeVolume t v = withVolumes t (remove v (t .volumes))
 
--- "10 ..., 11 ...; else accepted"
-unfoldable pub changeNumber : Bool → Bool → ℕ
-changeNumber ranged done = cond ranged (cond done 11 0) 10
-
-abbrev pub numberOf : State → Change → ℕ → ℕ
-numberOf t c k = changeNumber (inRange c (t .n) k) (already c (t .files) (t .volumes) k)
+-- "Note file f: 10 if f is not 1 to n, 11 if f is in hand; else accepted", "Withdraw file f: 10 the same, 11 if f is not in hand; else
+-- accepted", "Volume v: the same, with 1 to 255 - n for its range"
+unfoldable pub numberOf : State → Change → ℕ → ℕ
+numberOf t addFile f = cond (isFile (t .n) f) (cond (t .files f) 11 0) 10
+numberOf t removeFile f = cond (isFile (t .n) f) (cond (t .files f) 0 11) 10
+numberOf t addVolume v = cond (isVolume (t .n) v) (cond (t .volumes v) 11 0) 10
+numberOf t removeVolume v = cond (isVolume (t .n) v) (cond (t .volumes v) 0 11) 10
 
 -- "A refused call changes nothing"
-abbrev pub unlessRefused : {A : Type 0} → ℕ → A → A → A
-unlessRefused number changed before = cond (eqb number 0) changed before
-
 unfoldable pub next : State → Call → State
-next t (change c k) = unlessRefused (numberOf t c k) (changed c t k) t
+next t (change c k) = cond (eqb (numberOf t c k) 0) (changed c t k) t
 next t count = t
 next t (query f room) = t
 

@@ -10,7 +10,11 @@
 --   refusedOpening k     the outcome of an opening refused with k
 --   openStep             opening
 --   withFiles s ws, withVolumes s ws     the inventory s with the files, the volumes of the set ws present
+--   inRange c n k        whether k is a number that the change c of n files can be of
+--   already c files volumes k     whether all is as the change c of number k is to make it, these files and volumes being present
+--   changeNumber r a     the number of a change: r says whether it is in range, a whether all is already so
 --   afterChange c s k    the inventory s after the change c of number k
+--   unlessRefused k a b  a, or b where the number k is a refusal's
 --   accepted k s₁ s      the outcome of a call with the number k: s₁, or s where it is refused
 --   changeStep c s k     the change c of number k: adding and removing
 --   countReply           the document's number and values for each case of a count
@@ -24,8 +28,10 @@ use lib.Dec.{leb, eqb}
 use lib.ListN.{length, getD, replicate}
 use Rattle.computed_tests.specs.Numbers.{oneTo, allBelow}
 use Rattle.refusals.specs.Limits.{maxFileSize, maxFiles}
+use Rattle.parity.specs.Parity.{isFile}
 use Rattle.number_sets.specs.Sets.{member, inserted, removed, sizeBelow}
-use Rattle.inventory.specs.Model.{Change, addFile, removeFile, addVolume, removeVolume, inRange, already, changeNumber, unlessRefused}
+use Rattle.inventory.specs.Recoverable.{isVolume}
+use Rattle.inventory.specs.Model.{Change, addFile, removeFile, addVolume, removeVolume}
 use Rattle.inventory.specs.Model.{Reply, numbered, counts}
 use Rattle.inventory.specs.declared.Inventory.{Inventory}
 use Rattle.inventory.specs.declared.Outcome.{Outcome}
@@ -84,6 +90,24 @@ withFiles s ws = record { n = s .n; files = ws; volumes = s .volumes; nonempty =
 abbrev pub withVolumes : Inventory → List ℕ → Inventory
 withVolumes s ws = record { n = s .n; files = s .files; volumes = ws; nonempty = s .nonempty }
 
+-- "a file or volume number .. is outside its range"
+unfoldable pub inRange : Change → ℕ → ℕ → Bool
+inRange addFile n f = isFile n f
+inRange removeFile n f = isFile n f
+inRange addVolume n v = isVolume n v
+inRange removeVolume n v = isVolume n v
+
+-- "noted what is in hand, or withdrew what is not"
+unfoldable pub already : Change → (ℕ → Bool) → (ℕ → Bool) → ℕ → Bool
+already addFile files volumes f = files f
+already removeFile files volumes f = not (files f)
+already addVolume files volumes v = volumes v
+already removeVolume files volumes v = not (volumes v)
+
+-- "Noting and withdrawing test 10, then 11."
+unfoldable pub changeNumber : Bool → Bool → ℕ
+changeNumber ranged done = cond ranged (cond done 11 0) 10
+
 -- "The sheet keeps one bit for each file number and one for each volume number"
 unfoldable pub afterChange : Change → Inventory → ℕ → Inventory
 afterChange addFile s f = withFiles s (inserted f (s .files))
@@ -92,10 +116,12 @@ afterChange addVolume s v = withVolumes s (inserted v (s .volumes))
 afterChange removeVolume s v = withVolumes s (removed v (s .volumes))
 
 -- "A refusal returns its number only ..; the sheet is handed back as it came."
+abbrev pub unlessRefused : {A : Type 0} → ℕ → A → A → A
+unlessRefused number changed before = cond (eqb number 0) changed before
+
 abbrev pub accepted : ℕ → Inventory → Inventory → Outcome
 accepted number changed s = outcome (unlessRefused number changed s) number
 
--- "Noting and withdrawing test 10, then 11."
 unfoldable pub changeStep : Change → Inventory → ℕ → Outcome
 changeStep c s k =
     accepted (ifInventory s (changeNumber (inRange c (s .n) k) (already c (member (s .files)) (member (s .volumes)) k)))

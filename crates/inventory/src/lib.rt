@@ -1,7 +1,8 @@
 // What of a set of files and parity volumes is present, and which missing files come back (document 01, "The sheet").
 ghost use mathlib.Core.Path.{_≡_};
-ghost use Rattle.inventory.specs.Model.{addFile, removeFile, addVolume, removeVolume, changeNumber, unlessRefused};
+ghost use Rattle.inventory.specs.Model.{addFile, removeFile, addVolume, removeVolume};
 ghost use Rattle.inventory.specs.Steps.{ifInventory, zeros, openStep, refusedOpening, changeStep, countReply, countStep};
+ghost use Rattle.inventory.specs.Steps.{changeNumber, unlessRefused};
 
 mod query;
 mod ranges;

@@ -1,5 +1,5 @@
--- Document 01, P6, as a set with a file between them that is not saved: "files (1, 2) and (3): volume 1 is (2, 2), volume 2 is (7, 2),
--- volume 3 is (13, 2)".
+-- Document 01, P6, as a set with a file between them that is not saved and is the longest: "files (1, 2) and (3): volume 1 is (2, 2),
+-- volume 2 is (7, 2), volume 3 is (13, 2)", as long as "the greatest file size in the list".
 -- Assumes nothing.
 use mathlib.Core.Path.{_≡_, refl}
 use mathlib.Core.List.{List, [], _∷_, flatten}
@@ -23,12 +23,12 @@ abbrev file : List ℕ → ℕ → File
 file contents status = record { contents = contents; status = status; name = 65 ∷ 0 ∷ [] }
 
 abbrev p6 : List File
-p6 = file (1 ∷ 2 ∷ []) 1 ∷ file (9 ∷ []) 0 ∷ file (3 ∷ []) 1 ∷ []
+p6 = file (1 ∷ 2 ∷ []) 1 ∷ file (9 ∷ 9 ∷ 9 ∷ []) 0 ∷ file (3 ∷ []) 1 ∷ []
 
 p6-data :
-    (dataFor coefficient 1 p6 ≡ 2 ∷ 2 ∷ [])
-    × (dataFor coefficient 2 p6 ≡ 7 ∷ 2 ∷ [])
-    × (dataFor coefficient 3 p6 ≡ 13 ∷ 2 ∷ [])
+    (dataFor coefficient 1 p6 ≡ 2 ∷ 2 ∷ 0 ∷ [])
+    × (dataFor coefficient 2 p6 ≡ 7 ∷ 2 ∷ 0 ∷ [])
+    × (dataFor coefficient 3 p6 ≡ 13 ∷ 2 ∷ 0 ∷ [])
 unfolding parity listBelow parityByte coefficient product power isCounted sumBelow polyProduct remainder coeff
 p6-data = (refl, refl, refl)
 

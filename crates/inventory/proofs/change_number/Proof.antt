@@ -3,7 +3,7 @@
 use mathlib.Core.Path.{_≡_, sym, _∙_}
 use mathlib.Core.Bool.{true}
 use borrow.Author.Tests.{not-true, not-false}
-use Rattle.inventory.specs.Model.{changeNumber}
+use Rattle.inventory.specs.Steps.{changeNumber}
 use Rattle.inventory.specs.Steps.{isInventory, ifInventory}
 use borrow.Author.Needs.{needs}
 use Rattle.inventory.proofs.change_number.Statement.{statement}

@@ -1,7 +1,7 @@
 -- `inventory::Inventory::add_file` meets its contract.
 -- Assumes nothing.
 use mathlib.Core.Path.{_∙_}
-use Rattle.inventory.specs.Model.{inRange, already}
+use Rattle.inventory.specs.Steps.{inRange, already}
 use Rattle.inventory.specs.Steps.{afterChange, changeStep}
 use Rattle.inventory.proofs.Outcomes.{files-changed, number-same}
 use borrow.Author.Needs.{needs}
