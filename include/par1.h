@@ -4,10 +4,10 @@
  * The library is for x86-64. It wants memcpy and memset of the C library and nothing else; it allocates nothing and keeps nothing between
  * calls, so calls on different bytes may run at the same time.
  *
- * Each call that can refuse answers 0 where it is accepted, else the number of its refusal; a refused call changes no byte. A call
- * reads and writes only the bytes it is lent, each a pointer and a length; bytes of `out` past those written stay as they were. The pointer
- * is not NULL, also where the length is 0: lend the address of any byte. Bytes that a call writes must not overlap others that it is lent.
- * Numbers in lent bytes are 64 bits wide, lowest byte first.
+ * Each call that can refuse answers 0 where it is accepted, else the number of its refusal; a par1_answer tells more beside it. A refused call
+ * changes no byte. A call reads and writes only the bytes it is lent, each a pointer and a length; bytes of `out` past those written stay as
+ * they were. The pointer is not NULL, also where the length is 0: lend the address of any byte. Bytes that a call writes must not overlap
+ * others that it is lent. Numbers in lent bytes are 64 bits wide, lowest byte first.
  *
  * Stack: par1_query takes 66 KiB; par1_md5, par1_read, par1_write_entry, par1_write_volume, par1_check and par1_open less than 3 KiB; the
  * others less than 1 KiB (measured, docs/BENCHMARKS.md).
@@ -30,7 +30,6 @@ enum {
     PAR1_VERSION = 3,       /* the version is not 65,536 */
     PAR1_LAYOUT = 4,        /* list or data does not lie where it must */
     PAR1_CONTROL_HASH = 5,  /* the control hash differs */
-    PAR1_ENTRY = 6,         /* an entry or the list breaks a rule, or the count differs */
     PAR1_VOLUME_NUMBER = 7, /* too many files, or the volume number does not go with them */
     PAR1_SET_HASH = 8,      /* the set hash differs */
     PAR1_DATA_SIZE = 9,     /* the size of the data breaks its rule */
@@ -39,8 +38,19 @@ enum {
     PAR1_UNDETERMINED = 12, /* what is present does not determine the file */
     PAR1_PRESENT = 13,      /* the file is present */
     PAR1_NO_ROOM = 14,      /* the bytes lent for the result are too few */
-    PAR1_DIFFERENT = 15     /* length, MD5 or 16k MD5 differ from the entry */
+    PAR1_DIFFERENT = 15,    /* length, MD5 or 16k MD5 differ from the entry */
+    PAR1_ENTRY_SIZE = 16,   /* an entry's own size is odd, below 58 or past the end, or fewer than 8 bytes are left for it */
+    PAR1_FILE_SIZE = 17,    /* an entry's file size is above its limit; or the contents or the status of an entry to be written */
+    PAR1_NAME = 18,         /* a unit of an entry's name is not allowed; or the name of an entry to be written is empty or odd */
+    PAR1_ENTRY_COUNT = 19   /* the number of entries differs */
 };
+
+/* An answer that has more to say than a number: the number, and a value that goes with it. The value of a refusal 16 to 18 is the place of
+ * the entry in its list, from 1; of any other refusal, and of an accepted call, it is 0. So an accepted call still answers 0, and a refusal
+ * without a place is its bare number. */
+typedef uint64_t par1_answer;
+#define PAR1_NUMBER(a) ((uint32_t)((a) % 32))
+#define PAR1_VALUE(a) ((a) / 32)
 
 /* How many bytes the results take. A weight is a byte. */
 enum {
@@ -89,32 +99,33 @@ uint32_t par1_coefficient(uint64_t file, uint64_t volume, uint8_t *out, size_t o
 void par1_mul_add(uint8_t weight, const uint8_t *fragment, size_t fragment_len, uint8_t *buffer, size_t buffer_len);
 
 /* What an index file or volume holds, into the first 56 bytes of `out`: seven numbers, at PAR1_PARTS_..: program identifier, volume number
- * (0 for an index), entries, saved entries, list size, data start, data size. The list starts at byte 96. Refuses with the first of the
- * numbers 1 to 9 above that holds (1: the length is not 96 to 33,554,432), then with 14 where `out` is shorter. */
-uint32_t par1_read(const uint8_t *file, size_t file_len, uint8_t *out, size_t out_len);
+ * (0 for an index), entries, saved entries, list size, data start, data size. The list starts at byte 96. Refuses, in this order, with 1: the
+ * length is not 96 to 33,554,432; 2 to 5; 16, 17 or 18: an entry breaks a rule, the first that does, with its place, and the first of its
+ * rules; 19: the number of entries differs; 7 to 9; 14: `out` is shorter. */
+par1_answer par1_read(const uint8_t *file, size_t file_len, uint8_t *out, size_t out_len);
 
 /* What the first entry of a list, or of what is left of one, says, into the first 24 bytes of `out`: three numbers, at PAR1_ENTRY_..: its
  * length, its status (bit 0: saved in the parity), its file's size; three zeros where the list is over (list_len is 0), for no entry has the
- * length 0. The entry is the first `length` bytes, and the next one comes after it. Refuses with 6 where the entry breaks a rule, then with
- * 14 where `out` is shorter. */
+ * length 0. The entry is the first `length` bytes, and the next one comes after it. Refuses with 16, 17 or 18, the first that holds, where the
+ * entry breaks a rule, then with 14 where `out` is shorter. */
 uint32_t par1_entry(const uint8_t *list, size_t list_len, uint8_t *out, size_t out_len);
 
 /* Writes the entry of a file with these contents, status and name (in 16-bit units, two bytes each) over the first 56 + name_len bytes of
- * `out`. Refuses with 6 where the contents are above 16,777,216 bytes, the status is above 3, or the name is not one or more whole units
- * other than 47 and 92, then with 14 where `out` is shorter. */
+ * `out`. Refuses with 17 where the contents are above 16,777,216 bytes or the status is above 3, with 18 where the name is not one or more whole
+ * units other than 47 and 92, then with 14 where `out` is shorter. */
 uint32_t par1_write_entry(const uint8_t *contents, size_t contents_len, uint64_t status, const uint8_t *name, size_t name_len, uint8_t *out,
                           size_t out_len);
 
 /* Writes a volume, or an index where number is 0, from its list of entries and its data, over the first 96 + list_len + data_len bytes of
- * `out`. Refuses, in this order, with 6: an entry breaks a rule, or the entries do not fill the list; 7: more than 254 saved entries, or a
- * volume with none, or its number and the saved entries are above 255 together; 9: data_len is odd in an index, or not the greatest file
- * size in a volume; 1: the whole is above 33,554,432 bytes; 14: `out` is shorter. Whether the data is the parity of the files is the
- * caller's. */
-uint32_t par1_write_volume(uint32_t program, uint64_t number, const uint8_t *list, size_t list_len, const uint8_t *data, size_t data_len,
-                           uint8_t *out, size_t out_len);
+ * `out`. Refuses, in this order, with 16, 17 or 18: an entry breaks a rule, the first that does, with its place, and the first of its rules
+ * (bytes after the last entry that are none are 16 at the place after it); 7: more than 254 saved entries, or a volume with none, or its
+ * number and the saved entries are above 255 together; 9: data_len is odd in an index, or not the greatest file size in a volume; 1: the
+ * whole is above 33,554,432 bytes; 14: `out` is shorter. Whether the data is the parity of the files is the caller's. */
+par1_answer par1_write_volume(uint32_t program, uint64_t number, const uint8_t *list, size_t list_len, const uint8_t *data, size_t data_len,
+                              uint8_t *out, size_t out_len);
 
-/* Whether `contents` are those of the file that `entry` describes. Refuses with 6 where the entry breaks a rule or does not fill its
- * bytes, then with 15 where length, MD5 or 16k MD5 differ. */
+/* Whether `contents` are those of the file that `entry` describes. Refuses with 16, 17 or 18, the first that holds, where the entry
+ * breaks a rule (16 also where it does not fill its bytes), then with 15 where length, MD5 or 16k MD5 differ. */
 uint32_t par1_check(const uint8_t *entry, size_t entry_len, const uint8_t *contents, size_t contents_len);
 
 /* An inventory says what of a set of n files and their volumes is present. It is 104 bytes, 13 numbers: n; the files present, the volumes
