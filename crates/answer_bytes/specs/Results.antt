@@ -2,13 +2,15 @@
 --
 --   byteInto r out       the number of the answer r, or 14, and what `out` then holds: the byte over its first
 --   partsBytes p         the parts of an accepted file: seven numbers
---   readInto r out       the number of the reading r, or 14, and what `out` then holds: the parts over its first bytes
+--   readInto r out       the refusal that the reading r is, or 14, and what `out` then holds: the parts over its first bytes
 --   entryBytes l st n    an entry's length, status and file size: three numbers
 --   entryInto i out      the number of a fault, or 14, and what `out` then holds: the numbers of the entry over its first bytes
 -- Assumes nothing.
 use mathlib.Core.List.{List, [], _∷_}
 use Prim.Native.Nat.{ℕ}
-use Rattle.lent_bytes.specs.Writing.{refused, written, withNumber}
+use Rattle.refusals.specs.Tests.{bare}
+use Rattle.refusals.specs.declared.Refusal.{Refusal}
+use Rattle.lent_bytes.specs.Writing.{refused, written, withRefusal, withNumber}
 use Rattle.entries.specs.Walk.{faultNumber}
 use Rattle.entries.specs.declared.Item.{Item}
 use Rattle.entries.specs.declared.Item.the-variants as item
@@ -20,7 +22,7 @@ use Rattle.par1_read.specs.declared.reading.Reading.{Reading}
 use Rattle.par1_read.specs.declared.reading.Reading.the-variants as reading
 
 unfoldable pub byteInto : ByteAnswer → List ℕ → ℕ × List ℕ
-byteInto (answer.Refused n) out = withNumber (refused n out)
+byteInto (answer.Refused n) out = withNumber (refused (bare n) out)
 byteInto (answer.Byte b) out = withNumber (written (b ∷ []) out)
 
 -- program identifier, volume number, entries, saved entries, list size, data start, data size
@@ -36,9 +38,9 @@ partsBytes p =
     ∷ p .«data_size»
     ∷ [])
 
-unfoldable pub readInto : Reading → List ℕ → ℕ × List ℕ
-readInto (reading.Refused n) out = withNumber (refused n out)
-readInto (reading.Accepted p) out = withNumber (written (partsBytes p) out)
+unfoldable pub readInto : Reading → List ℕ → Refusal × List ℕ
+readInto (reading.Refused r) out = withRefusal (refused r out)
+readInto (reading.Accepted p) out = withRefusal (written (partsBytes p) out)
 
 unfoldable pub entryBytes : ℕ → ℕ → ℕ → List ℕ
 entryBytes l status size = numbers (l ∷ status ∷ size ∷ [])
@@ -47,4 +49,4 @@ entryBytes l status size = numbers (l ∷ status ∷ size ∷ [])
 unfoldable pub entryInto : Item → List ℕ → ℕ × List ℕ
 entryInto (item.Entry l status size) out = withNumber (written (entryBytes l status size) out)
 entryInto item.End out = withNumber (written (entryBytes 0 0 0) out)
-entryInto (item.Fault f) out = withNumber (refused (faultNumber f) out)
+entryInto (item.Fault f) out = withNumber (refused (bare (faultNumber f)) out)

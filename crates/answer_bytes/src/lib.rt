@@ -9,6 +9,8 @@ use lent_bytes::write;
 use little_endian::write_numbers;
 use par1_read::Parts;
 use par1_read::Reading;
+use refusals::Refusal;
+use refusals::bare;
 
 // The length of the parts of a file, in bytes.
 const PARTS_LENGTH: usize = 56;
@@ -31,17 +33,17 @@ pub fn put_answer(answer: ByteAnswer, out: &mut [u8]) -> u32
     }
 }
 
-// The parts that a reading gives, over the first bytes of `out`.
-pub fn put_reading(reading: Reading, out: &mut [u8]) -> u32
+// The parts that a reading gives, over the first bytes of `out`; its refusal, or 14, with the number 0 where there is none.
+pub fn put_reading(reading: Reading, out: &mut [u8]) -> Refusal
     ensures { λ r. ⌜ (r, now (out .exit)) ≡ readInto reading (now (out .entry)) ⌝ }
 {
     match reading {
-        Reading::Refused(number) => {
-            return number;
+        Reading::Refused(refusal) => {
+            return refusal;
         }
         Reading::Accepted(parts) => {
             let bytes = bytes_of_parts(parts);
-            return write(out, &bytes);
+            return bare(write(out, &bytes));
         }
     }
 }

@@ -2,6 +2,7 @@
 --
 --   Sized n m, sized   an entry of n bytes may stand at the front of m bytes, in numbers
 --   first-end, first-size, first-file-size, first-name, first-entry     firstOf, by what the tests found
+--   length-sized       an entry that keeps every rule has 58 bytes or more, and lies in the list
 --   IsEntry, IsFault, is-end, is-entry, is-fault      what each answer of firstOf tells
 --   EntryAt, entry-at                                 an entry at a position of a list, as a loop over it meets it
 -- Assumes nothing.
@@ -90,6 +91,15 @@ pub record IsFault (s : List ℕ) (f : Fault) : Type 0 where
 allowed-sized : (s : List ℕ) → entryAllowed s ≡ true → Sized (entrySize s) (length s)
 unfolding entryAllowed
 allowed-sized s e = sized (entrySize s) (length s) (and-both (entrySizeAllowed (entrySize s) (length s)) _ e .0)
+
+pub length-sized : (s : List ℕ) → 0 < lengthOf s → (entryAllowed s ≡ true) × (58 ≤ lengthOf s) × (lengthOf s ≤ length s)
+unfolding lengthOf
+length-sized s found = by (entryAllowed s) refl found
+  where
+    by : (b : Bool) → b ≡ entryAllowed s → 0 < cond b (entrySize s) 0
+        → (b ≡ true) × (58 ≤ cond b (entrySize s) 0) × (cond b (entrySize s) 0 ≤ length s)
+    by true e h = let z = allowed-sized s (sym e) in (refl, z .low, z .high)
+    by false e h = absurd (omega arith)
 
 no-length : (s : List ℕ) → entryAllowed s ≡ false → lengthOf s ≡ 0
 unfolding lengthOf

@@ -1,5 +1,6 @@
 pub mod EntryLaws
 mod Examples
+pub mod FirstFaults
 pub mod KeepLaws
 pub mod NameLaws
 pub mod NumberingLaws

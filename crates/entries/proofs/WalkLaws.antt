@@ -2,11 +2,13 @@
 --
 --   entries-more   an entry at the front is the first entry
 --   entries-none   there is none where the front is the end or a fault
---   walkFrom t c   the totals t and those of the entries c, where nothing is left after them; or the fault there
+--   walkFrom t c   the totals t and those of the entries c, where nothing is left after them; or the refusal of what is left
 --   saved-most     an entry is one saved entry at most
 --   walk-start     the walk from no entries at all
 --   walk-more, walk-end, walk-fault    a step of the walk, by what is at the front
 --   walk-totals, walk-count, walk-saved    what a walk to the end tells
+--   entries-most   an entry has 58 bytes or more
+--   WalkRefused, walk-refused     what a walk to a fault tells
 --   Added t u      u is t with one entry more, and at most one saved entry more
 --   add-added      an entry more is one entry more, and one saved entry more at most
 -- Assumes nothing.
@@ -14,24 +16,26 @@ use mathlib.Core.Path.{_≡_, refl, sym, ap, ap₂, _∙_}
 use mathlib.Core.Bool.{Bool, true, false, cond}
 use mathlib.Core.Logic.{inl, inr}
 use mathlib.Core.List.{List, [], _∷_, map, foldr}
-use Prim.Native.Nat.{ℕ, _+_, _≤_, _<_, max}
+use Prim.Native.Nat.{ℕ, _+_, _*_, _/_, _≤_, _<_, max}
 use native.Mathlib.Omega.{arith}
-use lib.ListN.{length, take, drop}
+use lib.ListN.{length, take, drop, length-drop}
 use types.Run.{OneOf}
 use denote.Enum.Declared.{tagOf}
 use Rattle.entries.proofs.Item.{the-type}
 use Rattle.cut_lists.specs.Pieces.{Cut, before}
-use Rattle.cut_lists.proofs.CutLaws.{cut-none, cut-stop, cut-more}
+use Rattle.cut_lists.proofs.CutLaws.{cut-none, cut-stop, cut-more, cut-induct}
+use Rattle.refusals.specs.declared.Refusal.{Refusal}
 use Rattle.entries.specs.Entry.{statusOf, fileSizeOf, isSaved, savedCount, isCounted, lengthOf}
 use Rattle.entries.specs.Numbering.{keep, savedOf}
-use Rattle.entries.specs.Walk.{faultOf, firstOf, entriesOf, totalsOf, addEntry, walkedTo, walkOf}
+use Rattle.entries.specs.Walk.{faultOf, faultNumber, refusalAt, firstOf, entriesOf, totalsOf, addEntry, walkedTo, walkOf}
 use Rattle.entries.specs.declared.Fault.{Fault}
+use Rattle.entries.specs.declared.Fault.the-variants.{Size, FileSize, Name}
 use Rattle.entries.specs.declared.Item.{Item}
 use Rattle.entries.specs.declared.Item.the-variants as item
 use Rattle.entries.specs.declared.Totals.{Totals}
 use Rattle.entries.specs.declared.Walked.{Walked}
 use Rattle.entries.specs.declared.Walked.the-variants as walked
-use Rattle.entries.proofs.EntryLaws.{IsEntry, IsFault, is-end, is-fault}
+use Rattle.entries.proofs.EntryLaws.{length-sized, IsEntry, IsFault, is-end, is-fault}
 
 pub entries-more : {s : List ℕ} {n status size : ℕ} → IsEntry s n status size → entriesOf s ≡ before (take n s) (entriesOf (drop n s))
 entries-more {s} i =
@@ -120,14 +124,16 @@ walk-end t {s} e =
     ap (λ (l : List ℕ). walkFrom t (entriesOf l)) e ∙ ap (walkFrom t) (cut-none lengthOf)
     ∙ ap walked.Entries (same (omega arith) (omega arith) (omega arith))
 
-stopped : (t : Totals) (s : List ℕ) → 0 < length s → walkedTo t s ≡ walked.Fault (faultOf s)
+stopped : (t : Totals) (s : List ℕ) → 0 < length s → walkedTo t s ≡ walked.Refused (refusalAt (faultOf s) (t .entries + 1))
 stopped t [] h = absurd (omega arith)
 stopped t (b ∷ s) h = refl
 
-pub walk-fault : (t : Totals) {s : List ℕ} {f : Fault} → IsFault s f → walkFrom t (entriesOf s) ≡ walked.Fault f
+pub walk-fault : (t : Totals) {s : List ℕ} {f : Fault} → IsFault s f → walkFrom t (entriesOf s) ≡ walked.Refused (refusalAt f (t .entries + 1))
 unfolding walkFrom
 walk-fault t {s} i =
-    ap (walkFrom t) (cut-stop lengthOf s (i .length-zero)) ∙ stopped _ s (i .some) ∙ ap walked.Fault (sym (i .fault-is))
+    let place : t .entries + 0 + 1 ≡ t .entries + 1 = omega arith in
+    ap (walkFrom t) (cut-stop lengthOf s (i .length-zero)) ∙ stopped _ s (i .some)
+    ∙ ap₂ (λ (f : Fault) (p : ℕ). walked.Refused (refusalAt f p)) (sym (i .fault-is)) place
 
 -- ---- a walk to the end
 
@@ -145,3 +151,35 @@ module _ (s : List ℕ) {t : Totals} (e : walkOf s ≡ walked.Entries t) where
 
   pub walk-saved : t .saved ≡ length (savedOf (entriesOf s .pieces))
   walk-saved = ap (λ (u : Totals). u .saved) (walk-totals s e)
+
+-- ---- a walk to a fault
+
+pub entries-most : (s : List ℕ) → length (entriesOf s .pieces) * 58 ≤ length s
+entries-most =
+    cut-induct lengthOf (λ s c. length (c .pieces) * 58 ≤ length s) (omega arith) (λ s e. omega arith)
+    (λ s h k e. let z = length-sized s k in omega (arith, z .1, z .2, length-drop (lengthOf s) s))
+
+fault-range : (f : Fault) → (16 ≤ faultNumber f) × (faultNumber f ≤ 18)
+fault-range Size = (omega arith, omega arith)
+fault-range FileSize = (omega arith, omega arith)
+fault-range Name = (omega arith, omega arith)
+
+-- the refusal of an entry of the list s
+pub record WalkRefused (s : List ℕ) (r : Refusal) : Type 0 where
+  pub low : 16 ≤ r .number
+  pub high : r .number ≤ 18
+  pub place-most : r .place ≤ length s / 58 + 1
+
+pub walk-refused : (s : List ℕ) {r : Refusal} → walkOf s ≡ walked.Refused r → WalkRefused s r
+unfolding walkOf
+walk-refused s {r} e = by (entriesOf s .rest) e
+  where
+    by : (t : List ℕ) → walkedTo (totalsOf (entriesOf s .pieces)) t ≡ walked.Refused r → WalkRefused s r
+    by [] e = absurd (let z : _≡_ {A = ℕ} 0 1 = cc in omega arith)
+    by (b ∷ t) e =
+        let f : Fault = faultOf (b ∷ t) in
+        let is : refusalAt f (length (entriesOf s .pieces) + 1) ≡ r = cc in
+        let number : faultNumber f ≡ r .number = ap (λ (r : Refusal). r .number) is in
+        let place : length (entriesOf s .pieces) + 1 ≡ r .place = ap (λ (r : Refusal). r .place) is in
+        let range = fault-range f in
+        record { low = omega (arith, range .0); high = omega (arith, range .1); place-most = omega (arith, entries-most s) }

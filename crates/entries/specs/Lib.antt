@@ -1,3 +1,4 @@
+pub mod Claim
 pub mod Entry
 pub mod Numbering
 pub mod Walk

@@ -1,21 +1,24 @@
--- The walk over a list (document 01, "Byte layout": "Entries fill the list area with nothing left over").
+-- The walk over a list (document 01, "Byte layout": "Entries fill the list area with nothing left over"; document 02, 2026-01: "Entries are
+-- walked from the first; the first fault is given with the entry's place in the list, from 1").
 --
 --   faultOf s        the first rule that the entry at the front of s breaks, where it breaks one
 --   faultNumber f    the number of the refusal for a fault
+--   refusalAt f p    the refusal for a fault of the entry at place p
 --   itemOf e         the entry e, as numbers
 --   firstOf s        what s begins with: an entry, nothing, or a fault
 --   entriesOf s      the entries of s up to the first fault, and the rest of s
 --   greatestOf es    the greatest file size of the entries es that count for the data size
 --   totalsOf es      how many entries es are, how many of them are saved, and the greatest size
 --   addEntry t st n  the totals t and an entry more, with the status st and the file size n
---   walkedTo t s     the totals t, where s, which remains after their entries, is empty; or the fault at its front
---   walkOf s         the totals of the entries of s, where they fill it; or the first fault
+--   walkedTo t s     the totals t, where s, which remains after their entries, is empty; or the refusal of the entry at its front
+--   walkOf s         the totals of the entries of s, where they fill it; or the refusal of the first entry that breaks a rule
 -- Assumes nothing.
 use Prim.Native.Nat.{ℕ, _+_, max}
 use mathlib.Core.Bool.{cond}
 use mathlib.Core.List.{List, [], _∷_, map, foldr}
 use lib.ListN.{length, take}
 use Rattle.cut_lists.specs.Pieces.{Cut, cut}
+use Rattle.refusals.specs.declared.Refusal.{Refusal}
 use Rattle.entries.specs.Entry.{entrySize, statusOf, fileSizeOf, savedCount, isCounted, entrySizeAllowed, fileSizeAllowed, entryAllowed, lengthOf}
 use Rattle.entries.specs.Numbering.{keep, savedOf}
 use Rattle.entries.specs.declared.Fault.{Fault}
@@ -26,16 +29,19 @@ use Rattle.entries.specs.declared.Totals.{Totals}
 use Rattle.entries.specs.declared.Walked.{Walked}
 use Rattle.entries.specs.declared.Walked.the-variants as walked
 
--- the rules in their order: the entry's size, its file's size, its name
+-- "Within an entry in that order": the entry's size, its file's size, its name
 unfoldable pub faultOf : List ℕ → Fault
 faultOf s =
     cond (entrySizeAllowed (entrySize s) (length s)) (cond (fileSizeAllowed (fileSizeOf (take (entrySize s) s))) Name FileSize) Size
 
--- "6: an entry or the list breaks its rules"
+-- "16 entry size odd, below 58, past the list's end or .. fewer than 8 bytes left; 17 file size above the limit ..; 18 name unit not allowed"
 abbrev pub faultNumber : Fault → ℕ
-faultNumber Size = 6
-faultNumber FileSize = 6
-faultNumber Name = 6
+faultNumber Size = 16
+faultNumber FileSize = 17
+faultNumber Name = 18
+
+abbrev pub refusalAt : Fault → ℕ → Refusal
+refusalAt f place = record { number = faultNumber f; place = place }
 
 abbrev pub itemOf : List ℕ → Item
 itemOf e = item.Entry (length e) (statusOf e) (fileSizeOf e)
@@ -62,9 +68,10 @@ addEntry t status size =
       greatest = cond (isCounted status) (max (t .greatest) size) (t .greatest);
     }
 
+-- the entry at the front of what remains comes after those of the totals
 abbrev pub walkedTo : Totals → List ℕ → Walked
 walkedTo t [] = walked.Entries t
-walkedTo t (b ∷ s) = walked.Fault (faultOf (b ∷ s))
+walkedTo t (b ∷ s) = walked.Refused (refusalAt (faultOf (b ∷ s)) (t .entries + 1))
 
 unfoldable pub walkOf : List ℕ → Walked
 walkOf s = walkedTo (totalsOf (entriesOf s .pieces)) (entriesOf s .rest)

@@ -4,7 +4,8 @@ ghost use mathlib.Core.Bool.{cond};
 ghost use Prim.Native.Nat.{_+_, _<_, _^_, max};
 ghost use lib.ListN.{drop};
 ghost use Rattle.entries.specs.Entry.{unitAllowed, unitsAllowed, nameAllowed, unitsOf, entrySizeAllowed, isSaved, savedCount, isCounted};
-ghost use Rattle.entries.specs.Walk.{faultNumber, firstOf, addEntry, walkOf};
+ghost use Rattle.entries.specs.Walk.{faultNumber, refusalAt, firstOf, addEntry, walkOf};
+use refusals::Refusal;
 
 // The shortest entry: 56 bytes of fields, and a name of one unit.
 const MIN_ENTRY_SIZE: u64 = 58;
@@ -45,10 +46,10 @@ pub struct Totals {
     pub greatest: u64,
 }
 
-// What the walk over a list finds: entries to its end, or the first fault.
+// What the walk over a list finds: entries to its end, or the first that breaks a rule.
 pub enum Walked {
     Entries(Totals),
-    Fault(Fault),
+    Refused(Refusal),
 }
 
 // The first entry of `list`, as numbers. The entry is the first `length` bytes, and the list goes on after it.
@@ -89,7 +90,7 @@ pub fn at(list: &[u8], from: usize) -> Item
     first(&list[from..])
 }
 
-// The totals of the entries of `list`.
+// The totals of the entries of `list`, or the refusal of the first that breaks a rule, with its place.
 pub fn walk(list: &[u8]) -> Walked
     ensures { λ r. ⌜ r ≡ walkOf (now (list .entry)) ⌝ }
 {
@@ -110,7 +111,7 @@ pub fn walk(list: &[u8]) -> Walked
                 from += length;
             }
             Item::End => return Walked::Entries(totals),
-            Item::Fault(fault) => return Walked::Fault(fault),
+            Item::Fault(fault) => return Walked::Refused(refusal_at(fault, totals.entries + 1)),
         }
     }
 }
@@ -147,9 +148,19 @@ pub fn fault_number(fault: Fault) -> u32
     ensures { λ r. ⌜ r ≡ faultNumber fault ⌝ }
 {
     match fault {
-        Fault::Size => refusals::ENTRY,
-        Fault::FileSize => refusals::ENTRY,
-        Fault::Name => refusals::ENTRY,
+        Fault::Size => refusals::ENTRY_SIZE,
+        Fault::FileSize => refusals::FILE_SIZE,
+        Fault::Name => refusals::NAME,
+    }
+}
+
+// The refusal for a fault of the entry at `place`.
+fn refusal_at(fault: Fault, place: u64) -> Refusal
+    ensures { λ r. ⌜ r ≡ refusalAt fault place ⌝ }
+{
+    Refusal {
+        number: fault_number(fault),
+        place,
     }
 }
 

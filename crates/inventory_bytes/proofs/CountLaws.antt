@@ -10,6 +10,7 @@ use borrow.Author.Tests.{eqb-true}
 use lib.Dec.{eqb, leb·zero}
 use lib.ListN.{length}
 use Rattle.lent_bytes.specs.Writing.{refused, written, writtenUnless, withNumber}
+use Rattle.refusals.specs.Tests.{bare}
 use Rattle.inventory.specs.Model.{numbered, counts}
 use Rattle.little_endian.specs.Bytes.{numbers}
 use Rattle.inventory_bytes.specs.Inventories.{countedInto}
@@ -19,7 +20,7 @@ module _ (out : List ℕ) where
   unfolding countedInto writtenUnless written numbers
   count-refused k = go (eqb k 0) refl
     where
-      go : (b : Bool) → eqb k 0 ≡ b → (k, out) ≡ withNumber (cond b (written [] out) (refused k out))
+      go : (b : Bool) → eqb k 0 ≡ b → (k, out) ≡ withNumber (cond b (written [] out) (refused (bare k) out))
       go true e = simp (leb·zero (length out)) (ap (λ (n : ℕ). (n, out)) (eqb-true k 0 e))
       go false e = refl
 

@@ -13,6 +13,7 @@ use Prim.Native.Nat.{ℕ, _*_}
 use lib.Dec.{leb, eqb}
 use lib.ListN.{length}
 use Rattle.lent_bytes.specs.Writing.{writtenUnless, withNumber}
+use Rattle.refusals.specs.Tests.{bare}
 use Rattle.inventory.specs.Model.{Reply, reply}
 use Rattle.inventory.specs.Steps.{zeros, openStep, refusedOpening}
 use Rattle.inventory.specs.declared.Inventory.{Inventory}
@@ -35,8 +36,8 @@ unfoldable pub openedBy : ℕ → List ℕ → Outcome
 openedBy n s = cond (leb n maxFiles && eqb (length s) (8 * n)) (openStep n (numbersAt n s 0)) (refusedOpening 10)
 
 unfoldable pub storedBy : Outcome → List ℕ → ℕ × List ℕ
-storedBy o out = withNumber (writtenUnless (o .number) (inventoryBytes (o .next)) out)
+storedBy o out = withNumber (writtenUnless (bare (o .number)) (inventoryBytes (o .next)) out)
 
 -- the values of a count are numbers of 64 bits
 unfoldable pub countedInto : Reply → List ℕ → ℕ × List ℕ
-countedInto (reply number values) out = withNumber (writtenUnless number (numbers values) out)
+countedInto (reply number values) out = withNumber (writtenUnless (bare number) (numbers values) out)

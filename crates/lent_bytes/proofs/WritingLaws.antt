@@ -5,7 +5,9 @@
 --   unless-accepted                 accepted, where the tests hold nowhere and the bytes fit
 --   never                           a refusal is no acceptance
 --   Accepted, unless-tells          what it tells where it is accepted
---   numbered-as                     as a number
+--   refused-as, numbered-as         as a refusal, and as a number
+--   written-refusal                 where there are no tests, the number says it all
+--   unless-within                   which refusals it gives
 -- Assumes nothing.
 use mathlib.Core.Path.{_≡_, refl, sym, ap, ap₂, _∙_}
 use mathlib.Core.Bool.{Bool, true, false, cond}
@@ -16,7 +18,10 @@ use borrow.Author.Tests.{leb-true, le-leb, lt-leb, eqb-true, eq-eqb, ne-eqb}
 use lib.Dec.{leb, eqb}
 use lib.ListN.{length, take, drop}
 use lib.Seq.{take-append-seam}
-use Rattle.lent_bytes.specs.Writing.{refused, accepted, written, writtenUnless, writingNumber, withNumber}
+use Rattle.lent_bytes.specs.Writing.{refused, accepted, written, writtenUnless, writingRefusal, withRefusal, withNumber}
+use Rattle.refusals.specs.Tests.{bare}
+use Rattle.refusals.specs.declared.Refusal.{Refusal}
+use Rattle.refusals.proofs.RangeLaws.{Within, bare-within}
 use Rattle.lent_bytes.specs.declared.Writing.{Writing}
 use Rattle.lent_bytes.specs.declared.Writing.the-variants.{Written, Refused}
 
@@ -26,51 +31,77 @@ unfolding written
 written-fits s out h size same =
     simp (le-leb (length s) (length out) h) (ap₂ (λ (k : ℕ) (l : List ℕ). (Written k, l)) size same)
 
-pub written-short : (s out : List ℕ) → length out < length s → refused 14 out ≡ written s out
+pub written-short : (s out : List ℕ) → length out < length s → refused (bare 14) out ≡ written s out
 unfolding written
 written-short s out h = simp (lt-leb (length s) (length out) h)
 
 -- n is a name of what the tests give
-module _ (s out : List ℕ) {n m : ℕ} (e : n ≡ m) where
-  pub unless-none : {r : Writing × List ℕ} → n ≡ 0 → r ≡ written s out → r ≡ writtenUnless m s out
+module _ (s out : List ℕ) {n m : Refusal} (e : n ≡ m) where
+  pub unless-none : {r : Writing × List ℕ} → n .number ≡ 0 → r ≡ written s out → r ≡ writtenUnless m s out
   unfolding writtenUnless
-  unless-none z f = simp (eq-eqb m 0 (sym e ∙ z)) f
+  unless-none z f = simp (eq-eqb (m .number) 0 (ap (λ (r : Refusal). r .number) (sym e) ∙ z)) f
 
-  pub unless-refused : {t : List ℕ} → (n ≡ 0 → ⊥) → t ≡ out → (Refused n, t) ≡ writtenUnless m s out
+  pub unless-refused : {t : List ℕ} → (n .number ≡ 0 → ⊥) → t ≡ out → (Refused n, t) ≡ writtenUnless m s out
   unfolding writtenUnless
-  unless-refused h same = simp (ne-eqb m 0 (λ z. h (e ∙ z))) (ap₂ (λ (k : ℕ) (l : List ℕ). (Refused k, l)) e same)
+  unless-refused h same =
+      simp (ne-eqb (m .number) 0 (λ z. h (ap (λ (r : Refusal). r .number) e ∙ z)))
+      (ap₂ (λ (k : Refusal) (l : List ℕ). (Refused k, l)) e same)
 
-pub unless-accepted : (m : ℕ) (s out : List ℕ) → m ≡ 0 → length s ≤ length out → writtenUnless m s out ≡ accepted s out
+pub unless-accepted : (m : Refusal) (s out : List ℕ) → m .number ≡ 0 → length s ≤ length out → writtenUnless m s out ≡ accepted s out
 unless-accepted m s out z fits = sym (unless-none s out refl z (written-fits s out fits refl refl))
 
 -- the tests hold nowhere, the bytes fit, and they stand at the front
-pub record Accepted (m : ℕ) (s out : List ℕ) (n : ℕ) (room : List ℕ) : Type 0 where
-  pub none : m ≡ 0
+pub record Accepted (m : Refusal) (s out : List ℕ) (n : ℕ) (room : List ℕ) : Type 0 where
+  pub none : m .number ≡ 0
   pub fits : length s ≤ length out
   pub written-is : take n room ≡ s
 
-pub never : {A : Type 0} {n k : ℕ} {room out : List ℕ} → refused k out ≡ (Written n, room) → A
+pub never : {A : Type 0} {n : ℕ} {k : Refusal} {room out : List ℕ} → refused k out ≡ (Written n, room) → A
 never {A} {n} {k} e =
     let answer : Refused k ≡ Written n = ap (λ (p : Writing × List ℕ). p .0) e in
     absurd (let z : _≡_ {A = ℕ} 0 1 = cc in omega arith)
 
-pub unless-tells : (m : ℕ) (s out : List ℕ) {n : ℕ} {room : List ℕ} → writtenUnless m s out ≡ (Written n, room) → Accepted m s out n room
+pub unless-tells : (m : Refusal) (s out : List ℕ) {n : ℕ} {room : List ℕ} → writtenUnless m s out ≡ (Written n, room) → Accepted m s out n room
 unfolding writtenUnless written
-unless-tells m s out {n} {room} e = by (eqb m 0) (leb (length s) (length out)) refl refl e
+unless-tells m s out {n} {room} e = by (eqb (m .number) 0) (leb (length s) (length out)) refl refl e
   where
-    by : (z f : Bool) → eqb m 0 ≡ z → leb (length s) (length out) ≡ f
-        → cond z (cond f (accepted s out) (refused 14 out)) (refused m out) ≡ (Written n, room) → Accepted m s out n room
+    by : (z f : Bool) → eqb (m .number) 0 ≡ z → leb (length s) (length out) ≡ f
+        → cond z (cond f (accepted s out) (refused (bare 14) out)) (refused m out) ≡ (Written n, room) → Accepted m s out n room
     by true true z f e =
         let answer : Written (length s) ≡ Written n = ap (λ (p : Writing × List ℕ). p .0) e in
         let size : n ≡ length s = cc in
         let held : room ≡ s ++ drop (length s) out = sym (ap (λ (p : Writing × List ℕ). p .1) e) in
         record {
-          none = eqb-true m 0 z;
+          none = eqb-true (m .number) 0 z;
           fits = leb-true (length s) (length out) f;
           written-is = ap₂ (λ (k : ℕ) (l : List ℕ). take k l) size held ∙ take-append-seam s (drop (length s) out);
         }
     by true false z f e = never e
     by false f z g e = never e
 
-pub numbered-as : {w : Writing} {t : List ℕ} {r : Writing × List ℕ} {n : ℕ} → n ≡ writingNumber w → (w, t) ≡ r → (n, t) ≡ withNumber r
-numbered-as {w} {t} e f = ap (λ (k : ℕ). (k, t)) e ∙ ap withNumber f
+module _ {w : Writing} {t : List ℕ} {r : Writing × List ℕ} {k : Refusal} (e : k ≡ writingRefusal w) (f : (w, t) ≡ r) where
+  pub refused-as : (k, t) ≡ withRefusal r
+  refused-as = ap (λ (k : Refusal). (k, t)) e ∙ ap withRefusal f
+
+  pub numbered-as : (k .number, t) ≡ withNumber r
+  numbered-as = ap (λ (p : Refusal × List ℕ). (p .0 .number, p .1)) refused-as
+
+pub written-refusal : (s out : List ℕ) {n : ℕ} {t : List ℕ} → (n, t) ≡ withNumber (written s out) → (bare n, t) ≡ withRefusal (written s out)
+unfolding written
+written-refusal s out e = ap (λ (p : ℕ × List ℕ). (bare (p .0), p .1)) e ∙ by (leb (length s) (length out))
+  where
+    gives : Bool → Writing × List ℕ
+    gives b = cond b (accepted s out) (refused (bare 14) out)
+
+    by : (b : Bool) → (bare (withNumber (gives b) .0), withNumber (gives b) .1) ≡ withRefusal (gives b)
+    by true = refl
+    by false = refl
+
+pub unless-within : (k : ℕ) (m : Refusal) (s out : List ℕ) → Within k m → Within k (withRefusal (writtenUnless m s out) .0)
+unfolding writtenUnless written
+unless-within k m s out w = by (eqb (m .number) 0) (leb (length s) (length out))
+  where
+    by : (z f : Bool) → Within k (withRefusal (cond z (cond f (accepted s out) (refused (bare 14) out)) (refused m out)) .0)
+    by true true = bare-within k 0 (omega arith)
+    by true false = bare-within k 14 (omega arith)
+    by false f = w

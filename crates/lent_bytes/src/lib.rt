@@ -2,26 +2,27 @@
 ghost use mathlib.Core.Path.{_≡_};
 ghost use Prim.Native.Nat.{_-_, min};
 ghost use lib.Seq.{sets};
-ghost use Rattle.lent_bytes.specs.Writing.{written, writingNumber, withNumber};
+ghost use Rattle.lent_bytes.specs.Writing.{written, writingRefusal, withNumber};
 
 mod comparing;
 
 pub use comparing::same;
 use refusals::NO_ROOM;
+use refusals::Refusal;
 
-// What a call that writes answers: the length written, or the number of its refusal.
+// What a call that writes answers: the length written, or its refusal.
 pub enum Writing {
     Written(usize),
-    Refused(u32),
+    Refused(Refusal),
 }
 
-// The number of an answer, 0 where it is accepted.
-pub fn number_of(writing: Writing) -> u32
-    ensures { λ r. ⌜ r ≡ writingNumber writing ⌝ }
+// The refusal that an answer is, with the number 0 where it is accepted.
+pub fn refusal_of(writing: Writing) -> Refusal
+    ensures { λ r. ⌜ r ≡ writingRefusal writing ⌝ }
 {
     match writing {
-        Writing::Written(_) => 0,
-        Writing::Refused(number) => number,
+        Writing::Written(_) => refusals::bare(0),
+        Writing::Refused(refusal) => refusal,
     }
 }
 

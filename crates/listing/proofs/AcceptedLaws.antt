@@ -13,12 +13,12 @@ use Rattle.par1_read.specs.declared.reading.Reading.{Reading}
 use Rattle.par1_read.proofs.ReadingLaws.{HeaderPassed, header-passed, refusalOf, read-accepted, read-refused}
 use Rattle.listing.specs.Listing.{ListIn}
 
-by-refusal : (f : List ℕ) (n : ℕ) → n ≡ refusalOf f → ListIn (readOf f) f
+by-refusal : (f : List ℕ) (n : ℕ) → n ≡ refusalOf f .number → ListIn (readOf f) f
 unfolding refusalOf refusalFrom
 by-refusal f zero e =
     let h : HeaderPassed f (length f) = header-passed f (length f) (or-none (headerRefusal f (length f)) _ (sym e) .0) in
     rw (read-accepted f (sym e)) (refl, omega (arith, h .layout .data-start, h .layout .data-end))
-by-refusal f (suc n) e = rw (read-refused f e (λ z. omega arith)) tt
+by-refusal f (suc n) e = rw (read-refused f refl (λ z. omega arith)) tt
 
 pub list-in : (f : List ℕ) {r : Reading} → r ≡ readOf f → ListIn r f
-list-in f e = subst (λ (r : Reading). ListIn r f) (sym e) (by-refusal f (refusalOf f) refl)
+list-in f e = subst (λ (r : Reading). ListIn r f) (sym e) (by-refusal f (refusalOf f .number) refl)

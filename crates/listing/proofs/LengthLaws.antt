@@ -1,8 +1,8 @@
 -- A listing is shorter than its file, and that of the program's input has room in 65,536 bytes.
 --
---   line-most, head-most, refused-most     the lengths of the lines, where numbers have at most eight digits
+--   line-most, head-most    the lengths of the lines, where numbers have at most eight digits
+--   refused-most          that of a refusal, where its number has at most eight digits and its place at most twenty
 --   lines-most            the lines of entries are no longer than the entries
---   refusal-most          reading refuses with a number of one digit
 --   listing-shorter       the listing of an accepted file is shorter than the file
 --   input-most            the listing of any input has at most 65,536 bytes
 --   input-fits            so room of 65,536 bytes is never too short for it
@@ -10,7 +10,7 @@
 use mathlib.Core.Path.{_≡_, refl, sym, ap, _∙_, subst}
 use mathlib.Core.Bool.{Bool, true, false, cond, _&&_, _||_}
 use mathlib.Core.List.{List, [], _∷_, flatten}
-use Prim.Native.Nat.{ℕ, zero, suc, _+_, _≤_, _<_}
+use Prim.Native.Nat.{ℕ, zero, suc, _+_, _^_, _≤_, _<_}
 use native.Mathlib.Omega.{arith}
 use lib.Dec.{leb, eqb}
 use lib.ListN.{length, take, drop, length-append, length-take, length-drop, length-map}
@@ -23,28 +23,23 @@ use Rattle.cut_lists.specs.All.{All, all-none, all-more}
 use Rattle.cut_lists.proofs.CutLaws.{cut-all, cut-count, cut-length}
 use Rattle.entries.specs.Entry.{entrySize, statusOf, fileSizeOf, nameOf, unitsOf, isSaved, savedCount, lengthOf}
 use Rattle.entries.specs.Entry.{entrySizeAllowed, fileSizeAllowed, bodyAllowed, entryAllowed}
-use Rattle.entries.specs.Walk.{faultNumber, walkOf}
-use Rattle.entries.specs.declared.Fault.{Fault}
-use Rattle.entries.specs.declared.Fault.the-variants.{Size, FileSize, Name}
-use Rattle.entries.specs.declared.Walked.{Walked}
-use Rattle.entries.specs.declared.Walked.the-variants as walked
 use Rattle.entries.proofs.EntryLaws.{sized}
 use Rattle.entries.proofs.WalkLaws.{saved-most, walk-count, walk-saved}
 use Rattle.text.specs.Ascii.{ascii}
 use Rattle.text.specs.Decimal.{decimal}
 use Rattle.text.proofs.DecimalLaws.{decimal-length}
-use Rattle.par1_rules.specs.Layout.{signature, signatureOf, versionOf, controlHashOf, setHashOf, volumeNumberOf, countOf, listSizeOf, dataSizeOf, listOf}
-use Rattle.lent_bytes.specs.Equal.{equal}
-use Rattle.par1_rules.specs.Hashes.{setHash, controlHash}
-use Rattle.refusals.specs.Tests.{test, orElse}
-use Rattle.par1_rules.specs.Rules.{lengthAllowed, versionAllowed, layoutAllowed, numberAllowed, dataAllowed}
-use Rattle.par1_read.specs.Reading.{headerRefusal, controlRefusal, totalsRefusal, listRefusal, refusalFrom, entriesIn, readOf}
+use Rattle.par1_rules.specs.Layout.{volumeNumberOf, countOf, listSizeOf, listOf}
+use Rattle.refusals.specs.Tests.{bare}
+use Rattle.refusals.specs.declared.Refusal.{Refusal}
+use Rattle.par1_rules.specs.Rules.{numberAllowed}
+use Rattle.par1_read.specs.Reading.{entriesIn, readOf}
 use Rattle.par1_read.specs.declared.reading.Parts.{Parts}
 use Rattle.par1_read.specs.declared.reading.Reading.{Reading}
 use Rattle.par1_read.specs.declared.reading.Reading.the-variants.{Accepted}
+use Rattle.par1_read.proofs.RangeLaws.{refusal-within}
 use Rattle.par1_read.proofs.ReadingLaws.{refusalOf, partsOf, Passed, read-accepted, read-refused, read-tells}
 use Rattle.listing.specs.Claim.{InputFits}
-use Rattle.listing.specs.Lines.{refusedLine, headLine, label, lineOf, entryLine, entryLines}
+use Rattle.listing.specs.Lines.{field, isPlaced, placeField, refusedLine, headLine, label, lineOf, entryLine, entryLines}
 use Rattle.listing.specs.Listing.{listingBy, listingOf, inputListing}
 
 -- ---- lines
@@ -77,9 +72,21 @@ head-most : (v n k : ℕ) → v < 100000000 → n < 100000000 → k < 100000000 
 unfolding headLine flatten
 head-most v n k a b c = simp length-append (omega (arith, eight-digits v a, eight-digits n b, eight-digits k c))
 
-refused-most : (n : ℕ) → n < 100000000 → length (refusedLine n) ≤ 17
+twenty-digits : (n : ℕ) → n < 100000000000000000000 → length (decimal n) ≤ 20
+twenty-digits n h = decimal-length n 19 h
+
+place-most : (r : Refusal) → r .place < 100000000000000000000 → length (placeField r) ≤ 21
+unfolding placeField
+place-most r h = by (isPlaced (r .number))
+  where
+    by : (b : Bool) → length (cond b (field (ascii " ") (r .place)) []) ≤ 21
+    by true = simp length-append (omega (arith, twenty-digits (r .place) h))
+    by false = omega arith
+
+-- any place of 64 bits has at most twenty digits
+refused-most : (r : Refusal) → r .number < 100000000 → r .place < 2 ^ 64 → length (refusedLine r) ≤ 38
 unfolding refusedLine flatten
-refused-most n h = simp length-append (omega (arith, eight-digits n h))
+refused-most r h k = simp length-append (omega (arith, eight-digits (r .number) h, place-most r (omega arith)))
 
 -- ---- the lines of entries
 
@@ -138,44 +145,6 @@ accepted-shorter f tests =
     omega
     (arith, head, lines, cut-length lengthOf (listOf f), length-append (headLine (partsOf f .number) (partsOf f .entries) (partsOf f .saved)) (entryLines 0 es))
 
--- ---- refusals
-
-test-most : (n : ℕ) (ok : Bool) (m : ℕ) → n ≤ 9 → m ≤ 9 → test n ok m ≤ 9
-test-most n true m h k = k
-test-most n false m h k = h
-
-four-most : (n : ℕ) (a b c d : Bool) → n ≤ 6 → test n a (test (n + 1) b (test (n + 2) c (test (n + 3) d 0))) ≤ 9
-four-most n a b c d h =
-    test-most n a (test (n + 1) b (test (n + 2) c (test (n + 3) d 0))) (omega arith)
-    (test-most (n + 1) b (test (n + 2) c (test (n + 3) d 0)) (omega arith)
-    (test-most (n + 2) c (test (n + 3) d 0) (omega arith) (test-most (n + 3) d 0 (omega arith) (omega arith))))
-
-or-most : (n m : ℕ) → n ≤ 9 → m ≤ 9 → orElse n m ≤ 9
-or-most zero m h k = k
-or-most (suc n) m h k = h
-
-fault-most : (f : Fault) → faultNumber f ≤ 9
-fault-most Size = omega arith
-fault-most FileSize = omega arith
-fault-most Name = omega arith
-
-list-most : (head set : List ℕ) (w : Walked) → listRefusal head set w ≤ 9
-unfolding totalsRefusal
-list-most head set (walked.Entries t) =
-    four-most 6 (eqb (t .entries) (countOf head)) (numberAllowed (volumeNumberOf head) (t .saved)) (equal (setHashOf head) set)
-    (dataAllowed (volumeNumberOf head) (t .greatest) (dataSizeOf head)) (omega arith)
-list-most head set (walked.Fault fault) = fault-most fault
-
-refusal-most : (f : List ℕ) → refusalOf f ≤ 9
-unfolding refusalOf refusalFrom headerRefusal controlRefusal
-refusal-most f =
-    let n : ℕ = length f in
-    let digest : List ℕ = controlHash f in
-    let list = list-most f (setHash (entriesIn f)) (walkOf (listOf f)) in
-    or-most (headerRefusal f n) _
-    (four-most 1 (lengthAllowed n) (eqb (signatureOf f) signature) (versionAllowed (versionOf f)) (layoutAllowed f n) (omega arith))
-    (or-most (controlRefusal f digest) _ (test-most 5 (equal (controlHashOf f) digest) 0 (omega arith) (omega arith)) list)
-
 -- ---- listings
 
 pub listing-shorter : (f : List ℕ) (p : Parts) → readOf f ≡ Accepted p → length (listingOf f) < length f
@@ -184,20 +153,21 @@ listing-shorter f p e =
     let told = read-tells f p e in
     subst (λ (r : Reading). length (listingBy r f) < length f) (sym (e ∙ ap Accepted (told .parts-are))) (accepted-shorter f (told .tests))
 
-by-refusal : (s : List ℕ) → length s ≤ maxListedLength → (n : ℕ) → n ≡ refusalOf s → length (listingOf s) ≤ maxListedLength
+by-refusal : (s : List ℕ) → length s ≤ maxListedLength → (n : ℕ) → n ≡ refusalOf s .number → length (listingOf s) ≤ maxListedLength
 unfolding listingOf
 by-refusal s h zero e = omega (arith, listing-shorter s (partsOf s) (read-accepted s (sym e)))
 by-refusal s h (suc n) e =
-    let few : suc n ≤ 9 = omega (arith, refusal-most s) in
-    rw (read-refused s e (λ z. omega arith)) (omega (arith, refused-most (suc n) (omega arith)))
+    let few = refusal-within s in
+    rw (read-refused s refl (λ z. omega arith))
+    (omega (arith, refused-most (refusalOf s) (omega (arith, few .number-most)) (omega (arith, few .place-most))))
 
 pub input-most : (s : List ℕ) → length (inputListing s) ≤ maxListedLength
 unfolding inputListing
 input-most s = by (leb (length s) maxListedLength) refl
   where
-    by : (b : Bool) → leb (length s) maxListedLength ≡ b → length (cond b (listingOf s) (refusedLine 1)) ≤ maxListedLength
-    by true e = by-refusal s (leb-true (length s) maxListedLength e) (refusalOf s) refl
-    by false e = omega (arith, refused-most 1 (omega arith))
+    by : (b : Bool) → leb (length s) maxListedLength ≡ b → length (cond b (listingOf s) (refusedLine (bare 1))) ≤ maxListedLength
+    by true e = by-refusal s (leb-true (length s) maxListedLength e) (refusalOf s .number) refl
+    by false e = omega (arith, refused-most (bare 1) (omega arith) (omega arith))
 
 pub input-fits : InputFits
 input-fits input out h = sym (written-fits (inputListing input) out (omega (arith, input-most input)) refl refl)

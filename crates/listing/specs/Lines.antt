@@ -1,8 +1,10 @@
--- The lines of a listing (document 01, "What comes back").
+-- The lines of a listing (document 01, "What comes back"; document 02, 2026-01).
 --
 --   shown u             the character that a name unit u is printed as
 --   field s n           the bytes s, then the number n in decimal
---   refusedLine n       the line of a refused file
+--   isPlaced n          whether a refusal with the number n is listed with its place
+--   placeField r        the place of the refusal r, where it is listed
+--   refusedLine r       the line of a file that is refused with r
 --   headLine v f s      the first line of an accepted file: volume number, entries, saved entries
 --   label st n          the label of an entry with the status st: the file number n, or "-"
 --   lineOf st n k name  the line of an entry with this status, file number, file size and name
@@ -11,10 +13,11 @@
 -- Assumes nothing.
 use Prim.Native.Nat.{ℕ, _+_}
 use Prim.Native.Char.{code}
-use mathlib.Core.Bool.{cond, _&&_}
+use mathlib.Core.Bool.{Bool, cond, _&&_}
 use mathlib.Core.List.{List, [], _∷_, _++_, map, flatten}
 use lib.Dec.{leb}
 use Rattle.entries.specs.Entry.{statusOf, fileSizeOf, nameOf, unitsOf, isSaved, savedCount}
+use Rattle.refusals.specs.declared.Refusal.{Refusal}
 use Rattle.text.specs.Ascii.{ascii}
 use Rattle.text.specs.Decimal.{decimal}
 
@@ -25,9 +28,16 @@ shown u = cond (leb 32 u && leb u 126) u (code "?")
 abbrev pub field : List ℕ → ℕ → List ℕ
 field s n = s ++ decimal n
 
+-- 16 to 19: "For these the listing writes `refused N P`"
+unfoldable pub isPlaced : ℕ → Bool
+isPlaced n = leb 16 n && leb n 19
+
+unfoldable pub placeField : Refusal → List ℕ
+placeField r = cond (isPlaced (r .number)) (field (ascii " ") (r .place)) []
+
 -- "the line `refused N`", "ended by byte 10"
-unfoldable pub refusedLine : ℕ → List ℕ
-refusedLine n = flatten (field (ascii "refused ") n ∷ (10 ∷ []) ∷ [])
+unfoldable pub refusedLine : Refusal → List ℕ
+refusedLine r = flatten (field (ascii "refused ") (r .number) ∷ placeField r ∷ (10 ∷ []) ∷ [])
 
 -- "volume 0 files 2 saved 1"
 unfoldable pub headLine : ℕ → ℕ → ℕ → List ℕ

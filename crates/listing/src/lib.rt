@@ -2,13 +2,16 @@
 ghost use mathlib.Core.Path.{_≡_};
 ghost use Rattle.lent_bytes.specs.Writing.{written};
 ghost use Rattle.text.specs.Buffer.{buffer, put as putOf};
-ghost use Rattle.listing.specs.Listing.{refusal as refusalOf, listingBy, listingOf, inputListing, ListIn};
+ghost use Rattle.par1_read.specs.Reading.{readingRefusal};
+ghost use Rattle.listing.specs.Listing.{listingBy, listingOf, inputListing, ListIn};
 
 mod lines;
 
 use lent_bytes::Writing;
 use par1::Reading;
+use par1::Refusal;
 use par1_rules::layout::HEADER_LENGTH;
+use refusals::bare;
 
 // The listing of `file` over the first bytes of `out`, and its length; or 14, and nothing written, where it does not fit.
 pub fn list(file: &[u8], out: &mut [u8]) -> Writing
@@ -24,7 +27,7 @@ pub fn list_input(input: &[u8], out: &mut [u8]) -> Writing
     if input.len() <= refusals::MAX_LISTED_LENGTH {
         return list(input, out);
     }
-    list_as(input, Reading::Refused(refusals::SIZE), out)
+    list_as(input, Reading::Refused(bare(refusals::SIZE)), out)
 }
 
 // The listing of a file that reads as `reading`: measured, and written where it fits.
@@ -37,7 +40,7 @@ fn list_as<'a, 'b>(file: &'a [u8], reading: Reading, out: &'b mut [u8]) -> Writi
         put_listing(out, file, reading);
         return Writing::Written(length);
     }
-    Writing::Refused(refusals::NO_ROOM)
+    Writing::Refused(bare(refusals::NO_ROOM))
 }
 
 // The listing of a file that reads as `reading`, from position 0 on.
@@ -53,12 +56,12 @@ fn put_listing<'a, 'b>(out: &'a mut [u8], file: &'b [u8], reading: Reading) -> u
     lines::put_entries(out, at, &file[HEADER_LENGTH..end])
 }
 
-// The number of a refused reading, 0 of an accepted one.
-fn refusal(reading: Reading) -> u32
-    ensures { λ r. ⌜ r ≡ refusalOf reading ⌝ }
+// The refusal that a reading is, with the number 0 where it is accepted.
+fn refusal(reading: Reading) -> Refusal
+    ensures { λ r. ⌜ r ≡ readingRefusal reading ⌝ }
 {
     match reading {
-        Reading::Accepted(_) => 0,
-        Reading::Refused(number) => number,
+        Reading::Accepted(_) => bare(0),
+        Reading::Refused(refusal) => refusal,
     }
 }

@@ -4,14 +4,16 @@ ghost use mathlib.Core.List.{map};
 ghost use Rattle.entries.specs.Entry.{unitsOf};
 ghost use Rattle.entries.specs.Walk.{entriesOf};
 ghost use Rattle.text.specs.Buffer.{buffer, put as putOf};
-ghost use Rattle.listing.specs.Lines.{shown as shownOf, field, refusedLine, headLine, label, lineOf, entryLines};
+ghost use Rattle.listing.specs.Lines.{shown as shownOf, field, isPlaced, placeField, refusedLine, headLine, label, lineOf, entryLines};
 use entries::Item;
+use refusals::Refusal;
 
 // The line of a refused file.
-pub fn put_refused(out: &mut [u8], at: usize, number: u32) -> usize
-    ensures { λ r. ⌜ buffer (now (out .exit)) r ≡ putOf (buffer (now (out .entry)) at) (refusedLine number) ⌝ }
+pub fn put_refused(out: &mut [u8], at: usize, refusal: Refusal) -> usize
+    ensures { λ r. ⌜ buffer (now (out .exit)) r ≡ putOf (buffer (now (out .entry)) at) (refusedLine refusal) ⌝ }
 {
-    let at = put_field(out, at, b"refused ", number as u64);
+    let at = put_field(out, at, b"refused ", refusal.number as u64);
+    let at = put_place(out, at, refusal);
     text::put(out, at, b'\n')
 }
 
@@ -64,6 +66,26 @@ fn put_line<'a, 'b>(
     let at = text::put(out, at, b' ');
     let at = put_name(out, at, name);
     text::put(out, at, b'\n')
+}
+
+// The place of a refusal, where it is listed.
+fn put_place(out: &mut [u8], at: usize, refusal: Refusal) -> usize
+    ensures { λ r. ⌜ buffer (now (out .exit)) r ≡ putOf (buffer (now (out .entry)) at) (placeField refusal) ⌝ }
+{
+    if is_placed(refusal.number) {
+        return put_field(out, at, b" ", refusal.place);
+    }
+    at
+}
+
+// Whether a refusal with this number is listed with its place: those of an entry and of the number of entries.
+fn is_placed(number: u32) -> bool
+    ensures { λ r. ⌜ r ≡ isPlaced number ⌝ }
+{
+    if number < refusals::ENTRY_SIZE {
+        return false;
+    }
+    number <= refusals::ENTRY_COUNT
 }
 
 // The bytes `before`, then a number.

@@ -20,6 +20,7 @@ use Rattle.little_endian.specs.Bytes.{toLe}
 use Rattle.little_endian.proofs.Numbers.{length-toLe}
 use Rattle.little_endian.proofs.Reading.{leAt-append}
 use Rattle.md5.specs.Digest.{md5}
+use Rattle.refusals.specs.Tests.{bare}
 use Rattle.entries.specs.Entry.{entrySize, statusOf, fileSizeOf, md5Of, md5Of16k, nameOf, unitsOf, unitsAllowed, nameAllowed, fileSizeAllowed, entrySizeAllowed}
 use Rattle.entries.specs.Walk.{firstOf, entriesOf}
 use Rattle.entries.specs.declared.Item.the-variants.{Entry}
@@ -109,7 +110,7 @@ module _ {e m : List ℕ} {status : ℕ} {name : List ℕ} (size : length e ≡ 
   lone-back =
       ap (itemRefusal (length e)) (ap firstOf (sym (append-nil e)) ∙ walked-back []) ∙ simp (eq-eqb (length e) (length e) refl)
 
-  checked-back : checkOf e m ≡ 0
+  checked-back : checkOf e m ≡ bare 0
   unfolding isDescribed
   checked-back = check-lone e m lone-back ∙ simp (eq-eqb _ _ (d .size-is), equal-same (d .md5-is), equal-same (d .md5-first-is))
 
@@ -132,7 +133,7 @@ module _ {e m : List ℕ} {status : ℕ} {name : List ℕ} (size : length e ≡ 
 pub entry-accepted : EntryAccepted
 unfolding writeEntryOf entryRefusal
 entry-accepted m status name out size-right status-right name-right fits =
-    unless-accepted (entryRefusal (length m) status name) (entryBytes m status name) out (simp (size-right, status-right, name-right)) fits
+    unless-accepted (bare (entryRefusal (length m) status name)) (entryBytes m status name) out (simp (size-right, status-right, name-right)) fits
 
 pub entry-back : (m : List ℕ) (status : ℕ) (name : List ℕ) → EntryPassed (length m) status name → length (entryBytes m status name) < 2 ^ 64
     → EntryBack (entryBytes m status name) m status name
@@ -146,6 +147,6 @@ entry-back m status name passed few =
 pub entry-written : EntryWritten
 unfolding writeEntryOf
 entry-written m status name out n room few e =
-    let told = unless-tells (entryRefusal (length m) status name) (entryBytes m status name) out e in
+    let told = unless-tells (bare (entryRefusal (length m) status name)) (entryBytes m status name) out e in
     let passed = entry-passed (length m) status name (told .none) in
     subst (λ (l : List ℕ). EntryBack l m status name) (sym (told .written-is)) (entry-back m status name passed (omega (arith, told .fits)))

@@ -19,7 +19,7 @@ use Rattle.entries.specs.Walk.{entriesOf, walkOf}
 use Rattle.entries.specs.declared.Totals.{Totals}
 use Rattle.entries.specs.declared.Walked.{Walked}
 use Rattle.entries.specs.declared.Walked.the-variants as walked
-use Rattle.entries.proofs.WalkLaws.{walk-count}
+use Rattle.entries.proofs.WalkLaws.{walk-count, walk-refused}
 use Rattle.md5.specs.Digest.{md5}
 use Rattle.par1_rules.specs.Hashes.{setHash}
 use Rattle.par1_rules.specs.Rules.{numberAllowed, dataAllowed}
@@ -27,7 +27,7 @@ use Rattle.par1_read.specs.Reading.{entriesIn}
 use Rattle.par1_write.specs.VolumeWriting.{volumeBytes, walkRefusal, writeVolumeOf}
 use Rattle.par1_read.specs.declared.reading.Reading.the-variants.{Accepted}
 use Rattle.par1_read.proofs.ReadingLaws.{partsOf, HeaderPassed, TotalsPassed, Passed, passed-none, read-accepted}
-use Rattle.par1_rules.proofs.RuleLaws.{Between, fault-some}
+use Rattle.par1_rules.proofs.RuleLaws.{Between}
 use Rattle.par1.specs.Claim.{VolumeAccepted, VolumeWritten, partsFor, ReadBack, ReadWritten}
 use Rattle.par1.proofs.VolumeFields.{Fields, volume-fields}
 use Rattle.par1_write.proofs.VolumeWritingLaws.{VolumePassed, volume-passed, volume-none, length-volume}
@@ -38,7 +38,7 @@ volume-accepted program number list area out t walk number-right data-right high
     let size : length (volumeBytes program number list area) ≡ 96 + length list + length area = length-volume program number list area in
     let passed : VolumePassed number t (length list) (length area) =
     record { number-right = number-right; data-right = data-right; size = record { low = omega arith; high = omega arith } } in
-    let none = ap (λ (w : Walked). walkRefusal number w (length list) (length area)) walk ∙ volume-none number t (length list) (length area) passed in
+    let none = ap (λ (w : Walked). walkRefusal number w (length list) (length area) .number) walk ∙ volume-none number t (length list) (length area) passed in
     unless-accepted (walkRefusal number (walkOf list) (length list) (length area)) (volumeBytes program number list area) out none fits
 
 pub volume-written : VolumeWritten
@@ -52,13 +52,13 @@ pub record ListPassed (number : ℕ) (list : List ℕ) (area : ℕ) : Type 0 whe
   pub walk-is : walkOf list ≡ walked.Entries totals-of
   pub tests : VolumePassed number totals-of (length list) area
 
-pub list-passed : (number : ℕ) (list : List ℕ) (area : ℕ) → walkRefusal number (walkOf list) (length list) area ≡ 0
+pub list-passed : (number : ℕ) (list : List ℕ) (area : ℕ) → walkRefusal number (walkOf list) (length list) area .number ≡ 0
     → ListPassed number list area
 list-passed number list area e = by (walkOf list) refl e
   where
-    by : (w : Walked) → w ≡ walkOf list → walkRefusal number w (length list) area ≡ 0 → ListPassed number list area
+    by : (w : Walked) → w ≡ walkOf list → walkRefusal number w (length list) area .number ≡ 0 → ListPassed number list area
     by (walked.Entries t) w e = record { totals-of = t; walk-is = sym w; tests = volume-passed number t (length list) area e }
-    by (walked.Fault k) w e = absurd (omega (arith, fault-some k))
+    by (walked.Refused r) w e = absurd (omega (arith, walk-refused list (sym w) .low))
 
 -- a file with the fields of a written volume passes the tests of reading
 module _ {number : ℕ} {list : List ℕ} (area : List ℕ) (accepted : ListPassed number list (length area))

@@ -107,7 +107,7 @@ module _ (f : List ℕ) (bytes : Bytes f) (tests : Passed f) where
         data-right = ap (dataAllowed (volumeNumberOf f) (t .greatest)) data-length ∙ tests .totals .data-right;
         size = subst Between (sym size) (tests .header .size);
       }) in
-      let none = ap (λ (w : Walked). walkRefusal (volumeNumberOf f) w l d) (tests .walk-is) ∙ right in
+      let none = ap (λ (w : Walked). walkRefusal (volumeNumberOf f) w l d .number) (tests .walk-is) ∙ right in
       let again : s ≡ f = volume-again in
       unless-accepted (walkRefusal (volumeNumberOf f) (walkOf (listOf f)) l d) s out none (omega (arith, ap length again))
       ∙ ap (λ (u : List ℕ). accepted u out) again

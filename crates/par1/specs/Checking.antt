@@ -1,9 +1,10 @@
--- What checking contents against an entry gives (document 01, "Checking tests 6 (the lent entry, which fills its slice), then 15").
+-- What checking contents against an entry gives (document 01, "Checking tests 6 (the lent entry, which fills its slice), then 15"; document
+-- 02, 2026-01, has 16 to 18 where 01 has 6).
 --
---   itemRefusal n i  the refusal of n bytes that begin with the item i, 0 where i is an entry that fills them
---   loneRefusal e    the refusal of an entry e that stands alone, 0 where it keeps the rules and fills e
+--   itemRefusal n i  the number of the refusal of n bytes that begin with the item i, 0 where i is an entry that fills them
+--   loneRefusal e    that of an entry e that stands alone, 0 where it keeps the rules and fills e
 --   isDescribed e m  whether the contents m have the length and the hashes that the entry e tells
---   checkOf e m      the refusal of the contents m by the entry e, 0 where they are those of its file
+--   checkOf e m      the refusal of the contents m by the entry e, with the number 0 where they are those of its file
 -- Assumes nothing.
 use Prim.Native.Nat.{ℕ}
 use mathlib.Core.Bool.{Bool, _&&_}
@@ -18,9 +19,10 @@ use Rattle.entries.specs.declared.Item.{Item}
 use Rattle.entries.specs.declared.Item.the-variants as item
 use Rattle.lent_bytes.specs.Equal.{equal}
 use Rattle.par1_rules.specs.Hashes.{md5First}
-use Rattle.refusals.specs.Tests.{test, orElse}
+use Rattle.refusals.specs.Tests.{bare, test, orElse}
+use Rattle.refusals.specs.declared.Refusal.{Refusal}
 
--- an entry that is shorter than its slice, and no entry, have a wrong entry size
+-- "16 entry size odd, below 58, past the list's end or (lone entry) short of its slice, or fewer than 8 bytes left": so no entry at all is 16
 abbrev pub itemRefusal : ℕ → Item → ℕ
 itemRefusal n (item.Entry length status size) = test (faultNumber fault.Size) (eqb length n) 0
 itemRefusal n item.End = faultNumber fault.Size
@@ -33,5 +35,6 @@ loneRefusal e = itemRefusal (length e) (firstOf e)
 unfoldable pub isDescribed : List ℕ → List ℕ → Bool
 isDescribed e m = eqb (fileSizeOf e) (length m) && equal (md5Of e) (md5 m) && equal (md5Of16k e) (md5First m)
 
-unfoldable pub checkOf : List ℕ → List ℕ → ℕ
-checkOf e m = orElse (loneRefusal e) (test 15 (isDescribed e m) 0)
+-- "place 0, as for a lone entry"
+unfoldable pub checkOf : List ℕ → List ℕ → Refusal
+checkOf e m = orElse (loneRefusal e) (bare (test 15 (isDescribed e m) 0))

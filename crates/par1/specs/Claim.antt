@@ -19,6 +19,7 @@ use lib.ListN.{length, take, drop}
 use Rattle.lent_bytes.specs.Writing.{accepted}
 use Rattle.lent_bytes.specs.declared.Writing.the-variants.{Written}
 use Rattle.refusals.specs.Limits.{maxVolumeLength}
+use Rattle.refusals.specs.Tests.{bare}
 use Rattle.cut_lists.specs.Pieces.{before}
 use Rattle.little_endian.specs.Bytes.{Bytes}
 use Rattle.entries.specs.Entry.{statusOf, fileSizeOf, md5Of, md5Of16k, nameOf, nameAllowed, fileSizeAllowed}
@@ -113,7 +114,7 @@ pub record EntryBack (e m : List ℕ) (status : ℕ) (name : List ℕ) : Type 0 
   pub name-is : nameOf e ≡ name
   -- alone it keeps the rules, and checking accepts the contents
   pub lone-is : loneRefusal e ≡ 0
-  pub check-is : checkOf e m ≡ 0
+  pub check-is : checkOf e m ≡ bare 0
 
 -- the room has a length of 64 bits; proved: proofs/EntryWritten.antt, `entry-written`
 abbrev pub EntryWritten : Type 0

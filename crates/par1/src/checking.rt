@@ -5,15 +5,17 @@ use entries::Fault;
 use entries::Item;
 use par1_rules::hashes;
 use par1_rules::layout;
+use refusals::Refusal;
+use refusals::bare;
 use refusals::or_else;
 use refusals::test;
 
-// 0 where `contents` are those of the file that `entry` describes, else the number of the refusal.
-pub fn check(entry: &[u8], contents: &[u8]) -> u32
+// The refusal of `contents` by `entry`, with the number 0 where they are those of the file that it describes.
+pub fn check(entry: &[u8], contents: &[u8]) -> Refusal
     ensures { λ r. ⌜ r ≡ checkOf (now (entry .entry)) (now (contents .entry)) ⌝ }
 {
     let different = test(refusals::DIFFERENT, is_described(entry, contents), 0);
-    or_else(lone_refusal(entry), different)
+    or_else(lone_refusal(entry), bare(different))
 }
 
 // Whether `contents` have the length and the hashes that `entry` tells.
@@ -31,7 +33,7 @@ fn is_described(entry: &[u8], contents: &[u8]) -> bool
     hashes::matches(first, hashes::first_part(contents))
 }
 
-// The refusal of an entry that stands alone: it must fill its slice.
+// The number of the refusal of an entry that stands alone, which must fill its slice; 0 where there is none.
 fn lone_refusal(entry: &[u8]) -> u32
     ensures { λ r. ⌜ r ≡ loneRefusal (now (entry .entry)) ⌝ }
 {

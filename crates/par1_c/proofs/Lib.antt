@@ -1,3 +1,4 @@
+pub mod AnswerLaws
 mod CallLaws
 mod Determined
 pub mod OnBytes

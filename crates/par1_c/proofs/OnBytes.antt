@@ -32,6 +32,7 @@ use Rattle.inventory_bytes.specs.Claim.{Held}
 use Rattle.inventory_bytes.specs.Inventories.{inventoryBytes, openedBy, storedBy}
 use Rattle.inventory_bytes.proofs.BackLaws.{length-inventory, loaded-back}
 use Rattle.number_sets.specs.Sets.{Words}
+use Rattle.refusals.specs.Tests.{bare}
 use Rattle.number_sets.proofs.Words.{words-none, words-inserted, words-removed}
 use Rattle.par1_c.specs.Claim.{OnBytes, OpenedOnBytes, ChangedOnBytes, CountedOnBytes, QueriedOnBytes}
 use Rattle.par1_c.proofs.CallLaws.{changed-same, counted-same}
@@ -51,7 +52,7 @@ stored n changed s hc hs = by (eqb n 0) refl
         let same : length t ≡ length b = length-inventory changed hc ∙ sym (length-inventory s hs) in
         let all : t ++ drop (length t) b ≡ t = ap (λ (l : List ℕ). t ++ l) (drop-of-length-le b {i = length t} (omega arith)) ∙ append-nil t in
         let fits = written-fits t b (omega arith) refl (sym all) in
-        numbered-as none (unless-none t b refl none fits)
+        numbered-as {k = bare n} (ap bare none) (unless-none t b {n = bare n} refl none fits)
     by false z = numbered-as refl (unless-refused b b refl (eqb-false n 0 z) refl)
 
 held-one : (n : ℕ) (changed s : Inventory) → Held changed → Held s → Held (accepted n changed s .next)

@@ -1,6 +1,8 @@
--- From C each call on the bytes of an inventory is the call on the inventory, and leaves the bytes of what that call hands back; and the
--- query, which is promised by a relation, has one answer.
+-- From C a refusal and its place are read off one number; each call on the bytes of an inventory is the call on the inventory, and leaves the
+-- bytes of what that call hands back; and the query, which is promised by a relation, has one answer.
 --
+--   ReadTold             the refusal of a file that is read is told by its answer
+--   VolumeTold           so is that of a volume that is written
 --   OnBytes step s k     a call that changes s: its number, and the bytes of the inventory that it hands back, which bytes can hold again
 --   OpenedOnBytes        an opening with the bytes of the sizes is one with the sizes, and bytes can hold what it gives
 --   ChangedOnBytes       so are the calls that add and remove
@@ -13,7 +15,11 @@ use mathlib.Core.Path.{_≡_}
 use mathlib.Core.List.{List}
 use Prim.Native.Nat.{ℕ, _^_, _<_}
 use lib.ListN.{length, getD}
+use Rattle.answer_bytes.specs.Results.{readInto}
+use Rattle.lent_bytes.specs.Writing.{withRefusal}
 use Rattle.parity.specs.Coefficient.{coefficient}
+use Rattle.par1_read.specs.Reading.{readOf}
+use Rattle.par1_write.specs.VolumeWriting.{writeVolumeOf}
 use Rattle.inventory.specs.Model.{Change}
 use Rattle.inventory.specs.Query.{Queried}
 use Rattle.inventory.specs.Steps.{openStep, changeStep, countStep, answerNumber}
@@ -23,7 +29,17 @@ use Rattle.inventory.specs.declared.Outcome.{Outcome}
 use Rattle.inventory_bytes.specs.Claim.{Held}
 use Rattle.inventory_bytes.specs.Inventories.{inventoryBytes, storedBy, countedInto}
 use Rattle.little_endian.specs.Bytes.{numbers}
+use Rattle.par1_c.specs.Answers.{Told}
 use Rattle.par1_c.specs.Inventories.{openInto, changedBy, countInto, QueryInto}
+
+-- a list has fewer than 2^59 entries, so 64 bits hold the answer; the file's length is a u64; proved: proofs/AnswerLaws.antt, `read-told`
+abbrev pub ReadTold : Type 0
+ReadTold = (f out : List ℕ) → length f < 2 ^ 64 → Told (readInto (readOf f) out .0)
+
+-- the list's length is a u64; proved: proofs/AnswerLaws.antt, `volume-told`
+abbrev pub VolumeTold : Type 0
+VolumeTold =
+    (program number : ℕ) (list area out : List ℕ) → length list < 2 ^ 64 → Told (withRefusal (writeVolumeOf program number list area out) .0)
 
 pub record OnBytes (step : Inventory → ℕ → Outcome) (s : Inventory) (k : ℕ) : Type 0 where
   pub gives : changedBy step k (inventoryBytes s) ≡ (step s k .number, inventoryBytes (step s k .next))

@@ -1,2 +1,3 @@
-pub mod Inventories
+pub mod Answers
 pub mod Claim
+pub mod Inventories

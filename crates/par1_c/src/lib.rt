@@ -1,5 +1,5 @@
 // What C sees: the libraries' calls on numbers and byte slices, as include/par1.h declares them. Each answers 0, or the
-// document's number of a refusal, which changes no byte.
+// document's number of a refusal, which changes no byte; two of them tell the place of the refusal too, in one number.
 ghost use mathlib.Core.Path.{_≡_};
 ghost use Rattle.gf256.specs.Answer.{inverseAnswer};
 ghost use Rattle.md5.specs.Digest.{digestInto};
@@ -11,14 +11,17 @@ ghost use Rattle.par1_read.specs.Reading.{readOf};
 ghost use Rattle.par1_write.specs.VolumeWriting.{writeVolumeOf};
 ghost use Rattle.answer_bytes.specs.Results.{byteInto, readInto, entryInto};
 ghost use Rattle.entries.specs.Walk.{firstOf};
-ghost use Rattle.lent_bytes.specs.Writing.{withNumber};
+ghost use Rattle.lent_bytes.specs.Writing.{withRefusal, withNumber};
+ghost use Rattle.par1_c.specs.Answers.{answerOf, answered};
+ghost use Prim.Native.Nat.{_^_, _<_};
 
 mod inventories;
 
 use answer_bytes::put_answer;
 use answer_bytes::put_entry;
 use answer_bytes::put_reading;
-use lent_bytes::number_of;
+use lent_bytes::refusal_of;
+use par1::Refusal;
 
 // The MD5 of `bytes` over the first 16 bytes of `out`.
 #[no_mangle]
@@ -54,10 +57,10 @@ pub extern "C" fn par1_mul_add(weight: u8, fragment: &[u8], buffer: &mut [u8])
 
 // The parts of an index file or volume over the first 56 bytes of `out`.
 #[no_mangle]
-pub extern "C" fn par1_read(file: &[u8], out: &mut [u8]) -> u32
-    ensures { λ r. ⌜ (r, now (out .exit)) ≡ readInto (readOf (now (file .entry))) (now (out .entry)) ⌝ }
+pub extern "C" fn par1_read(file: &[u8], out: &mut [u8]) -> u64
+    ensures { λ r. ⌜ (r, now (out .exit)) ≡ answered (readInto (readOf (now (file .entry))) (now (out .entry))) ⌝ }
 {
-    put_reading(par1::read(file), out)
+    answer(put_reading(par1::read(file), out))
 }
 
 // Length, status and file size of the first entry of a list over the first 24 bytes of `out`; zeros where the list is over.
@@ -73,7 +76,7 @@ pub extern "C" fn par1_entry(list: &[u8], out: &mut [u8]) -> u32
 pub extern "C" fn par1_write_entry(contents: &[u8], status: u64, name: &[u8], out: &mut [u8]) -> u32
     ensures { λ r. ⌜ (r, now (out .exit)) ≡ withNumber (writeEntryOf (now (contents .entry)) status (now (name .entry)) (now (out .entry))) ⌝ }
 {
-    number_of(par1::write_entry(contents, status, name, out))
+    refusal_of(par1::write_entry(contents, status, name, out)).number
 }
 
 // Writes a volume, or an index where the number is 0, over the first bytes of `out`.
@@ -84,16 +87,24 @@ pub extern "C" fn par1_write_volume(
     list: &[u8],
     data: &[u8],
     out: &mut [u8],
-) -> u32
-    ensures { λ r. ⌜ (r, now (out .exit)) ≡ withNumber (writeVolumeOf program number (now (list .entry)) (now («data» .entry)) (now (out .entry))) ⌝ }
+) -> u64
+    ensures { λ r. ⌜ (r, now (out .exit)) ≡ answered (withRefusal (writeVolumeOf program number (now (list .entry)) (now («data» .entry)) (now (out .entry)))) ⌝ }
 {
-    number_of(par1::write_volume(program, number, list, data, out))
+    answer(refusal_of(par1::write_volume(program, number, list, data, out)))
 }
 
 // Whether the contents are those of the entry's file.
 #[no_mangle]
 pub extern "C" fn par1_check(entry: &[u8], contents: &[u8]) -> u32
-    ensures { λ r. ⌜ r ≡ checkOf (now (entry .entry)) (now (contents .entry)) ⌝ }
+    ensures { λ r. ⌜ r ≡ checkOf (now (entry .entry)) (now (contents .entry)) .number ⌝ }
 {
-    par1::check(entry, contents)
+    par1::check(entry, contents).number
+}
+
+// A refusal and its place in one number: the refusal's, and 32 times the place.
+fn answer(refusal: Refusal) -> u64
+    requires { ⌜ (refusal .number < 32) × (refusal .place < 2 ^ 59) ⌝ }
+    ensures { λ r. ⌜ r ≡ answerOf refusal ⌝ }
+{
+    refusal.number as u64 + 32 * refusal.place
 }

@@ -42,7 +42,7 @@ module _ (f : List ℕ) where
   unfolding totalsRefusal
   list-refusal set (walked.Entries t) =
       simp (part-take 32 16 96 f (omega arith), field 8 48 (omega arith), field 8 56 (omega arith), field 8 88 (omega arith))
-  list-refusal set (walked.Fault fault) = refl
+  list-refusal set (walked.Refused r) = refl
 
   parts-alone : (saved : ℕ) → partsFrom (take 96 f) saved ≡ partsFrom f saved
   parts-alone saved =

@@ -1,2 +1,4 @@
+pub mod FormerLaws
 pub mod HeaderLaws
+pub mod RangeLaws
 pub mod ReadingLaws

@@ -4,7 +4,7 @@
 --   control-passed                   what test 5, passed, tells
 --   TotalsPassed, totals-passed      what the tests after the walk, passed, tell
 --   header-none, control-none, totals-none     and the tests pass where that holds
---   refusalOf f, partsOf f           the number of the first test that holds of the file f, 0 where none does; what it gives where none does
+--   refusalOf f, partsOf f           the refusal of the file f, with the number 0 where there is none; what it gives where there is none
 --   header-refused, read-as          a file that its header refuses; any other, from its list, its digests and the walk
 --   from-refused, from-accepted      what reading gives, from the refusal
 --   read-refused, read-accepted      the same of a file
@@ -21,20 +21,23 @@ use lib.ListN.{length}
 use borrow.Author.Tests.{eqb-true, eq-eqb}
 use Rattle.lent_bytes.specs.Equal.{equal}
 use Rattle.lent_bytes.proofs.EqualLaws.{equal-true, equal-same}
+use Rattle.refusals.specs.Tests.{bare}
+use Rattle.refusals.specs.declared.Refusal.{Refusal}
 use Rattle.refusals.proofs.TestLaws.{test-passed, or-else, or-none}
 use Rattle.entries.specs.Numbering.{savedOf}
 use Rattle.entries.specs.Walk.{entriesOf, walkOf}
 use Rattle.entries.specs.declared.Totals.{Totals}
 use Rattle.entries.specs.declared.Walked.{Walked}
 use Rattle.entries.specs.declared.Walked.the-variants as walked
-use Rattle.entries.proofs.WalkLaws.{walk-saved}
+use Rattle.entries.proofs.WalkLaws.{walk-saved, walk-refused}
 use Rattle.par1_rules.specs.Layout.{signature, version, signatureOf, versionOf, controlHashOf, setHashOf}
 use Rattle.par1_rules.specs.Layout.{volumeNumberOf, countOf, dataSizeOf, listOf}
 use Rattle.par1_rules.specs.Hashes.{setHash, controlHash}
 use Rattle.par1_rules.specs.Rules.{lengthAllowed, versionAllowed, layoutAllowed, numberAllowed, dataAllowed}
-use Rattle.par1_rules.proofs.RuleLaws.{fault-some, Between, between, long-enough, Laid, laid, laid-out}
+use Rattle.par1_rules.proofs.RuleLaws.{Between, between, long-enough, Laid, laid, laid-out}
 use Rattle.par1_read.specs.Reading.{headerRefusal, controlRefusal, totalsRefusal, listRefusal, refusalFrom}
 use Rattle.par1_read.specs.Reading.{savedIn, partsFrom, readFrom, entriesIn, readOf}
+use Rattle.cut_lists.specs.Pieces.{ifZero}
 use Rattle.par1_read.specs.declared.reading.Parts.{Parts}
 use Rattle.par1_read.specs.declared.reading.Reading.the-variants.{Accepted, Refused}
 
@@ -90,11 +93,11 @@ module _ (head set : List ℕ) (t : Totals) where
   pub totals-passed : totalsRefusal head set t ≡ 0 → TotalsPassed head set t
   unfolding totalsRefusal
   totals-passed e =
-      let six = test-passed 6 (eqb (t .entries) (countOf head)) _ (omega arith) e in
-      let seven = test-passed 7 (numberAllowed (volumeNumberOf head) (t .saved)) _ (omega arith) (six .1) in
+      let nineteen = test-passed 19 (eqb (t .entries) (countOf head)) _ (omega arith) e in
+      let seven = test-passed 7 (numberAllowed (volumeNumberOf head) (t .saved)) _ (omega arith) (nineteen .1) in
       let eight = test-passed 8 (equal (setHashOf head) set) _ (omega arith) (seven .1) in
       let nine = test-passed 9 (dataAllowed (volumeNumberOf head) (t .greatest) (dataSizeOf head)) _ (omega arith) (eight .1) in
-      record { count-is = eqb-true _ _ (six .0); number-right = seven .0; set-is = equal-true _ _ (eight .0); data-right = nine .0 }
+      record { count-is = eqb-true _ _ (nineteen .0); number-right = seven .0; set-is = equal-true _ _ (eight .0); data-right = nine .0 }
 
   pub totals-none : TotalsPassed head set t → totalsRefusal head set t ≡ 0
   unfolding totalsRefusal
@@ -103,29 +106,32 @@ module _ (head set : List ℕ) (t : Totals) where
 -- ---- reading
 
 module _ (head : List ℕ) (n : ℕ) (digest set : List ℕ) (w : Walked) where
-  pub from-refused : (k : ℕ) → k ≡ refusalFrom head n digest set w → (k ≡ 0 → ⊥) → readFrom head n digest set w ≡ Refused k
+  pub from-refused : {r : Refusal} → r ≡ refusalFrom head n digest set w → (r .number ≡ 0 → ⊥) → readFrom head n digest set w ≡ Refused r
   unfolding readFrom
-  from-refused zero e h = absurd (h refl)
-  from-refused (suc k) e h = simp (sym e)
+  from-refused {r} e h = simp (sym e) (by (r .number) refl)
+    where
+      by : (k : ℕ) → k ≡ r .number → ifZero k (Accepted (partsFrom head (savedIn w))) (Refused r) ≡ Refused r
+      by zero z = absurd (h (sym z))
+      by (suc k) z = refl
 
-  pub from-accepted : {k : ℕ} {p : Parts} → refusalFrom head n digest set w ≡ 0 → k ≡ savedIn w → p ≡ partsFrom head k
+  pub from-accepted : {k : ℕ} {p : Parts} → refusalFrom head n digest set w .number ≡ 0 → k ≡ savedIn w → p ≡ partsFrom head k
       → readFrom head n digest set w ≡ Accepted p
   unfolding readFrom
   from-accepted e saved parts = simp (e, parts, saved)
 
-unfoldable pub refusalOf : List ℕ → ℕ
+unfoldable pub refusalOf : List ℕ → Refusal
 refusalOf f = refusalFrom f (length f) (controlHash f) (setHash (entriesIn f)) (walkOf (listOf f))
 
 abbrev pub partsOf : List ℕ → Parts
 partsOf f = partsFrom f (length (savedOf (entriesIn f)))
 
-pub read-refused : (f : List ℕ) {n : ℕ} → n ≡ refusalOf f → (n ≡ 0 → ⊥) → readOf f ≡ Refused n
+pub read-refused : (f : List ℕ) {r : Refusal} → r ≡ refusalOf f → (r .number ≡ 0 → ⊥) → readOf f ≡ Refused r
 unfolding readOf refusalOf
-read-refused f e h = from-refused f (length f) (controlHash f) (setHash (entriesIn f)) (walkOf (listOf f)) _ e h
+read-refused f e h = from-refused f (length f) (controlHash f) (setHash (entriesIn f)) (walkOf (listOf f)) e h
 
-pub header-refused : (f : List ℕ) {n : ℕ} → n ≡ headerRefusal f (length f) → (n ≡ 0 → ⊥) → readOf f ≡ Refused n
+pub header-refused : (f : List ℕ) {n : ℕ} → n ≡ headerRefusal f (length f) → (n ≡ 0 → ⊥) → readOf f ≡ Refused (bare n)
 unfolding refusalOf refusalFrom
-header-refused f {n} e h = read-refused f (e ∙ sym (or-else (headerRefusal f (length f)) _ (λ z. h (e ∙ z)))) h
+header-refused f {n} e h = read-refused f (ap bare e ∙ sym (or-else (headerRefusal f (length f)) _ (λ z. h (e ∙ z)))) h
 
 pub read-as : (f : List ℕ) {list digest set : List ℕ} {w : Walked} → list ≡ listOf f → digest ≡ controlHash f
     → set ≡ setHash (entriesOf list .pieces) → w ≡ walkOf list → readFrom f (length f) digest set w ≡ readOf f
@@ -142,14 +148,14 @@ pub record Passed (f : List ℕ) : Type 0 where
   pub walk-is : walkOf (listOf f) ≡ walked.Entries totals-of
   pub totals : TotalsPassed f (setHash (entriesIn f)) totals-of
 
-pub passed-none : (f : List ℕ) → Passed f → refusalOf f ≡ 0
+pub passed-none : (f : List ℕ) → Passed f → refusalOf f .number ≡ 0
 unfolding refusalOf refusalFrom
 passed-none f p =
     let set : List ℕ = setHash (entriesIn f) in
-    let list = ap (listRefusal f set) (p .walk-is) ∙ totals-none f set (p .totals-of) (p .totals) in
+    let list = ap (λ (w : Walked). listRefusal f set w .number) (p .walk-is) ∙ totals-none f set (p .totals-of) (p .totals) in
     simp (header-none f (length f) (p .header), control-none f (controlHash f) (p .control-is)) list
 
-none-passed : (f : List ℕ) → refusalOf f ≡ 0 → Passed f
+none-passed : (f : List ℕ) → refusalOf f .number ≡ 0 → Passed f
 unfolding refusalOf refusalFrom
 none-passed f e =
     let header = or-none (headerRefusal f (length f)) _ e in
@@ -159,13 +165,13 @@ none-passed f e =
     set : List ℕ
     set = setHash (entriesIn f)
 
-    list : (w : Walked) → w ≡ walkOf (listOf f) → HeaderPassed f (length f) → controlHashOf f ≡ controlHash f → listRefusal f set w ≡ 0
+    list : (w : Walked) → w ≡ walkOf (listOf f) → HeaderPassed f (length f) → controlHashOf f ≡ controlHash f → listRefusal f set w .number ≡ 0
         → Passed f
     list (walked.Entries t) w h c e =
         record { header = h; control-is = c; totals-of = t; walk-is = sym w; totals = totals-passed f set t e }
-    list (walked.Fault k) w h c e = absurd (omega (arith, fault-some k))
+    list (walked.Refused r) w h c e = absurd (omega (arith, walk-refused (listOf f) (sym w) .low))
 
-pub read-accepted : (f : List ℕ) → refusalOf f ≡ 0 → readOf f ≡ Accepted (partsOf f)
+pub read-accepted : (f : List ℕ) → refusalOf f .number ≡ 0 → readOf f ≡ Accepted (partsOf f)
 unfolding readOf refusalOf
 read-accepted f e =
     let p = none-passed f e in
@@ -178,9 +184,9 @@ pub record ReadAccepted (f : List ℕ) (p : Parts) : Type 0 where
   pub parts-are : p ≡ partsOf f
 
 pub read-tells : (f : List ℕ) (p : Parts) → readOf f ≡ Accepted p → ReadAccepted f p
-read-tells f p e = by (refusalOf f) refl
+read-tells f p e = by (refusalOf f .number) refl
   where
-    by : (n : ℕ) → n ≡ refusalOf f → ReadAccepted f p
+    by : (n : ℕ) → n ≡ refusalOf f .number → ReadAccepted f p
     by zero n = let found = read-accepted f (sym n) in record { tests = none-passed f (sym n); parts-are = cc }
     by (suc m) n =
-        let found = read-refused f n (λ z. omega arith) in absurd (let z : _≡_ {A = ℕ} 0 1 = cc in omega arith)
+        let found = read-refused f refl (λ z. omega arith) in absurd (let z : _≡_ {A = ℕ} 0 1 = cc in omega arith)

@@ -1,4 +1,4 @@
-// Reading of index files and volumes (document 01, "What comes back", tests 1 to 9).
+// Reading of index files and volumes (document 01, "What comes back", tests 1 to 9; document 02, 2026-01, has 16 to 19 for 6).
 ghost use mathlib.Core.Path.{_≡_};
 ghost use Rattle.par1_read.specs.Reading.{headerRefusal, controlRefusal, totalsRefusal, listRefusal, refusalFrom};
 ghost use Rattle.par1_read.specs.Reading.{savedIn, partsFrom, readFrom, readOf};
@@ -7,6 +7,8 @@ use entries::Walked;
 use par1_rules::hashes;
 use par1_rules::layout;
 use par1_rules::rules;
+use refusals::Refusal;
+use refusals::bare;
 use refusals::or_else;
 use refusals::test;
 
@@ -22,19 +24,19 @@ pub struct Parts {
     pub data_size: u64,
 }
 
-// What reading a file gives: its parts, or the number of the first test that holds.
+// What reading a file gives: its parts, or the refusal by the first test that holds.
 pub enum Reading {
     Accepted(Parts),
-    Refused(u32),
+    Refused(Refusal),
 }
 
-// The parts of `file`, or the number of the first test that holds. A file whose header is refused has no list to walk over.
+// The parts of `file`, or the refusal by the first test that holds. A file whose header is refused has no list to walk over.
 pub fn read(file: &[u8]) -> Reading
     ensures { λ r. ⌜ r ≡ readOf (now (file .entry)) ⌝ }
 {
-    let refusal = header_refusal(file, file.len());
-    if refusal != 0 {
-        return Reading::Refused(refusal);
+    let number = header_refusal(file, file.len());
+    if number != 0 {
+        return Reading::Refused(bare(number));
     }
     let list_size = little_endian::read64(file, layout::LIST_SIZE_AT);
     let list = layout::part(file, layout::HEADER_LENGTH, list_size as usize);
@@ -49,14 +51,14 @@ pub fn read_from(head: &[u8], length: usize, digest: &[u8], set: &[u8], walked: 
     ensures { λ r. ⌜ r ≡ readFrom (now (head .entry)) length (now (digest .entry)) (now (set .entry)) walked ⌝ }
 {
     let refusal = refusal_from(head, length, digest, set, walked);
-    if refusal != 0 {
+    if refusal.number != 0 {
         return Reading::Refused(refusal);
     }
     Reading::Accepted(parts_from(head, saved_in(walked)))
 }
 
-// The number of the first of tests 1 to 9 that holds, 0 where none does.
-fn refusal_from(head: &[u8], length: usize, digest: &[u8], set: &[u8], walked: Walked) -> u32
+// The refusal by the first test that holds, with the number 0 where none does.
+fn refusal_from(head: &[u8], length: usize, digest: &[u8], set: &[u8], walked: Walked) -> Refusal
     ensures { λ r. ⌜ r ≡ refusalFrom (now (head .entry)) length (now (digest .entry)) (now (set .entry)) walked ⌝ }
 {
     let header = header_refusal(head, length);
@@ -87,17 +89,17 @@ fn control_refusal(head: &[u8], digest: &[u8]) -> u32
     test(refusals::CONTROL_HASH, lent_bytes::same(hash, digest), 0)
 }
 
-// The number of the first of tests 6 to 9 that holds, 0 where none does.
-fn list_refusal(head: &[u8], set: &[u8], walked: Walked) -> u32
+// The refusal by the first of the tests on the list that holds, with the number 0 where none does.
+fn list_refusal(head: &[u8], set: &[u8], walked: Walked) -> Refusal
     ensures { λ r. ⌜ r ≡ listRefusal (now (head .entry)) (now (set .entry)) walked ⌝ }
 {
     match walked {
-        Walked::Entries(totals) => totals_refusal(head, set, totals),
-        Walked::Fault(fault) => entries::fault_number(fault),
+        Walked::Entries(totals) => bare(totals_refusal(head, set, totals)),
+        Walked::Refused(refusal) => refusal,
     }
 }
 
-// The number of the first of the tests on the count, 7, 8 and 9 that holds, 0 where none does.
+// The number of the first of tests 19, 7, 8 and 9 that holds, 0 where none does.
 fn totals_refusal(head: &[u8], set: &[u8], totals: Totals) -> u32
     ensures { λ r. ⌜ r ≡ totalsRefusal (now (head .entry)) (now (set .entry)) totals ⌝ }
 {
@@ -111,7 +113,7 @@ fn totals_refusal(head: &[u8], set: &[u8], totals: Totals) -> u32
     let from_9 = test(refusals::DATA_SIZE, sized, 0);
     let from_8 = test(refusals::SET_HASH, hashed, from_9);
     let from_7 = test(refusals::VOLUME_NUMBER, numbered, from_8);
-    test(refusals::ENTRY, counted, from_7)
+    test(refusals::ENTRY_COUNT, counted, from_7)
 }
 
 // The parts that the header tells, with the number of saved entries.
@@ -135,6 +137,6 @@ fn saved_in(walked: Walked) -> u64
 {
     match walked {
         Walked::Entries(totals) => totals.saved,
-        Walked::Fault(_) => 0,
+        Walked::Refused(_) => 0,
     }
 }

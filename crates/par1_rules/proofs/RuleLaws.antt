@@ -1,6 +1,5 @@
 -- The rules that reading and writing share: what a test tells where it passed, and when it passes.
 --
---   fault-some               every fault has a refusal
 --   signature-is             the signature, as a number
 --   Between, between, long-enough, too-long     a right length, in numbers
 --   Laid, laid, not-laid, laid-out              a right layout, in numbers
@@ -14,20 +13,10 @@ use native.Mathlib.Omega.{arith}
 use lib.Dec.{leb, eqb}
 use borrow.Author.Tests.{leb-true, eqb-true, eq-eqb, le-leb, lt-leb}
 use Rattle.computed_tests.proofs.Tests.{and-both}
-use Rattle.entries.specs.Walk.{faultNumber}
-use Rattle.entries.specs.declared.Fault.{Fault}
-use Rattle.entries.specs.declared.Fault.the-variants.{Size, FileSize, Name}
 use Rattle.little_endian.specs.Bytes.{fromLe}
 use Rattle.refusals.specs.Limits.{maxVolumeLength}
 use Rattle.par1_rules.specs.Layout.{signature, listStartOf, listSizeOf, dataStartOf, dataSizeOf}
 use Rattle.par1_rules.specs.Rules.{lengthAllowed, layoutAllowed}
-
--- ---- faults
-
-pub fault-some : (f : Fault) → 0 < faultNumber f
-fault-some Size = omega arith
-fault-some FileSize = omega arith
-fault-some Name = omega arith
 
 -- ---- the signature and the length
 

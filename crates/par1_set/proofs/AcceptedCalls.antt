@@ -17,6 +17,8 @@ use Rattle.lent_bytes.proofs.WritingLaws.{never, unless-accepted, unless-tells}
 use Rattle.par1_write.specs.EntryWriting.{entryRefusal, writeEntryOf}
 use Rattle.par1_write.specs.VolumeWriting.{writeVolumeOf}
 use Rattle.par1_write.proofs.EntryWritingLaws.{entry-passed}
+use Rattle.refusals.specs.Tests.{bare}
+use Rattle.refusals.specs.declared.Refusal.{Refusal}
 use Rattle.par1_set.specs.Calls.{next, writeEntries, writeSet}
 use Rattle.par1_set.specs.Files.{File, entryFor, listFor, FileRight}
 use Rattle.par1_set.proofs.CallLaws.{entries-written, set-then}
@@ -32,7 +34,7 @@ entry-tells : (x : File) (out : List ℕ) {n : ℕ} {after : List ℕ} → write
     → EntryTold x out n after
 unfolding writeEntryOf
 entry-tells x out {n} {after} e =
-    let refusal : ℕ = entryRefusal (length (x .contents)) (x .status) (x .name) in
+    let refusal : Refusal = bare (entryRefusal (length (x .contents)) (x .status) (x .name)) in
     let s : List ℕ = entryFor x in
     let told = unless-tells refusal s out e in
     let p = entry-passed (length (x .contents)) (x .status) (x .name) (told .none) in

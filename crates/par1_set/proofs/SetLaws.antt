@@ -30,6 +30,7 @@ use Rattle.par1_set.specs.Claim.{FileBack}
 use Rattle.par1_set.specs.Files.{File, fileCount, listFor, dataSizeFor, FileRight}
 use Rattle.par1_set.specs.Volume.{bytesFor}
 use Rattle.par1_set.proofs.AcceptedCalls.{set-tells}
+use Rattle.refusals.specs.declared.Refusal.{Refusal}
 use Rattle.par1_set.proofs.CallLaws.{entries-written, set-then}
 use Rattle.par1_set.proofs.FileEntries.{files-back, totalsFor, walk-is}
 use Rattle.par1_set.proofs.Layouts.{bytes-are, length-bytes}
@@ -77,7 +78,7 @@ unfolding writeVolumeOf
 set-only program v fs area room out {n} {after} e =
     let told = set-tells program v fs area room out e in
     let l : List ℕ = listFor fs in
-    let refusal : ℕ = walkRefusal v (walkOf l) (length l) (length area) in
+    let refusal : Refusal = walkRefusal v (walkOf l) (length l) (length area) in
     let f : List ℕ = volumeBytes program v l area in
     let fits = unless-tells refusal f out (told .1) in
     let written : (Written n, after) ≡ accepted f out = sym (told .1) ∙ unless-accepted refusal f out (fits .none) (fits .fits) in

@@ -1,13 +1,14 @@
 -- What writing an index or a volume gives (document 01: "Writing a volume from program identifier, number (0 writes an index), list and
--- data tests 6 (the list's rules; it makes the count itself), 7, 9, 1 (the total), 14").
+-- data tests 6 (the list's rules; it makes the count itself), 7, 9, 1 (the total), 14"; document 02, 2026-01, has 16 to 18, with the place of
+-- the entry, where 01 has 6).
 --
 --   numberBytes v n l d                 the six numbers of volume v with n entries, l bytes of list and d bytes of data
 --   bodyBytes n v list data             the bytes of volume v from 32 to the end, with n entries in the list
 --   headBytes p body                    the bytes before body, which the program p writes
 --   volumeBytes p v list data           the bytes of volume v, written by the program p
---   volumeRefusal v t l d               the refusal by the tests 7, 9 and 1, where the walk over the list gave the totals t, and list and
+--   volumeRefusal v t l d               the number of the refusal by the tests 7, 9 and 1, where the walk over the list gave the totals t, and list and
 --                                       data have l and d bytes
---   walkRefusal v w l d                 the refusal by the tests before 14, from the walk w over the list, 0 where there is none
+--   walkRefusal v w l d                 the refusal by the tests before 14, from the walk w over the list; its number is 0 where there is none
 --   writeVolumeOf p v list data out     what writing gives
 -- Assumes nothing.
 use Prim.Native.Nat.{ℕ, _+_}
@@ -17,13 +18,14 @@ use Rattle.lent_bytes.specs.Writing.{writtenUnless}
 use Rattle.lent_bytes.specs.declared.Writing.{Writing}
 use Rattle.little_endian.specs.Bytes.{toLe, numbers}
 use Rattle.md5.specs.Digest.{md5}
-use Rattle.entries.specs.Walk.{faultNumber, entriesOf, walkOf}
+use Rattle.entries.specs.Walk.{entriesOf, walkOf}
 use Rattle.entries.specs.declared.Totals.{Totals}
 use Rattle.entries.specs.declared.Walked.{Walked}
 use Rattle.entries.specs.declared.Walked.the-variants as walked
 use Rattle.par1_rules.specs.Layout.{signature, version}
 use Rattle.par1_rules.specs.Hashes.{setHash}
-use Rattle.refusals.specs.Tests.{test}
+use Rattle.refusals.specs.Tests.{bare, test}
+use Rattle.refusals.specs.declared.Refusal.{Refusal}
 use Rattle.par1_rules.specs.Rules.{lengthAllowed, numberAllowed, dataAllowed}
 
 -- "Then six 64-bit numbers: at 48 volume number (0 for the index), at 56 number of entries, at 64 list start, at 72 list size, at 80 data
@@ -51,9 +53,9 @@ volumeRefusal number t list-len data-len =
     (test 9 (dataAllowed number (t .greatest) data-len)
     (test 1 (lengthAllowed (96 + list-len + data-len)) 0))
 
-abbrev pub walkRefusal : ℕ → Walked → ℕ → ℕ → ℕ
-walkRefusal number (walked.Entries t) list-len data-len = volumeRefusal number t list-len data-len
-walkRefusal number (walked.Fault fault) list-len data-len = faultNumber fault
+abbrev pub walkRefusal : ℕ → Walked → ℕ → ℕ → Refusal
+walkRefusal number (walked.Entries t) list-len data-len = bare (volumeRefusal number t list-len data-len)
+walkRefusal number (walked.Refused r) list-len data-len = r
 
 unfoldable pub writeVolumeOf : ℕ → ℕ → List ℕ → List ℕ → List ℕ → Writing × List ℕ
 writeVolumeOf program number list «data» out =

@@ -7,6 +7,7 @@ ghost use Rattle.par1_write.specs.EntryWriting.{entryBytes, entryRefusal
 use entries::Fault;
 use lent_bytes::Writing;
 use par1_rules::hashes;
+use refusals::bare;
 use refusals::test;
 
 // The greatest status that an entry is written with.
@@ -16,15 +17,15 @@ const MAX_STATUS: u64 = 3;
 pub fn write_entry(contents: &[u8], status: u64, name: &[u8], out: &mut [u8]) -> Writing
     ensures { λ r. ⌜ (r, now (out .exit)) ≡ writeEntryOf (now (contents .entry)) status (now (name .entry)) (now (out .entry)) ⌝ }
 {
-    let refusal = entry_refusal(contents.len(), status, name);
-    if refusal != 0 {
-        return Writing::Refused(refusal);
+    let number = entry_refusal(contents.len(), status, name);
+    if number != 0 {
+        return Writing::Refused(bare(number));
     }
     if out.len() < entries::NAME_AT {
-        return Writing::Refused(refusals::NO_ROOM);
+        return Writing::Refused(bare(refusals::NO_ROOM));
     }
     if out.len() - entries::NAME_AT < name.len() {
-        return Writing::Refused(refusals::NO_ROOM);
+        return Writing::Refused(bare(refusals::NO_ROOM));
     }
     put_entry(out, contents, status, name);
     Writing::Written(entries::NAME_AT + name.len())

@@ -11,6 +11,7 @@ use lent_bytes::Writing;
 use par1_rules::hashes;
 use par1_rules::layout;
 use par1_rules::rules;
+use refusals::bare;
 use refusals::test;
 
 // Writes volume `number`, or the index where it is 0, over the first bytes of `out`.
@@ -21,17 +22,17 @@ pub fn write_volume(program: u32, number: u64, list: &[u8], data: &[u8], out: &m
         Walked::Entries(totals) => {
             let refusal = volume_refusal(number, totals, list.len(), data.len());
             if refusal != 0 {
-                return Writing::Refused(refusal);
+                return Writing::Refused(bare(refusal));
             }
             let total = layout::HEADER_LENGTH + list.len() + data.len();
             if out.len() < total {
-                return Writing::Refused(refusals::NO_ROOM);
+                return Writing::Refused(bare(refusals::NO_ROOM));
             }
             put_body(out, number, totals.entries, list, data);
             put_head(out, program, total);
             Writing::Written(total)
         }
-        Walked::Fault(fault) => Writing::Refused(entries::fault_number(fault)),
+        Walked::Refused(refusal) => Writing::Refused(refusal),
     }
 }
 

@@ -1,7 +1,7 @@
-// Refusals: the limits (document 01, "Sizes"), the numbers of the table of refusals (document 01, "What comes back"), and tests one after
-// another.
+// Refusals: the limits (document 01, "Sizes"), the numbers of the table of refusals (document 01, "What comes back"; document 02, 2026-01),
+// a refusal with its place, and tests one after another.
 ghost use mathlib.Core.Path.{_≡_};
-ghost use Rattle.refusals.specs.Tests.{test, orElse};
+ghost use Rattle.refusals.specs.Tests.{bare, test, orElse};
 
 // The greatest size of a listed file, in bytes.
 pub const MAX_FILE_SIZE: u64 = 16777216;
@@ -30,9 +30,6 @@ pub const LAYOUT: u32 = 4;
 // The control hash differs.
 pub const CONTROL_HASH: u32 = 5;
 
-// An entry or the list breaks a rule, or the count of entries differs.
-pub const ENTRY: u32 = 6;
-
 // Too many saved files, or the volume number does not go with them.
 pub const VOLUME_NUMBER: u32 = 7;
 
@@ -60,6 +57,31 @@ pub const NO_ROOM: u32 = 14;
 // Length, MD5 or 16k MD5 differ from the entry.
 pub const DIFFERENT: u32 = 15;
 
+// The size of an entry is odd, below 58, or past the end of its list or its slice; or a lone entry does not fill its slice.
+pub const ENTRY_SIZE: u32 = 16;
+
+// The file size of an entry is above its limit; or so are the contents or the status of an entry to be written.
+pub const FILE_SIZE: u32 = 17;
+
+// The name of an entry has a unit that is not allowed; or that of an entry to be written is no name.
+pub const NAME: u32 = 18;
+
+// The number of entries differs.
+pub const ENTRY_COUNT: u32 = 19;
+
+// A refusal: its number, and the place in its list, from 1, of the entry that it is about; 0 where there is none. The number 0 is no refusal.
+pub struct Refusal {
+    pub number: u32,
+    pub place: u64,
+}
+
+// The refusal `number` without a place.
+pub fn bare(number: u32) -> Refusal
+    ensures { λ r. ⌜ r ≡ bare number ⌝ }
+{
+    Refusal { number, place: 0 }
+}
+
 // The refusal `number` unless `ok` holds; else `later`, which the further tests give. 0 is no refusal.
 pub fn test(number: u32, ok: bool, later: u32) -> u32
     ensures { λ r. ⌜ r ≡ test number ok later ⌝ }
@@ -67,9 +89,12 @@ pub fn test(number: u32, ok: bool, later: u32) -> u32
     if ok { later } else { number }
 }
 
-// The refusal `first` where it is one, else `second`.
-pub fn or_else(first: u32, second: u32) -> u32
+// The refusal `first`, which has no place, where it is one, else `second`.
+pub fn or_else(first: u32, second: Refusal) -> Refusal
     ensures { λ r. ⌜ r ≡ orElse first second ⌝ }
 {
-    if first == 0 { second } else { first }
+    if first == 0 {
+        return second;
+    }
+    bare(first)
 }

@@ -10,6 +10,7 @@ use mathlib.Core.List.{List, [], _++_}
 use Prim.Native.Nat.{ℕ, _≤_, _<_, min}
 use native.Mathlib.Omega.{arith}
 use lib.ListN.{length}
+use Rattle.refusals.specs.Tests.{bare}
 use Rattle.lent_bytes.specs.Writing.{refused, written}
 use Rattle.lent_bytes.specs.declared.Writing.the-variants.{Written}
 use Rattle.lent_bytes.proofs.WritingLaws.{written-fits, written-short}
@@ -32,5 +33,5 @@ module _ (t out : List ℕ) {l : List ℕ} {n : ℕ} (e : buffer l n ≡ put (bu
       let n-is : n ≡ length t = omega (arith, count) in
       written-fits t out small n-is (ap (λ (b : Buffer). b .bytes) whole)
 
-  pub fit-refused : length (l ++ out) < n → refused 14 (l ++ out) ≡ written t out
-  fit-refused k = ap (refused 14) unwritten ∙ written-short t out (omega (arith, count, ap length unwritten))
+  pub fit-refused : length (l ++ out) < n → refused (bare 14) (l ++ out) ≡ written t out
+  fit-refused k = ap (refused (bare 14)) unwritten ∙ written-short t out (omega (arith, count, ap length unwritten))

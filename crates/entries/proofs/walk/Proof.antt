@@ -8,6 +8,7 @@ use mathlib.Core.List.{List}
 use denote.Ref.{now}
 use Rattle.entries.specs.Walk.{entriesOf, walkOf}
 use Rattle.entries.specs.declared.Totals.{Totals}
+use Rattle.entries.specs.declared.Walked.the-variants as walked
 use Rattle.entries.proofs.EntryLaws.{is-end, is-fault, EntryAt, entry-at}
 use Rattle.entries.proofs.WalkLaws.{walkFrom, walk-start, walk-more, walk-end, walk-fault, add-added}
 use borrow.Author.Needs.{needs}
@@ -57,8 +58,10 @@ returns c =
 
 returns-2 : tie.Need-returns-2 Inv-loop μ-loop
 returns-2 c =
-    let l = c .before .before .before .before .loop in
-    sym (walk-fault (l .totals) (is-fault (sym (c .before .fault .given .1) ∙ c .before .before .before .at .ensures))) ∙ l .inv .3
+    let f = c .before .before .before in
+    let l = f .before .before .before .loop in
+    let refused = walk-fault (l .totals) (is-fault (sym (f .fault .given .1) ∙ f .before .before .at .ensures)) in
+    ap walked.Refused (c .refusal-at .ensures) ∙ sym refused ∙ l .inv .3
 
 pub walk-spec : {M : Type 1} → statement M
 walk-spec =
@@ -76,4 +79,6 @@ walk-spec =
     (λ c. search needs)
     returns
     (λ c. search needs)
+    (λ c. search needs)
+    (λ c κs. search needs)
     returns-2)

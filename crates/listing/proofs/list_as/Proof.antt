@@ -17,9 +17,10 @@ returns c =
 
 returns-2 : tie.Need-returns-2
 returns-2 c =
-    let s = c .before .before .before .before .before .before .before in
-    fit-refused (listingBy (s .args .reading) (now (s .args .file))) (now (s .args .out)) (c .before .before .before .put-listing .ensures)
-    (omega (arith, s .good .1 .1 .0 .1)) (c .if1 .left)
+    let s = c .before .before .before .before .before .before .before .before in
+    rw (c .bare .ensures)
+    (fit-refused (listingBy (s .args .reading) (now (s .args .file))) (now (s .args .out)) (c .before .before .before .before .put-listing .ensures)
+    (omega (arith, s .good .1 .1 .0 .1)) (c .before .if1 .left))
 
 pub list-as-spec : {M : Type 1} → statement M
 list-as-spec =
@@ -31,5 +32,6 @@ list-as-spec =
     (λ c κs. search needs)
     (λ c. search needs)
     returns
+    (λ c κs. search needs)
     (λ c. search needs)
     returns-2)

@@ -11,7 +11,9 @@ use Rattle.par1_read.specs.declared.reading.Reading.the-variants.{Accepted}
 use Rattle.text.specs.Buffer.{buffer, put}
 use Rattle.text.proofs.BufferLaws.{put-then}
 use Rattle.listing.specs.Lines.{refusedLine}
-use Rattle.listing.specs.Listing.{refusal, listingBy, ListIn}
+use Rattle.par1_read.specs.Reading.{readingRefusal}
+use Rattle.refusals.specs.declared.Refusal.{Refusal}
+use Rattle.listing.specs.Listing.{listingBy, ListIn}
 use borrow.Author.Needs.{needs}
 use Rattle.listing.proofs.put_listing.Statement.{statement}
 use Rattle.listing.proofs.put_listing.Tie as tie
@@ -28,7 +30,7 @@ returns c =
     let a = c .before .before .before .before .before .before .before .before .before .args in
     let here = buffer (now (a .out)) 0 in
     c .before .before .put-refused .ensures
-    ∙ ap (λ (n : ℕ). put here (refusedLine n)) (c .before .before .before .refusal .ensures ∙ ap refusal told)
+    ∙ ap (λ (r : Refusal). put here (refusedLine r)) (c .before .before .before .refusal .ensures ∙ ap readingRefusal told)
     ∙ ap (λ (r : Reading). put here (listingBy r (now (a .file)))) (sym told)
 
 add-end : tie.Need-add-end

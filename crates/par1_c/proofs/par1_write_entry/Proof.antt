@@ -6,7 +6,7 @@ use Rattle.par1_c.proofs.par1_write_entry.Statement.{statement}
 use Rattle.par1_c.proofs.par1_write_entry.Tie as tie
 
 returns : tie.Need-returns
-returns c = numbered-as (c .number-of .ensures) (c .before .before .before .write-entry .ensures)
+returns c = numbered-as (c .refusal-of .ensures) (c .before .before .before .write-entry .ensures)
 
 pub par1-write-entry-spec : {M : Type 1} → statement M
 par1-write-entry-spec =

@@ -1,13 +1,24 @@
 -- `par1_c::par1_write_volume` meets its contract.
 -- Assumes nothing.
-use Rattle.lent_bytes.proofs.WritingLaws.{numbered-as}
+use mathlib.Core.Path.{ap}
+use native.Mathlib.Omega.{arith}
+use Rattle.lent_bytes.proofs.WritingLaws.{refused-as}
+use Rattle.par1_c.specs.Answers.{answered}
+use Rattle.par1_c.proofs.AnswerLaws.{volume-asked}
 use borrow.Author.Needs.{needs}
 use Rattle.par1_c.proofs.par1_write_volume.Statement.{statement}
 use Rattle.par1_c.proofs.par1_write_volume.Tie as tie
 
+answer-requires : tie.Need-answer-requires
+answer-requires c κs =
+    volume-asked _ _ _ _ _ (omega arith) (refused-as (c .refusal-of .ensures) (c .before .before .before .write-volume .ensures))
+
 returns : tie.Need-returns
-returns c = numbered-as (c .number-of .ensures) (c .before .before .before .write-volume .ensures)
+returns c =
+    let f = c .before in
+    rw (c .answer .ensures) (ap answered (refused-as (f .refusal-of .ensures) (f .before .before .before .write-volume .ensures)))
 
 pub par1-write-volume-spec : {M : Type 1} → statement M
 par1-write-volume-spec =
-    tie.close (tie.spec (λ c κs. search needs) (λ c κs. search needs) (λ c. search needs) returns)
+    tie.close
+    (tie.spec (λ c κs. search needs) (λ c κs. search needs) answer-requires (λ c. search needs) returns)

@@ -8,6 +8,7 @@ use lib.ListN.{length, take, drop}
 use denote.Ref.{now}
 use Rattle.lent_bytes.proofs.PartLaws.{part-to-end}
 use Rattle.md5.specs.Digest.{md5}
+use Rattle.par1_read.specs.declared.reading.Reading.the-variants.{Refused}
 use Rattle.par1_read.proofs.ReadingLaws.{HeaderPassed, header-passed, header-refused, read-as}
 use borrow.Author.Needs.{needs}
 use Rattle.par1_read.proofs.reading.read.Statement.{statement}
@@ -18,7 +19,7 @@ passed : (c : tie.Else1) → let f = now (c .before .before .before .args .file)
 passed c = header-passed _ _ (sym (c .before .header-refusal .ensures) ∙ c .if1 .left)
 
 returns : tie.Need-returns
-returns c = sym (header-refused _ (c .before .header-refusal .ensures) (c .if1 .taken))
+returns c = ap Refused (c .bare .ensures) ∙ sym (header-refused _ (c .before .before .header-refusal .ensures) (c .before .if1 .taken))
 
 sub-digest : tie.Need-sub-digest
 sub-digest c = omega (arith, passed (c .before .before) .size .low)
@@ -40,6 +41,7 @@ pub read-spec : {M : Type 1} → statement M
 read-spec =
     tie.close
     (tie.spec
+    (λ c κs. search needs)
     (λ c κs. search needs)
     returns
     (λ c κs. search needs)

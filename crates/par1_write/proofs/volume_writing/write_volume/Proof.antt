@@ -8,8 +8,10 @@ use denote.Ref.{now}
 use lib.Seq.{length-sets}
 use Rattle.entries.specs.Walk.{walkOf}
 use Rattle.entries.specs.declared.Walked.the-variants as walked
-use Rattle.entries.proofs.WalkLaws.{walk-count}
-use Rattle.par1_rules.proofs.RuleLaws.{Between, fault-some}
+use Rattle.entries.proofs.WalkLaws.{walk-count, walk-refused}
+use Rattle.refusals.specs.declared.Refusal.{Refusal}
+use Rattle.par1_rules.proofs.RuleLaws.{Between}
+use Rattle.refusals.specs.Tests.{bare}
 use Rattle.par1_write.proofs.VolumeWritingLaws.{volume-passed, volume-refused, volume-short, volume-over}
 use borrow.Author.Needs.{needs}
 use Rattle.par1_write.proofs.volume_writing.write_volume.Statement.{statement}
@@ -27,15 +29,20 @@ short : (c : tie.Else1)
 short c = volume-passed _ _ _ _ (sym (c .before .volume-refusal .ensures) ∙ c .if1 .left) .size
 
 returns : tie.Need-returns
-returns c = volume-refused _ _ _ _ _ (walk-is (c .before .before .before)) (c .before .volume-refusal .ensures) (c .if1 .taken) refl
+returns c =
+    let k = c .before in
+    let refusal = c .bare .ensures ∙ ap bare (k .before .volume-refusal .ensures) in
+    volume-refused _ _ _ _ _ (walk-is (k .before .before .before)) refusal
+    (λ z. k .if1 .taken (sym (ap (λ (r : Refusal). r .number) (c .bare .ensures)) ∙ z))
 
 add-total-2 : tie.Need-add-total-2
 add-total-2 c = omega (arith, short c .high)
 
 returns-2 : tie.Need-returns-2
 returns-2 c =
-    let k = c .before in
-    volume-short _ _ _ _ _ (walk-is (k .before .before .before)) (k .before .volume-refusal .ensures) (k .if1 .left) (c .if2 .taken)
+    let k = c .before .before in
+    volume-short _ _ _ _ _ (walk-is (k .before .before .before)) (ap bare (k .before .volume-refusal .ensures)) (c .bare2 .ensures) (k .if1 .left)
+    (c .before .if2 .taken)
 
 put-head-requires : tie.Need-put-head-requires
 put-head-requires c κs =
@@ -46,14 +53,14 @@ returns-3 c =
     let b = c .before .before .before .before .before .before in
     let k = b .before .before .before in
     let w = k .before .before .before in
-    volume-over _ _ _ _ _ (walk-is w) (k .before .volume-refusal .ensures) (k .if1 .left) (b .before .before .if2 .left)
+    volume-over _ _ _ _ _ (walk-is w) (ap bare (k .before .volume-refusal .ensures)) (k .if1 .left) (b .before .before .if2 .left)
     (walk-count _ (sym (walk-is w))) (b .put-body .ensures) (c .before .before .put-head .ensures)
 
 returns-4 : tie.Need-returns-4
 returns-4 c =
-    let f = c .before .before in
-    volume-refused _ _ _ _ _ (sym (f .fault .given .1) ∙ f .before .before .walk .ensures) (c .fault-number .ensures)
-    (λ z. omega (arith, fault-some (f .fault .given .0 .0), c .fault-number .ensures)) refl
+    let f = c .before in
+    let walk = sym (f .refusal .given .1) ∙ f .before .before .walk .ensures in
+    volume-refused _ _ _ _ _ walk refl (λ z. omega (arith, walk-refused _ (sym walk) .low))
 
 pub write-volume-spec : {M : Type 1} → statement M
 write-volume-spec =
@@ -62,14 +69,15 @@ write-volume-spec =
     (λ c κs. search needs)
     (λ c. search needs)
     (λ c κs. search needs)
+    (λ c κs. search needs)
     returns
     (λ c. search needs)
     add-total-2
+    (λ c κs. search needs)
     returns-2
     (λ c κs. search needs)
     put-head-requires
     (λ c. search needs)
-    (λ c κs. search needs)
     (λ c. search needs)
     returns-3
     returns-4)

@@ -1,0 +1,77 @@
+-- The answers that tell a refusal and its place.
+--
+--   Answerable, answerable    a refusal of a list whose length is a u64, in numbers
+--   read-within               which refusals reading gives
+--   read-answerable, volume-answerable    those of reading and of writing a volume
+--   read-asked, volume-asked  the same, as what `answer` requires
+--   read-told, volume-told    the claims
+-- Assumes nothing.
+use mathlib.Core.Path.{_≡_, refl, sym, ap}
+use mathlib.Core.List.{List}
+use Prim.Native.Nat.{ℕ, zero, suc, _+_, _/_, _^_, _<_}
+use native.Mathlib.Omega.{arith}
+use lib.ListN.{length}
+use Rattle.refusals.specs.Tests.{bare}
+use Rattle.refusals.specs.declared.Refusal.{Refusal}
+use Rattle.refusals.proofs.RangeLaws.{Within, bare-within}
+use Rattle.lent_bytes.specs.Writing.{withRefusal, writtenUnless}
+use Rattle.lent_bytes.proofs.WritingLaws.{unless-within}
+use Rattle.answer_bytes.specs.Results.{partsBytes, readInto}
+use Rattle.par1_read.specs.Reading.{readOf}
+use Rattle.par1_read.proofs.RangeLaws.{refusal-within}
+use Rattle.par1_read.proofs.ReadingLaws.{refusalOf, partsOf, read-accepted, read-refused}
+use Rattle.par1_write.specs.VolumeWriting.{writeVolumeOf}
+use Rattle.par1_write.proofs.VolumeWritingLaws.{volume-within}
+use Rattle.par1_c.specs.Answers.{Told}
+use Rattle.par1_c.specs.Claim.{ReadTold, VolumeTold}
+
+pub record Answerable (r : Refusal) : Type 0 where
+  pub number-most : r .number < 32
+  pub place-most : r .place < 2 ^ 59
+
+answerable : (n : ℕ) (r : Refusal) → n < 2 ^ 64 → Within (n / 58 + 1) r → Answerable r
+answerable n r h w = record { number-most = omega (arith, w .number-most); place-most = omega (arith, w .place-most) }
+
+told : (r : Refusal) → Answerable r → Told r
+told r a =
+    record {
+      number-is = omega (arith, a .number-most);
+      place-is = omega (arith, a .number-most);
+      fits = omega (arith, a .number-most, a .place-most);
+    }
+
+read-within : (f out : List ℕ) → Within (length f / 58 + 1) (readInto (readOf f) out .0)
+unfolding readInto writtenUnless
+read-within f out = by (refusalOf f .number) refl
+  where
+    k : ℕ
+    k = length f / 58 + 1
+
+    by : (n : ℕ) → n ≡ refusalOf f .number → Within k (readInto (readOf f) out .0)
+    by zero e = rw (read-accepted f (sym e)) (unless-within k (bare 0) (partsBytes (partsOf f)) out (bare-within k 0 (omega arith)))
+    by (suc n) e = rw (read-refused f refl (λ z. omega arith)) (refusal-within f)
+
+pub read-answerable : (f out : List ℕ) → length f < 2 ^ 64 → Answerable (readInto (readOf f) out .0)
+read-answerable f out h = answerable (length f) _ h (read-within f out)
+
+pub volume-answerable : (program number : ℕ) (list area out : List ℕ) → length list < 2 ^ 64
+    → Answerable (withRefusal (writeVolumeOf program number list area out) .0)
+volume-answerable program number list area out h = answerable (length list) _ h (volume-within program number list area out)
+
+asked : {r q : Refusal} → r ≡ q → Answerable q → (r .number < 32) × (r .place < 2 ^ 59)
+asked e a = rw e (a .number-most, a .place-most)
+
+pub read-asked : (f out : List ℕ) {r : Refusal} {t : List ℕ} → length f < 2 ^ 64 → (r, t) ≡ readInto (readOf f) out
+    → (r .number < 32) × (r .place < 2 ^ 59)
+read-asked f out h e = asked (ap (λ (p : Refusal × List ℕ). p .0) e) (read-answerable f out h)
+
+pub volume-asked : (program number : ℕ) (list area out : List ℕ) {r : Refusal} {t : List ℕ} → length list < 2 ^ 64
+    → (r, t) ≡ withRefusal (writeVolumeOf program number list area out) → (r .number < 32) × (r .place < 2 ^ 59)
+volume-asked program number list area out h e =
+    asked (ap (λ (p : Refusal × List ℕ). p .0) e) (volume-answerable program number list area out h)
+
+pub read-told : ReadTold
+read-told f out h = told _ (read-answerable f out h)
+
+pub volume-told : VolumeTold
+volume-told program number list area out h = told _ (volume-answerable program number list area out h)

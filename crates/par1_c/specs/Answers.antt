@@ -1,0 +1,22 @@
+-- Answers that tell a refusal and its place in one number: a par1_answer of include/par1.h.
+--
+--   answerOf r      the number of the refusal r, and 32 times its place
+--   answered w      what a call gives that answers so
+--   Told r          the number and the place are read off the answer, which 64 bits hold
+-- Assumes nothing.
+use mathlib.Core.Path.{_≡_}
+use mathlib.Core.List.{List}
+use Prim.Native.Nat.{ℕ, _+_, _*_, _/_, _%_, _^_, _<_}
+use Rattle.refusals.specs.declared.Refusal.{Refusal}
+
+abbrev pub answerOf : Refusal → ℕ
+answerOf r = r .number + 32 * r .place
+
+abbrev pub answered : Refusal × List ℕ → ℕ × List ℕ
+answered w = (answerOf (w .0), w .1)
+
+-- as PAR1_NUMBER and PAR1_VALUE do
+pub record Told (r : Refusal) : Type 0 where
+  pub number-is : answerOf r % 32 ≡ r .number
+  pub place-is : answerOf r / 32 ≡ r .place
+  pub fits : answerOf r < 2 ^ 64

@@ -1,0 +1,61 @@
+-- Which refusals reading gives.
+--
+--   header-most        tests 1 to 4
+--   refusal-within     all tests: a number of at most 19, and the place of an entry of 58 bytes or more in the file
+-- Assumes nothing.
+use mathlib.Core.Path.{_≡_, refl, sym}
+use mathlib.Core.Bool.{Bool}
+use mathlib.Core.List.{List}
+use Prim.Native.Nat.{ℕ, _+_, _/_, _≤_}
+use native.Mathlib.Omega.{arith}
+use lib.Dec.{eqb}
+use lib.ListN.{length, drop, length-take, length-drop}
+use Rattle.refusals.specs.Tests.{test}
+use Rattle.refusals.proofs.RangeLaws.{Within, test-most, bare-within, or-within}
+use Rattle.lent_bytes.specs.Equal.{equal}
+use Rattle.entries.specs.Walk.{walkOf}
+use Rattle.entries.specs.declared.Walked.{Walked}
+use Rattle.entries.specs.declared.Walked.the-variants as walked
+use Rattle.entries.proofs.WalkLaws.{walk-refused}
+use Rattle.par1_rules.specs.Layout.{signature, signatureOf, versionOf, controlHashOf, setHashOf}
+use Rattle.par1_rules.specs.Layout.{volumeNumberOf, countOf, listSizeOf, dataSizeOf, listOf}
+use Rattle.par1_rules.specs.Hashes.{setHash, controlHash}
+use Rattle.par1_rules.specs.Rules.{lengthAllowed, versionAllowed, layoutAllowed, numberAllowed, dataAllowed}
+use Rattle.par1_read.specs.Reading.{headerRefusal, controlRefusal, totalsRefusal, listRefusal, refusalFrom, entriesIn}
+use Rattle.par1_read.proofs.ReadingLaws.{refusalOf}
+
+four-most : (i j k l : ℕ) (a b c d : Bool) → i ≤ 19 → j ≤ 19 → k ≤ 19 → l ≤ 19 → test i a (test j b (test k c (test l d 0))) ≤ 19
+four-most i j k l a b c d p q r s =
+    test-most i a (test j b (test k c (test l d 0))) p
+    (test-most j b (test k c (test l d 0)) q (test-most k c (test l d 0) r (test-most l d 0 s (omega arith))))
+
+header-most : (head : List ℕ) (n : ℕ) → headerRefusal head n ≤ 19
+unfolding headerRefusal
+header-most head n =
+    four-most 1 2 3 4 (lengthAllowed n) (eqb (signatureOf head) signature) (versionAllowed (versionOf head)) (layoutAllowed head n)
+    (omega arith) (omega arith) (omega arith) (omega arith)
+
+control-most : (head digest : List ℕ) → controlRefusal head digest ≤ 19
+unfolding controlRefusal
+control-most head digest = test-most 5 (equal (controlHashOf head) digest) 0 (omega arith) (omega arith)
+
+-- a list within n bytes
+list-within : (head set list : List ℕ) (n : ℕ) → length list ≤ n → (w : Walked) → walkOf list ≡ w → Within (n / 58 + 1) (listRefusal head set w)
+unfolding totalsRefusal
+list-within head set list n h (walked.Entries t) e =
+    bare-within (n / 58 + 1) (totalsRefusal head set t)
+    (four-most 19 7 8 9 (eqb (t .entries) (countOf head)) (numberAllowed (volumeNumberOf head) (t .saved)) (equal (setHashOf head) set)
+    (dataAllowed (volumeNumberOf head) (t .greatest) (dataSizeOf head)) (omega arith) (omega arith) (omega arith) (omega arith))
+list-within head set list n h (walked.Refused r) e =
+    let told = walk-refused list e in
+    record { number-most = omega (arith, told .high); place-most = omega (arith, told .place-most) }
+
+pub refusal-within : (f : List ℕ) → Within (length f / 58 + 1) (refusalOf f)
+unfolding refusalOf refusalFrom
+refusal-within f =
+    let n : ℕ = length f in
+    let set : List ℕ = setHash (entriesIn f) in
+    let short : length (listOf f) ≤ n = omega (arith, length-take (listSizeOf f) (drop 96 f), length-drop 96 f) in
+    let list = list-within f set (listOf f) n short (walkOf (listOf f)) refl in
+    or-within (n / 58 + 1) (headerRefusal f n) _ (header-most f n)
+    (or-within (n / 58 + 1) (controlRefusal f (controlHash f)) _ (control-most f (controlHash f)) list)
