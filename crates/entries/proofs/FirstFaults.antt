@@ -7,27 +7,23 @@
 --   first-refused, stray-bytes     the claims
 -- Assumes nothing.
 use mathlib.Core.Path.{_≡_, refl, sym, ap, ap₂, _∙_, subst}
-use mathlib.Core.Bool.{Bool, true, false, cond, _&&_}
+use mathlib.Core.Bool.{Bool, true, false}
 use mathlib.Core.List.{List, [], _∷_, _++_, append-assoc, flatten}
 use Prim.Native.Nat.{ℕ, _+_, _%_, _≤_, _<_}
 use native.Mathlib.Omega.{arith}
-use lib.Dec.{leb, eqb}
 use lib.ListN.{length, take, drop, length-append, take-append-drop}
 use lib.Seq.{length-take-le, take-append-seam, drop-append-seam}
-use borrow.Author.Tests.{eq-eqb, le-leb, lt-leb}
+use borrow.Author.Tests.{eq-eqb, le-leb}
 use Rattle.computed_tests.proofs.Tests.{and-both}
 use Rattle.cut_lists.specs.All.{All, all-none, all-more}
-use Rattle.cut_lists.specs.Pieces.{Cut, none, before}
-use Rattle.cut_lists.proofs.CutLaws.{cut-none, cut-stop, cut-more, cut-induct, cut-joins, cut-all}
+use Rattle.cut_lists.specs.Pieces.{Cut, before}
+use Rattle.cut_lists.proofs.CutLaws.{cut-stop, cut-more, cut-induct, cut-joins, cut-all}
 use Rattle.little_endian.proofs.Reading.{leAt-append}
 use Rattle.refusals.specs.declared.Refusal.{Refusal}
 use Rattle.entries.specs.Claim.{Keeps, Breaks, breaks-size, breaks-file-size, breaks-name, FirstFault, FirstRefused, StrayBytes}
 use Rattle.entries.specs.Entry.{entrySize, fileSizeOf, nameOf, lengthOf}
 use Rattle.entries.specs.Entry.{nameAllowed, fileSizeAllowed, entrySizeAllowed, bodyAllowed, entryAllowed}
 use Rattle.entries.specs.Walk.{faultOf, faultNumber, refusalAt, entriesOf, totalsOf, walkedTo, walkOf}
-use Rattle.entries.specs.declared.Fault.{Fault}
-use Rattle.entries.specs.declared.Totals.{Totals}
-use Rattle.entries.specs.declared.Walked.{Walked}
 use Rattle.entries.specs.declared.Walked.the-variants as walked
 use Rattle.entries.proofs.EntryLaws.{sized, length-sized}
 

@@ -5,16 +5,16 @@
 --   totals-formerly   tests 19 and 7 to 9
 --   former-six        the claim
 -- Assumes nothing.
-use mathlib.Core.Path.{_≡_, refl, sym, ap, subst}
-use mathlib.Core.Bool.{Bool, true, false, cond, _&&_}
+use mathlib.Core.Path.{_≡_, refl, sym, subst}
+use mathlib.Core.Bool.{Bool, true, false}
 use mathlib.Core.List.{List}
 use Prim.Native.Nat.{ℕ, zero, suc}
 use native.Mathlib.Omega.{arith}
-use lib.Dec.{leb, eqb}
+use lib.Dec.{eqb}
 use lib.ListN.{length}
 use borrow.Author.Tests.{le-leb}
 use Rattle.lent_bytes.specs.Equal.{equal}
-use Rattle.refusals.specs.Tests.{bare, test, orElse}
+use Rattle.refusals.specs.Tests.{test, orElse}
 use Rattle.refusals.specs.declared.Refusal.{Refusal}
 use Rattle.entries.specs.Walk.{walkOf}
 use Rattle.entries.specs.declared.Walked.{Walked}

@@ -3,7 +3,7 @@
 --   header-most        tests 1 to 4
 --   refusal-within     all tests: a number of at most 19, and the place of an entry of 58 bytes or more in the file
 -- Assumes nothing.
-use mathlib.Core.Path.{_≡_, refl, sym}
+use mathlib.Core.Path.{_≡_, refl}
 use mathlib.Core.Bool.{Bool}
 use mathlib.Core.List.{List}
 use Prim.Native.Nat.{ℕ, _+_, _/_, _≤_}

@@ -54,7 +54,7 @@ listFor fs = flatten (entriesFor fs)
 abbrev pub dataSizeFor : List File → ℕ
 dataSizeFor fs = foldr max 0 (map (λ x. length (x .contents)) (keep (λ x. isCounted (x .status)) fs))
 
--- ---- "Writing an entry .. tests 6 (contents too long, status above 3, bad name)"
+-- ---- "Writing an entry .. tests .. (contents too long, status above 3, bad name)"
 
 pub record FileRight (x : File) : Type 0 where
   pub size-right : fileSizeAllowed (length (x .contents)) ≡ true
