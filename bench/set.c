@@ -9,9 +9,9 @@ enum { FILES = 24, VOLUMES = 8, SIZE = 1 << 20, ENTRY = 66, LIST = FILES * ENTRY
 static uint8_t *files[FILES + 1], *volumes[VOLUMES + 1], *rebuilt[VOLUMES + 1];
 static uint8_t list[LIST], index_file[96 + LIST];
 
-static void accepted(const char *call, uint32_t number) {
-    if (number != 0) {
-        printf("%s refused with %u\n", call, number);
+static void accepted(const char *call, par1_answer answer) {
+    if (answer != 0) {
+        printf("%s refused with %u\n", call, PAR1_NUMBER(answer));
         exit(1);
     }
 }

@@ -9,7 +9,7 @@ enum { VOLUME = PAR1_LIST_AT + LIST + SIZE };
 
 static uint8_t contents[SIZE], list[LIST], volume[VOLUME], sizes[8 * FILES], inventory[PAR1_INVENTORY_BYTES], room[VOLUME];
 static const uint8_t name[2] = {'A', 0};
-static uint32_t number;
+static par1_answer number;
 
 static void nothing(void) { number = 0; }
 static void md5(void) { number = par1_md5(contents, SIZE - 1, room, VOLUME); }
@@ -61,7 +61,7 @@ int main(void) {
     puts("| call | bytes of stack |\n|---|---|");
     for (size_t i = 0; i < sizeof calls / sizeof *calls; i++) {
         size_t deep = depth(calls[i].run);
-        if (number != 0) return printf("%s answered %u\n", calls[i].name, number), 1;
+        if (number != 0) return printf("%s answered %u\n", calls[i].name, PAR1_NUMBER(number)), 1;
         printf("| `%s` | %zu |\n", calls[i].name, deep - base);
         if (calls[i].run == open_)
             for (uint64_t v = 1; v < VOLUMES; v++) par1_add_volume(inventory, sizeof inventory, v);

@@ -1,6 +1,7 @@
 // What C sees: the libraries' calls on numbers and byte slices, as include/par1.h declares them. Each answers 0, or the
 // document's number of a refusal, which changes no byte; two of them tell the place of the refusal too, in one number.
 ghost use mathlib.Core.Path.{_≡_};
+ghost use Prim.Native.Nat.{_^_, _<_};
 ghost use Rattle.gf256.specs.Answer.{inverseAnswer};
 ghost use Rattle.md5.specs.Digest.{digestInto};
 ghost use Rattle.parity.specs.Coefficient.{coefficientAnswer};
@@ -13,7 +14,6 @@ ghost use Rattle.answer_bytes.specs.Results.{byteInto, readInto, entryInto};
 ghost use Rattle.entries.specs.Walk.{firstOf};
 ghost use Rattle.lent_bytes.specs.Writing.{withRefusal, withNumber};
 ghost use Rattle.par1_c.specs.Answers.{answerOf, answered};
-ghost use Prim.Native.Nat.{_^_, _<_};
 
 mod inventories;
 
@@ -88,7 +88,8 @@ pub extern "C" fn par1_write_volume(
     data: &[u8],
     out: &mut [u8],
 ) -> u64
-    ensures { λ r. ⌜ (r, now (out .exit)) ≡ answered (withRefusal (writeVolumeOf program number (now (list .entry)) (now («data» .entry)) (now (out .entry)))) ⌝ }
+    ensures { λ r. ⌜ (r, now (out .exit))
+        ≡ answered (withRefusal (writeVolumeOf program number (now (list .entry)) (now («data» .entry)) (now (out .entry)))) ⌝ }
 {
     answer(refusal_of(par1::write_volume(program, number, list, data, out)))
 }

@@ -1,21 +1,36 @@
 -- What reading looks at, and what it refuses.
 --
 --   HeaderAlone    of the list that begins with the header the tests read no more than its 96 bytes
+--   Placed f r     r is the refusal of the first entry of the file f that breaks a rule, or has no place and no number of one
+--   ReadPlaced     so is the refusal of every file
 --   FormerSix      a file is refused with 16 to 19 exactly where document 01 alone has 6, and with the same number everywhere else
 -- The contracts of read_from and read cite readFrom and readOf.
 -- Assumes nothing.
 use mathlib.Core.Path.{_≡_}
 use mathlib.Core.List.{List}
-use Prim.Native.Nat.{ℕ}
+use mathlib.Core.Logic.{_⊎_}
+use Prim.Native.Nat.{ℕ, _<_}
 use lib.ListN.{take}
+use Rattle.refusals.specs.declared.Refusal.{Refusal}
+use Rattle.entries.specs.Claim.{FirstFault}
 use Rattle.entries.specs.declared.Walked.{Walked}
+use Rattle.par1_rules.specs.Layout.{listOf}
 use Rattle.par1_read.specs.Former.{formerNumber, formerRefusal}
 use Rattle.par1_read.specs.Reading.{readFrom, readOf, readingRefusal}
+use Rattle.par1_read.specs.declared.reading.Reading.the-variants.{Refused}
 
 -- so a reader that has kept the header and no more of the file gives the same; proved: proofs/HeaderLaws.antt, `header-alone`
 abbrev pub HeaderAlone : Type 0
 HeaderAlone =
     (f : List ℕ) (n : ℕ) (digest set : List ℕ) (w : Walked) → readFrom (take 96 f) n digest set w ≡ readFrom f n digest set w
+
+pub data Placed (f : List ℕ) (r : Refusal) : Type 0 where
+  at-entry : FirstFault (listOf f) r → Placed f r
+  placeless : r .place ≡ 0 → (r .number < 16) ⊎ (r .number ≡ 19) → Placed f r
+
+-- "the first fault is given with the entry's place in the list, from 1"; proved: proofs/PlaceLaws.antt, `read-placed`
+abbrev pub ReadPlaced : Type 0
+ReadPlaced = (f : List ℕ) (r : Refusal) → readOf f ≡ Refused r → Placed f r
 
 -- reading never gives 6 itself, so the numbers 16 to 19, and no others, stand for it; proved: proofs/FormerLaws.antt, `former-six`
 abbrev pub FormerSix : Type 0
