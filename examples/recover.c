@@ -16,12 +16,13 @@ static struct { const uint8_t *entry; size_t length, size; } listed[FILES + 1];
 
 static uint8_t inventory[PAR1_INVENTORY_BYTES];
 
-/* Every call below must be accepted. */
-static void accepted(const char *call, uint32_t number) {
-    if (number != PAR1_ACCEPTED) {
-        printf("%s refused with %u\n", call, number);
-        exit(1);
-    }
+/* Every call below must be accepted. A refusal that is about an entry of a list tells its place; a bare number is an answer with none. */
+static void accepted(const char *call, par1_answer answer) {
+    if (answer == PAR1_ACCEPTED) return;
+    printf("%s refused with %u", call, (unsigned)PAR1_NUMBER(answer));
+    if (PAR1_VALUE(answer) != 0) printf(", entry %lu", (unsigned long)PAR1_VALUE(answer));
+    puts("");
+    exit(1);
 }
 
 static uint64_t number_at(const uint8_t *p) {

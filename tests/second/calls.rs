@@ -6,10 +6,10 @@ extern "C" {
     fn par1_md5(bytes: *const u8, bytes_len: usize, out: *mut u8, out_len: usize) -> u32;
     fn par1_inverse(x: u8, out: *mut u8, out_len: usize) -> u32;
     fn par1_coefficient(file: u64, volume: u64, out: *mut u8, out_len: usize) -> u32;
-    fn par1_read(file: *const u8, file_len: usize, out: *mut u8, out_len: usize) -> u32;
+    fn par1_read(file: *const u8, file_len: usize, out: *mut u8, out_len: usize) -> u64;
     fn par1_entry(list: *const u8, list_len: usize, out: *mut u8, out_len: usize) -> u32;
     fn par1_write_entry(contents: *const u8, contents_len: usize, status: u64, name: *const u8, name_len: usize, out: *mut u8, out_len: usize) -> u32;
-    fn par1_write_volume(program: u32, number: u64, list: *const u8, list_len: usize, data: *const u8, data_len: usize, out: *mut u8, out_len: usize) -> u32;
+    fn par1_write_volume(program: u32, number: u64, list: *const u8, list_len: usize, data: *const u8, data_len: usize, out: *mut u8, out_len: usize) -> u64;
     fn par1_check(entry: *const u8, entry_len: usize, contents: *const u8, contents_len: usize) -> u32;
     fn par1_open(n: u64, sizes: *const u8, sizes_len: usize, out: *mut u8, out_len: usize) -> u32;
     fn par1_add_file(inventory: *mut u8, len: usize, file: u64) -> u32;
@@ -23,12 +23,13 @@ extern "C" {
 
 const GUARD: usize = 32;
 
-/// How often each number came back, 0 to 15.
-static CAME_BACK: [AtomicU64; 16] = [const { AtomicU64::new(0) }; 16];
+/// How often each number came back, 0 to 31.
+static CAME_BACK: [AtomicU64; 32] = [const { AtomicU64::new(0) }; 32];
 
-fn counted(number: u32) -> u32 {
-    CAME_BACK[number as usize].fetch_add(1, Ordering::Relaxed);
-    number
+/// Counts the number of an answer, which has a value beside it where it is of 64 bits.
+fn counted<A: Copy + Into<u64>>(answer: A) -> A {
+    CAME_BACK[(answer.into() % 32) as usize].fetch_add(1, Ordering::Relaxed);
+    answer
 }
 
 /// The counts of the numbers that came back so far.
@@ -36,16 +37,16 @@ pub fn came_back() -> Vec<u64> {
     CAME_BACK.iter().map(|n| n.load(Ordering::Relaxed)).collect()
 }
 
-/// Lends a copy of `room` with guard bytes around it: the call's number, and the room after it. A guard that changed ends the run.
-fn lent(room: &[u8], call: impl FnOnce(*mut u8, usize) -> u32) -> (u32, Vec<u8>) {
+/// Lends a copy of `room` with guard bytes around it: the call's answer, and the room after it. A guard that changed ends the run.
+fn lent<A: Copy + Into<u64>>(room: &[u8], call: impl FnOnce(*mut u8, usize) -> A) -> (A, Vec<u8>) {
     let mut space = vec![0xa5; GUARD];
     space.extend_from_slice(room);
     space.extend(vec![0x5a; GUARD]);
-    let number = call(space[GUARD..].as_mut_ptr(), room.len());
+    let answer = call(space[GUARD..].as_mut_ptr(), room.len());
     let end = GUARD + room.len();
     assert!(space[..GUARD].iter().all(|&b| b == 0xa5), "a byte before the room was written");
     assert!(space[end..].iter().all(|&b| b == 0x5a), "a byte past the room was written");
-    (counted(number), space[GUARD..end].to_vec())
+    (counted(answer), space[GUARD..end].to_vec())
 }
 
 pub fn md5(bytes: &[u8], room: &[u8]) -> (u32, Vec<u8>) {
@@ -64,7 +65,7 @@ pub fn mul_add(weight: u8, fragment: &[u8], buffer: &mut [u8]) {
     unsafe { par1_mul_add(weight, fragment.as_ptr(), fragment.len(), buffer.as_mut_ptr(), buffer.len()) }
 }
 
-pub fn read(file: &[u8], room: &[u8]) -> (u32, Vec<u8>) {
+pub fn read(file: &[u8], room: &[u8]) -> (u64, Vec<u8>) {
     lent(room, |out, len| unsafe { par1_read(file.as_ptr(), file.len(), out, len) })
 }
 
@@ -81,7 +82,7 @@ pub fn write_entry(contents: &[u8], status: u64, name: &[u8], room: &[u8]) -> (u
     lent(room, |out, len| unsafe { par1_write_entry(m.as_ptr(), m.len(), status, n.as_ptr(), n.len(), out, len) })
 }
 
-pub fn write_volume(program: u32, number: u64, list: &[u8], data: &[u8], room: &[u8]) -> (u32, Vec<u8>) {
+pub fn write_volume(program: u32, number: u64, list: &[u8], data: &[u8], room: &[u8]) -> (u64, Vec<u8>) {
     let (l, d) = (list, data);
     lent(room, |out, len| unsafe { par1_write_volume(program, number, l.as_ptr(), l.len(), d.as_ptr(), d.len(), out, len) })
 }

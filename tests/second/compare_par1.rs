@@ -53,7 +53,7 @@ fn read(counts: &mut Counts, what: &str, file: &[u8], room: usize) {
 }
 
 /// The control hash of a damaged file put right, so that the tests after it are reached.
-fn rehashed(mut file: Vec<u8>) -> Vec<u8> {
+pub fn rehashed(mut file: Vec<u8>) -> Vec<u8> {
     if file.len() >= 32 {
         let hash = crate::md5::digest(&file[32..]);
         file[16..32].copy_from_slice(&hash);
@@ -99,7 +99,7 @@ fn damaged(counts: &mut Counts, random: &mut Random) {
 }
 
 /// A file with this list and volume number, no data, and a control hash that is right; its set hash is zeros.
-fn unhashed(volume: u64, entries: u64, list: &[u8]) -> Vec<u8> {
+pub fn unhashed(volume: u64, entries: u64, list: &[u8]) -> Vec<u8> {
     let mut file = [&b"PAR\0\0\0\0\0"[..], &[0; 88], list].concat();
     file[8..12].copy_from_slice(&65536u32.to_le_bytes());
     let size = list.len() as u64;

@@ -1,14 +1,15 @@
-//! What document 01 says of each call: its number, and the room after it.
+//! What documents 01 and 02 say of each call: its answer, and the room after it. An answer is a number, or in 64 bits a number and a place.
 
 use crate::inventory::Inventory;
+use crate::par1::Refusal;
 use crate::{field, md5, par1};
 
 /// A refusal changes nothing; 14 where the room is shorter than what is to be written; else 0, and the room's first bytes.
-fn written(value: Result<Vec<u8>, u32>, room: &[u8]) -> (u32, Vec<u8>) {
+fn written<A: From<u32>>(value: Result<Vec<u8>, A>, room: &[u8]) -> (A, Vec<u8>) {
     match value {
-        Err(number) => (number, room.to_vec()),
-        Ok(bytes) if room.len() < bytes.len() => (14, room.to_vec()),
-        Ok(bytes) => (0, [&bytes, &room[bytes.len()..]].concat()),
+        Err(refusal) => (refusal, room.to_vec()),
+        Ok(bytes) if room.len() < bytes.len() => (14.into(), room.to_vec()),
+        Ok(bytes) => (0.into(), [&bytes, &room[bytes.len()..]].concat()),
     }
 }
 
@@ -30,8 +31,8 @@ fn bytes(numbers: &[u64]) -> Vec<u8> {
     numbers.iter().flat_map(|x| x.to_le_bytes()).collect()
 }
 
-pub fn read(file: &[u8], room: &[u8]) -> (u32, Vec<u8>) {
-    written(par1::read(file).map(|parts| bytes(&parts)), room)
+pub fn read(file: &[u8], room: &[u8]) -> (u64, Vec<u8>) {
+    written(par1::read(file).map(|parts| bytes(&parts)).map_err(Refusal::answer), room)
 }
 
 /// Length, status and file size of the first entry; three zeros where the list is over.
@@ -39,7 +40,7 @@ pub fn entry(list: &[u8], room: &[u8]) -> (u32, Vec<u8>) {
     let numbers = if list.is_empty() {
         Ok([0; 3])
     } else {
-        par1::entry(list).map(|(e, length)| [length as u64, e.status, e.size]).ok_or(6)
+        par1::entry(list).map(|(e, length)| [length as u64, e.status, e.size])
     };
     written(numbers.map(|n| bytes(&n)), room)
 }
@@ -48,8 +49,8 @@ pub fn write_entry(contents: &[u8], status: u64, name: &[u8], room: &[u8]) -> (u
     written(par1::write_entry(contents, status, name), room)
 }
 
-pub fn write_volume(program: u32, number: u64, list: &[u8], data: &[u8], room: &[u8]) -> (u32, Vec<u8>) {
-    written(par1::write_volume(program, number, list, data), room)
+pub fn write_volume(program: u32, number: u64, list: &[u8], data: &[u8], room: &[u8]) -> (u64, Vec<u8>) {
+    written(par1::write_volume(program, number, list, data).map_err(Refusal::answer), room)
 }
 
 /// The sizes are numbers of 64 bits; bytes left over make their number another one than n.

@@ -5,6 +5,7 @@
 
 mod calls;
 mod compare_entries;
+mod compare_faults;
 mod compare_field;
 mod compare_inventory;
 mod compare_md5;
@@ -61,12 +62,13 @@ impl Random {
 fn main() {
     let mut counts = Counts { passed: 0, failed: 0 };
     let mut random = Random(2026);
-    let parts: [(&str, fn(&mut Counts, &mut Random)); 6] = [
+    let parts: [(&str, fn(&mut Counts, &mut Random)); 7] = [
         ("md5", compare_md5::run),
         ("field", compare_field::run),
         ("parity", compare_parity::run),
         ("par1", compare_par1::run),
         ("entries", compare_entries::run),
+        ("faults", compare_faults::run),
         ("inventory", compare_inventory::run),
     ];
     for (name, run) in parts {
@@ -75,8 +77,11 @@ fn main() {
         println!("{name}: {} calls compared", counts.passed + counts.failed - before);
     }
     for (number, times) in calls::came_back().into_iter().enumerate() {
-        println!("number {number} came back {times} times");
-        counts.same(|| format!("number {number} came back"), times > 0, true);
+        let given = number <= 19 && number != 6;
+        if given {
+            println!("number {number} came back {times} times");
+        }
+        counts.same(|| format!("whether number {number} comes back"), times > 0, given);
     }
     println!("{} passed, {} failed", counts.passed, counts.failed);
     std::process::exit((counts.failed > 0) as i32);

@@ -1,4 +1,4 @@
-//! Par 1.0 files, written from document 000 and document 01 ("Byte layout", "What comes back") alone.
+//! Par 1.0 files, written from document 000, document 01 ("Byte layout", "What comes back") and document 02 (2026-01) alone.
 
 use crate::md5::digest;
 
@@ -9,6 +9,31 @@ const VOLUME_LIMIT: usize = 33_554_432;
 
 fn number(bytes: &[u8]) -> u64 {
     bytes.iter().rev().fold(0, |n, &b| n << 8 | b as u64)
+}
+
+/// A refusal: its number, and the place in its list, from 1, of the entry at fault; 0 where there is none.
+#[derive(Debug)]
+pub struct Refusal {
+    number: u32,
+    place: u64,
+}
+
+impl Refusal {
+    /// As C gets it: the number, and 32 times the place.
+    pub fn answer(self) -> u64 {
+        self.number as u64 + 32 * self.place
+    }
+}
+
+impl From<u32> for Refusal {
+    fn from(number: u32) -> Refusal {
+        Refusal { number, place: 0 }
+    }
+}
+
+/// The refusal `number` unless its test is passed.
+fn test(number: u32, passed: bool) -> Result<(), u32> {
+    if passed { Ok(()) } else { Err(number) }
 }
 
 /// What an entry says, in the layout's order.
@@ -25,35 +50,49 @@ fn name_allowed(name: &[u8]) -> bool {
     !name.is_empty() && name.len() % 2 == 0 && name.chunks(2).all(|u| ![47, 92].contains(&number(u)))
 }
 
-/// The first entry of a list and its length, or nothing where it breaks a rule.
-pub fn entry(list: &[u8]) -> Option<(Entry, usize)> {
-    if list.len() < 8 {
-        return None;
-    }
-    let length = number(&list[..8]);
-    if length % 2 == 1 || length < 58 || length > list.len() as u64 {
-        return None;
-    }
-    let e = &list[..length as usize];
-    let parsed = Entry {
+/// "entry size odd, below 58, past the list's end .. or fewer than 8 bytes left": the size of the first entry, where it is none of these
+fn entry_size(list: &[u8]) -> Result<usize, u32> {
+    test(16, list.len() >= 8)?;
+    let size = number(&list[..8]);
+    test(16, size % 2 == 0 && size >= 58 && size <= list.len() as u64)?;
+    Ok(size as usize)
+}
+
+/// What an entry says whose size is right. "17 file size above the limit", "18 name unit not allowed", "in that order"
+fn fields(e: &[u8]) -> Result<Entry, u32> {
+    let entry = Entry {
         status: number(&e[8..16]),
         size: number(&e[16..24]),
         md5: e[24..40].try_into().unwrap(),
         md5_16k: e[40..56].try_into().unwrap(),
         name: e[56..].to_vec(),
     };
-    (parsed.size <= FILE_LIMIT && name_allowed(&parsed.name)).then_some((parsed, e.len()))
+    test(17, entry.size <= FILE_LIMIT)?;
+    test(18, name_allowed(&entry.name))?;
+    Ok(entry)
 }
 
-/// "Entries fill the list area with nothing left over"
-pub fn entries(mut list: &[u8]) -> Option<Vec<Entry>> {
+/// The first entry of a list and its length, or the number of the first rule that it breaks.
+pub fn entry(list: &[u8]) -> Result<(Entry, usize), u32> {
+    let size = entry_size(list)?;
+    Ok((fields(&list[..size])?, size))
+}
+
+/// "(lone entry) short of its slice"
+fn lone_entry(slice: &[u8]) -> Result<Entry, u32> {
+    test(16, entry_size(slice)? == slice.len())?;
+    fields(slice)
+}
+
+/// "Entries are walked from the first; the first fault is given with the entry's place in the list, from 1"
+pub fn entries(mut list: &[u8]) -> Result<Vec<Entry>, Refusal> {
     let mut found = vec![];
     while !list.is_empty() {
-        let (e, length) = entry(list)?;
+        let (e, length) = entry(list).map_err(|number| Refusal { number, place: found.len() as u64 + 1 })?;
         found.push(e);
         list = &list[length..];
     }
-    Some(found)
+    Ok(found)
 }
 
 fn saved(list: &[Entry]) -> Vec<&Entry> {
@@ -76,54 +115,30 @@ fn data_fits(number: u64, list: &[Entry], size: u64) -> bool {
     }
 }
 
-/// Tests 1 to 9 in order; accepted: program, volume number, entries, saved entries, list size, data start, data size.
-pub fn read(file: &[u8]) -> Result<[u64; 7], u32> {
-    if file.len() < 96 || file.len() > VOLUME_LIMIT {
-        return Err(1);
-    }
+/// Tests 1 to 5, 16 to 19, 7 to 9 in order; accepted: program, volume number, entries, saved entries, list size, data start, data size.
+pub fn read(file: &[u8]) -> Result<[u64; 7], Refusal> {
+    test(1, file.len() >= 96 && file.len() <= VOLUME_LIMIT)?;
     let field = |at: usize| number(&file[at..at + 8]);
-    if &file[..8] != MAGIC {
-        return Err(2);
-    }
-    if number(&file[8..12]) != VERSION as u64 {
-        return Err(3);
-    }
+    test(2, &file[..8] == MAGIC)?;
+    test(3, number(&file[8..12]) == VERSION as u64)?;
     let (list_start, list_size, data_start, data_size) = (field(64), field(72) as u128, field(80) as u128, field(88) as u128);
-    if list_start != 96 || data_start != 96 + list_size || data_start + data_size != file.len() as u128 {
-        return Err(4);
-    }
-    if digest(&file[32..]) != file[16..32] {
-        return Err(5);
-    }
-    let list = entries(&file[96..96 + list_size as usize]).ok_or(6u32)?;
-    if list.len() as u64 != field(56) {
-        return Err(6);
-    }
+    test(4, list_start == 96 && data_start == 96 + list_size && data_start + data_size == file.len() as u128)?;
+    test(5, digest(&file[32..]) == file[16..32])?;
+    let list = entries(&file[96..96 + list_size as usize])?;
+    test(19, list.len() as u64 == field(56))?;
     let n = saved(&list).len() as u64;
-    if !numbers_fit(field(48), n) {
-        return Err(7);
-    }
-    if set_hash(&list) != file[32..48] {
-        return Err(8);
-    }
-    if !data_fits(field(48), &list, data_size as u64) {
-        return Err(9);
-    }
+    test(7, numbers_fit(field(48), n))?;
+    test(8, set_hash(&list) == file[32..48])?;
+    test(9, data_fits(field(48), &list, data_size as u64))?;
     Ok([number(&file[12..16]), field(48), field(56), n, list_size as u64, data_start as u64, data_size as u64])
 }
 
-/// Tests 6, 7, 9, 1; the caller tests 14.
-pub fn write_volume(program: u32, volume: u64, list: &[u8], data: &[u8]) -> Result<Vec<u8>, u32> {
-    let parsed = entries(list).ok_or(6u32)?;
-    if !numbers_fit(volume, saved(&parsed).len() as u64) {
-        return Err(7);
-    }
-    if !data_fits(volume, &parsed, data.len() as u64) {
-        return Err(9);
-    }
-    if 96 + list.len() + data.len() > VOLUME_LIMIT {
-        return Err(1);
-    }
+/// Tests 16 to 18, 7, 9, 1; the caller tests 14. The count is its own, so there is no 19.
+pub fn write_volume(program: u32, volume: u64, list: &[u8], data: &[u8]) -> Result<Vec<u8>, Refusal> {
+    let parsed = entries(list)?;
+    test(7, numbers_fit(volume, saved(&parsed).len() as u64))?;
+    test(9, data_fits(volume, &parsed, data.len() as u64))?;
+    test(1, 96 + list.len() + data.len() <= VOLUME_LIMIT)?;
     let start = 96 + list.len() as u64;
     let mut rest = set_hash(&parsed).to_vec();
     for x in [volume, parsed.len() as u64, 96, list.len() as u64, start, data.len() as u64] {
@@ -134,11 +149,10 @@ pub fn write_volume(program: u32, volume: u64, list: &[u8], data: &[u8]) -> Resu
     Ok([&MAGIC[..], &VERSION.to_le_bytes(), &program.to_le_bytes(), &digest(&rest), &rest].concat())
 }
 
-/// Test 6; the caller tests 14.
+/// Tests 17 (contents, status), 18 (a bad name, an empty or odd one too); the caller tests 14.
 pub fn write_entry(contents: &[u8], status: u64, name: &[u8]) -> Result<Vec<u8>, u32> {
-    if contents.len() as u64 > FILE_LIMIT || status > 3 || !name_allowed(name) {
-        return Err(6);
-    }
+    test(17, contents.len() as u64 <= FILE_LIMIT && status <= 3)?;
+    test(18, name_allowed(name))?;
     let mut e = (56 + name.len() as u64).to_le_bytes().to_vec();
     e.extend(status.to_le_bytes());
     e.extend((contents.len() as u64).to_le_bytes());
@@ -148,14 +162,12 @@ pub fn write_entry(contents: &[u8], status: u64, name: &[u8]) -> Result<Vec<u8>,
     Ok(e)
 }
 
-/// Test 6 (the entry fills its slice), then 15.
+/// Tests 16 to 18 of a lone entry, then 15; 0 where it is accepted.
 pub fn check(slice: &[u8], contents: &[u8]) -> u32 {
-    match entry(slice) {
-        Some((e, length)) if length == slice.len() => {
-            let first = &contents[..contents.len().min(16384)];
-            let same = e.size == contents.len() as u64 && e.md5 == digest(contents) && e.md5_16k == digest(first);
-            if same { 0 } else { 15 }
-        }
-        _ => 6,
-    }
+    let checked = || {
+        let e = lone_entry(slice)?;
+        let first = &contents[..contents.len().min(16384)];
+        test(15, e.size == contents.len() as u64 && e.md5 == digest(contents) && e.md5_16k == digest(first))
+    };
+    checked().err().unwrap_or(0)
 }
