@@ -24,8 +24,8 @@ use Rattle.par1_rules.specs.Layout.{volumeNumberOf, countOf, dataSizeOf, listOf
 use Rattle.par1_rules.specs.Hashes.{setHash, controlHash}
 use Rattle.par1_rules.specs.Rules.{lengthAllowed, versionAllowed, layoutAllowed, numberAllowed, dataAllowed}
 use Rattle.par1_read.specs.Claim.{Placed, at-entry, placeless, ReadPlaced}
-use Rattle.par1_read.specs.Reading.{headerRefusal, controlRefusal, totalsRefusal, listRefusal, refusalFrom, entriesIn, readOf}
-use Rattle.par1_read.specs.declared.reading.Reading.the-variants.{Accepted, Refused}
+use Rattle.par1_read.specs.Reading.{headerRefusal, controlRefusal, totalsRefusal, listRefusal, refusalFrom, entriesIn}
+use Rattle.par1_read.specs.declared.reading.Reading.the-variants.{Refused}
 use Rattle.par1_read.proofs.ReadingLaws.{refusalOf, read-accepted, read-refused}
 
 totals-low : (a b c d : Bool) → let n = test 19 a (test 7 b (test 8 c (test 9 d 0))) in (n < 16) ⊎ (n ≡ 19)
