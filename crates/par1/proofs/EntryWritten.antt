@@ -28,7 +28,7 @@ use Rattle.entries.proofs.EntryLaws.{first-entry, is-entry}
 use Rattle.entries.proofs.WalkLaws.{entries-more}
 use Rattle.par1_rules.specs.Hashes.{md5First}
 use Rattle.par1.specs.Claim.{EntryAccepted, EntryBack, EntryWritten}
-use Rattle.par1.specs.Checking.{itemRefusal, loneRefusal, isDescribed, checkOf}
+use Rattle.par1.specs.Checking.{loneRefusal, isDescribed, checkOf}
 use Rattle.par1_write.specs.EntryWriting.{entryBytes, entryRefusal, writeEntryOf}
 use Rattle.par1.proofs.CheckingLaws.{check-lone}
 use Rattle.par1_write.proofs.EntryWritingLaws.{length-entry, EntryPassed, entry-passed}
@@ -108,7 +108,8 @@ module _ {e m : List ℕ} {status : ℕ} {name : List ℕ} (size : length e ≡ 
   lone-back : loneRefusal e ≡ 0
   unfolding loneRefusal
   lone-back =
-      ap (itemRefusal (length e)) (ap firstOf (sym (append-nil e)) ∙ walked-back []) ∙ simp (eq-eqb (length e) (length e) refl)
+      let whole : firstOf e ≡ Entry (length e) status (length m) = ap firstOf (sym (append-nil e)) ∙ walked-back [] in
+      simp (eq-eqb (entrySize e) (length e) (d .entry-size ∙ sym size), whole)
 
   checked-back : checkOf e m ≡ bare 0
   unfolding isDescribed

@@ -1,6 +1,6 @@
 // Checking contents against the entry of their file (document 01, "What comes back").
 ghost use mathlib.Core.Path.{_≡_};
-ghost use Rattle.par1.specs.Checking.{loneRefusal, isDescribed, checkOf};
+ghost use Rattle.par1.specs.Checking.{itemNumber, loneRefusal, isDescribed, checkOf};
 use entries::Fault;
 use entries::Item;
 use par1_rules::hashes;
@@ -37,12 +37,21 @@ fn is_described(entry: &[u8], contents: &[u8]) -> bool
 fn lone_refusal(entry: &[u8]) -> u32
     ensures { λ r. ⌜ r ≡ loneRefusal (now (entry .entry)) ⌝ }
 {
-    match entries::first(entry) {
+    let fills = little_endian::read64(entry, 0) == entry.len() as u64;
+    let number = item_number(entries::first(entry));
+    test(entries::fault_number(Fault::Size), fills, number)
+}
+
+// The number of the refusal of bytes that begin with `item`, 0 where it is an entry.
+fn item_number(item: Item) -> u32
+    ensures { λ r. ⌜ r ≡ itemNumber item ⌝ }
+{
+    match item {
         Item::Entry {
-            length,
+            length: _,
             status: _,
             size: _,
-        } => test(entries::fault_number(Fault::Size), length == entry.len(), 0),
+        } => 0,
         Item::End => entries::fault_number(Fault::Size),
         Item::Fault(fault) => entries::fault_number(fault),
     }
