@@ -3,6 +3,8 @@
 --   keeps-first       an entry that the walk takes keeps every rule
 --   rest-faulty       what is left after the entries is nothing, or begins with none
 --   breaks-first      what is left and not empty breaks the rule that the walk names, first of all
+--   breaks-number     its number is not 0
+--   broken-first      and so is what the list begins with
 --   entries-kept      entries that keep every rule, in front of what begins with none, are the entries of the list
 --   first-refused, stray-bytes     the claims
 -- Assumes nothing.
@@ -23,7 +25,8 @@ use Rattle.refusals.specs.declared.Refusal.{Refusal}
 use Rattle.entries.specs.Claim.{Keeps, Breaks, breaks-size, breaks-file-size, breaks-name, FirstFault, FirstRefused, StrayBytes}
 use Rattle.entries.specs.Entry.{entrySize, fileSizeOf, nameOf, lengthOf}
 use Rattle.entries.specs.Entry.{nameAllowed, fileSizeAllowed, entrySizeAllowed, bodyAllowed, entryAllowed}
-use Rattle.entries.specs.Walk.{faultOf, faultNumber, refusalAt, entriesOf, totalsOf, walkedTo, walkOf}
+use Rattle.entries.specs.Walk.{faultOf, faultNumber, refusalAt, firstOf, entriesOf, totalsOf, walkedTo, walkOf}
+use Rattle.entries.specs.declared.Item.the-variants as item
 use Rattle.entries.specs.declared.Walked.the-variants as walked
 use Rattle.entries.proofs.EntryLaws.{sized, length-sized}
 
@@ -81,6 +84,22 @@ unfolding lengthOf entryAllowed bodyAllowed faultOf
 fault-broken s (breaks-size p) = (simp p, simp p)
 fault-broken s (breaks-file-size p q) = (simp (p, q), simp (p, q))
 fault-broken s (breaks-name p q r) = (simp (p, q, r), simp (p, q))
+
+pub breaks-number : {s : List ℕ} {n : ℕ} → Breaks s n → n ≡ 0 → ⊥
+breaks-number (breaks-size p) z = omega arith
+breaks-number (breaks-file-size p q) z = omega arith
+breaks-number (breaks-name p q r) z = omega arith
+
+not-allowed : (s : List ℕ) {n : ℕ} → Breaks s n → entryAllowed s ≡ false
+unfolding entryAllowed bodyAllowed
+not-allowed s (breaks-size p) = simp p
+not-allowed s (breaks-file-size p q) = simp (p, q)
+not-allowed s (breaks-name p q r) = simp (p, q, r)
+
+pub broken-first : (s : List ℕ) {n : ℕ} → 0 < length s → Breaks s n → (firstOf s ≡ item.Fault (faultOf s)) × (faultNumber (faultOf s) ≡ n)
+unfolding firstOf
+broken-first [] some b = absurd (omega arith)
+broken-first (c ∷ s) some b = (simp (not-allowed (c ∷ s) b), fault-broken (c ∷ s) b .1)
 
 -- ---- entries in front
 

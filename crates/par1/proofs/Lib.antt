@@ -1,5 +1,6 @@
 mod CheckingLaws
 pub mod EntryWritten
+mod Faults
 pub mod ReadWritten
 mod VolumeFields
 pub mod WrittenRead

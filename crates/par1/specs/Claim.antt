@@ -9,6 +9,9 @@
 --   EntryAccepted                the entry of a file that keeps the rules is written as the format defines, where there is room for it
 --   EntryBack e m st name        the entry e is that of a file with the contents m, the status st and the name
 --   EntryWritten                 every written entry is that of its file
+--   FaultWritten                 a list with an entry that breaks a rule is refused for the first one
+--   LoneBreaks e n               n is the number of the first rule that e breaks, standing alone
+--   LoneRefused                  checking refuses an entry that stands alone with that number
 -- The contracts of write_volume, read, write_entry and check cite writeVolumeOf, readOf, writeEntryOf and checkOf.
 -- Assumes nothing.
 use mathlib.Core.Path.{_≡_}
@@ -16,13 +19,15 @@ use mathlib.Core.Bool.{true}
 use mathlib.Core.List.{List, _++_}
 use Prim.Native.Nat.{ℕ, _+_, _^_, _<_, _≤_}
 use lib.ListN.{length, take, drop}
-use Rattle.lent_bytes.specs.Writing.{accepted}
+use Rattle.lent_bytes.specs.Writing.{refused, accepted}
 use Rattle.lent_bytes.specs.declared.Writing.the-variants.{Written}
 use Rattle.refusals.specs.Limits.{maxVolumeLength}
 use Rattle.refusals.specs.Tests.{bare}
+use Rattle.refusals.specs.declared.Refusal.{Refusal}
 use Rattle.cut_lists.specs.Pieces.{before}
 use Rattle.little_endian.specs.Bytes.{Bytes}
-use Rattle.entries.specs.Entry.{statusOf, fileSizeOf, md5Of, md5Of16k, nameOf, nameAllowed, fileSizeAllowed}
+use Rattle.entries.specs.Claim.{Breaks, FirstFault}
+use Rattle.entries.specs.Entry.{entrySize, statusOf, fileSizeOf, md5Of, md5Of16k, nameOf, nameAllowed, fileSizeAllowed}
 use Rattle.entries.specs.Numbering.{savedOf}
 use Rattle.entries.specs.Walk.{firstOf, entriesOf, walkOf}
 use Rattle.entries.specs.declared.Totals.{Totals}
@@ -121,3 +126,19 @@ abbrev pub EntryWritten : Type 0
 EntryWritten =
     (m : List ℕ) (status : ℕ) (name out : List ℕ) (n : ℕ) (room : List ℕ) → length out < 2 ^ 64
     → writeEntryOf m status name out ≡ (Written n, room) → EntryBack (take n room) m status name
+
+-- ---- document 02, 2026-01: which entry is at fault, and by which rule
+
+-- a volume is refused for the first entry of its list that breaks a rule, before all other tests; proved: proofs/Faults.antt, `fault-written`
+abbrev pub FaultWritten : Type 0
+FaultWritten =
+    (program number : ℕ) (list area out : List ℕ) (r : Refusal) → FirstFault list r → writeVolumeOf program number list area out ≡ refused r out
+
+-- "16 entry size .. (lone entry) short of its slice"
+pub data LoneBreaks (e : List ℕ) : ℕ → Type 0 where
+  short-of-slice : (entrySize e ≡ length e → ⊥) → LoneBreaks e 16
+  breaks-rule : {n : ℕ} → entrySize e ≡ length e → Breaks e n → LoneBreaks e n
+
+-- "Within an entry in that order", "place 0, as for a lone entry"; proved: proofs/Faults.antt, `lone-refused`
+abbrev pub LoneRefused : Type 0
+LoneRefused = (e m : List ℕ) (n : ℕ) → LoneBreaks e n → checkOf e m ≡ bare n

@@ -2,7 +2,7 @@
 --
 --   tests-placed     tests 1 to 5 have no place, and those on the list come after them
 --   totals-low       nor have tests 19 and 7 to 9
---   read-placed      the claim
+--   read-placed, fault-read     the claims
 -- Assumes nothing.
 use mathlib.Core.Path.{_≡_, refl, sym, _∙_, subst}
 use mathlib.Core.Bool.{Bool, true, false}
@@ -18,12 +18,12 @@ use Rattle.refusals.specs.declared.Refusal.{Refusal}
 use Rattle.entries.specs.Walk.{walkOf}
 use Rattle.entries.specs.declared.Walked.{Walked}
 use Rattle.entries.specs.declared.Walked.the-variants as walked
-use Rattle.entries.proofs.FirstFaults.{first-refused}
+use Rattle.entries.proofs.FirstFaults.{breaks-number, first-refused}
 use Rattle.par1_rules.specs.Layout.{signature, signatureOf, versionOf, controlHashOf, setHashOf}
 use Rattle.par1_rules.specs.Layout.{volumeNumberOf, countOf, dataSizeOf, listOf}
 use Rattle.par1_rules.specs.Hashes.{setHash, controlHash}
 use Rattle.par1_rules.specs.Rules.{lengthAllowed, versionAllowed, layoutAllowed, numberAllowed, dataAllowed}
-use Rattle.par1_read.specs.Claim.{Placed, at-entry, placeless, ReadPlaced}
+use Rattle.par1_read.specs.Claim.{Placed, at-entry, placeless, ReadPlaced, FaultRead}
 use Rattle.par1_read.specs.Reading.{headerRefusal, controlRefusal, totalsRefusal, listRefusal, refusalFrom, entriesIn}
 use Rattle.par1_read.specs.declared.reading.Reading.the-variants.{Refused}
 use Rattle.par1_read.proofs.ReadingLaws.{refusalOf, read-accepted, read-refused}
@@ -68,3 +68,10 @@ read-placed f r e = by (refusalOf f .number) refl
     by (suc m) n =
         let both : Refused (refusalOf f) ≡ Refused r = sym (read-refused f refl (λ z. omega arith)) ∙ e in
         let same : refusalOf f ≡ r = cc in subst (Placed f) same (refusal-placed f)
+
+pub fault-read : FaultRead
+unfolding refusalOf refusalFrom
+fault-read f r header control fault =
+    let walked-is = first-refused (listOf f) r .1 fault in
+    let is : refusalOf f ≡ r = simp (header, control, walked-is) in
+    read-refused f (sym is) (breaks-number (fault .breaks))

@@ -3,6 +3,7 @@
 --   HeaderAlone    of the list that begins with the header the tests read no more than its 96 bytes
 --   Placed f r     r is the refusal of the first entry of the file f that breaks a rule, or has no place and no number of one
 --   ReadPlaced     so is the refusal of every file
+--   FaultRead      where tests 1 to 5 hold nowhere and an entry breaks a rule, the file is refused for it
 --   FormerSix      a file is refused with 16 to 19 exactly where document 01 alone has 6, and with the same number everywhere else
 -- The contracts of read_from and read cite readFrom and readOf.
 -- Assumes nothing.
@@ -10,13 +11,14 @@ use mathlib.Core.Path.{_≡_}
 use mathlib.Core.List.{List}
 use mathlib.Core.Logic.{_⊎_}
 use Prim.Native.Nat.{ℕ, _<_}
-use lib.ListN.{take}
+use lib.ListN.{length, take}
 use Rattle.refusals.specs.declared.Refusal.{Refusal}
 use Rattle.entries.specs.Claim.{FirstFault}
 use Rattle.entries.specs.declared.Walked.{Walked}
 use Rattle.par1_rules.specs.Layout.{listOf}
+use Rattle.par1_rules.specs.Hashes.{controlHash}
 use Rattle.par1_read.specs.Former.{formerNumber, formerRefusal}
-use Rattle.par1_read.specs.Reading.{readFrom, readOf, readingRefusal}
+use Rattle.par1_read.specs.Reading.{headerRefusal, controlRefusal, readFrom, readOf, readingRefusal}
 use Rattle.par1_read.specs.declared.reading.Reading.the-variants.{Refused}
 
 -- so a reader that has kept the header and no more of the file gives the same; proved: proofs/HeaderLaws.antt, `header-alone`
@@ -31,6 +33,12 @@ pub data Placed (f : List ℕ) (r : Refusal) : Type 0 where
 -- "the first fault is given with the entry's place in the list, from 1"; proved: proofs/PlaceLaws.antt, `read-placed`
 abbrev pub ReadPlaced : Type 0
 ReadPlaced = (f : List ℕ) (r : Refusal) → readOf f ≡ Refused r → Placed f r
+
+-- so 19 and the tests after it come after every entry's; proved: proofs/PlaceLaws.antt, `fault-read`
+abbrev pub FaultRead : Type 0
+FaultRead =
+    (f : List ℕ) (r : Refusal) → headerRefusal f (length f) ≡ 0 → controlRefusal f (controlHash f) ≡ 0 → FirstFault (listOf f) r
+    → readOf f ≡ Refused r
 
 -- reading never gives 6 itself, so the numbers 16 to 19, and no others, stand for it; proved: proofs/FormerLaws.antt, `former-six`
 abbrev pub FormerSix : Type 0
