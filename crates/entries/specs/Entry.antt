@@ -55,9 +55,9 @@ isSaved status = eqb (status % 2) 1
 abbrev pub savedCount : ℕ → ℕ
 savedCount status = cond (isSaved status) 1 0
 
--- "In a volume its size is the greatest file size in the list": every entry counts
+-- document 02, 2026-02: "As document 000 has it, data size is the greatest size among saved entries."
 unfoldable pub isCounted : ℕ → Bool
-isCounted status = true
+isCounted status = isSaved status
 
 -- ---- the rules
 

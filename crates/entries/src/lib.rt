@@ -223,11 +223,11 @@ fn greatest_after(greatest: u64, status: u64, size: u64) -> u64
     greatest
 }
 
-// Whether an entry counts for the data size.
+// Whether an entry counts for the data size: a saved one does.
 fn is_counted(status: u64) -> bool
     ensures { λ r. ⌜ r ≡ isCounted status ⌝ }
 {
-    true
+    is_saved(status)
 }
 
 // The greater of two sizes.

@@ -1,5 +1,5 @@
 -- The number of a file's refusal as document 01 alone has it ("Reading tests 1 to 9 in this order and returns the first that holds"), with 6
--- for every fault of an entry, of the list and of the count.
+-- for every fault of an entry, of the list and of the count. Test 9 goes by the data size as it is now (document 02, 2026-02).
 --
 --   formerNumber n        what document 01 has for the number n of document 02, 2026-01: "Where 01 says 6, read these"
 --   formerInList f w      the first of tests 6 to 9 that holds of the file f, where w is the walk over its list, 0 where none does

@@ -4,7 +4,7 @@
 --   versionAllowed v        whether files of version v are read
 --   layoutAllowed head n    whether list and data lie where they must in a file of n bytes that begins with head
 --   numberAllowed v n       whether volume v may have n saved files
---   dataAllowed v g n       whether volume v with the greatest file size g may have n bytes of data
+--   dataAllowed v g n       whether volume v, of saved files of at most g bytes, may have n bytes of data
 -- Assumes nothing.
 use Prim.Native.Nat.{ℕ, _+_, _%_}
 use mathlib.Core.Bool.{Bool, cond, _&&_, _||_}
@@ -30,7 +30,7 @@ layoutAllowed head n =
 unfoldable pub numberAllowed : ℕ → ℕ → Bool
 numberAllowed v n = leb n maxFiles && (eqb v 0 || (leb 1 n && leb (v + n) 255))
 
--- "In the index the data area is a comment in 16-bit units, so its size is even. In a volume its size is the greatest file size in the
--- list."
+-- "In the index the data area is a comment in 16-bit units, so its size is even."; document 02, 2026-02: "data size is the greatest size among
+-- saved entries"
 unfoldable pub dataAllowed : ℕ → ℕ → ℕ → Bool
 dataAllowed v greatest n = cond (eqb v 0) (eqb (n % 2) 0) (eqb n greatest)

@@ -65,7 +65,7 @@ pub fn number_allowed(number: u64, saved: u64) -> bool
     true
 }
 
-// Whether volume `number` may have `size` bytes of data, where `greatest` is the greatest size of a file; 0 is the index.
+// Whether volume `number` may have `size` bytes of data, where `greatest` is the greatest size of a saved file; 0 is the index.
 pub fn data_allowed(number: u64, greatest: u64, size: u64) -> bool
     ensures { λ r. ⌜ r ≡ dataAllowed number greatest size ⌝ }
 {

@@ -1,5 +1,5 @@
 -- Document 01, P6, as a set with a file between them that is not saved and is the longest: "files (1, 2) and (3): volume 1 is (2, 2),
--- volume 2 is (7, 2), volume 3 is (13, 2)", as long as "the greatest file size in the list".
+-- volume 2 is (7, 2), volume 3 is (13, 2)", as long as "the greatest size among saved entries".
 -- Assumes nothing.
 use mathlib.Core.Path.{_≡_, refl}
 use mathlib.Core.List.{List, [], _∷_, flatten}
@@ -26,11 +26,16 @@ abbrev p6 : List File
 p6 = file (1 ∷ 2 ∷ []) 1 ∷ file (9 ∷ 9 ∷ 9 ∷ []) 0 ∷ file (3 ∷ []) 1 ∷ []
 
 p6-data :
-    (dataFor coefficient 1 p6 ≡ 2 ∷ 2 ∷ 0 ∷ [])
-    × (dataFor coefficient 2 p6 ≡ 7 ∷ 2 ∷ 0 ∷ [])
-    × (dataFor coefficient 3 p6 ≡ 13 ∷ 2 ∷ 0 ∷ [])
+    (dataFor coefficient 1 p6 ≡ 2 ∷ 2 ∷ [])
+    × (dataFor coefficient 2 p6 ≡ 7 ∷ 2 ∷ [])
+    × (dataFor coefficient 3 p6 ≡ 13 ∷ 2 ∷ [])
 unfolding parity listBelow parityByte coefficient product power isCounted sumBelow polyProduct remainder coeff
 p6-data = (refl, refl, refl)
+
+-- all saved files are empty, beside a large one that is not saved
+empty-data : dataFor coefficient 1 (file [] 1 ∷ file (9 ∷ 9 ∷ []) 0 ∷ []) ≡ []
+unfolding parity listBelow isCounted
+empty-data = refl
 
 p6-list : length (listFor p6) ≡ 174
 unfolding flatten

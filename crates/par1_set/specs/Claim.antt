@@ -100,7 +100,7 @@ pub record FilesListed (fs : List File) : Type 0 where
   -- so the file that counts in the parity by the number of entry k is the file of entry k
   pub numbered : (k : ℕ) → k < length fs → isSaved (getD fs k noFile .status) ≡ true
       → contentsOf fs (fileNumber (entriesFor fs) k) ≡ getD fs k noFile .contents
-  -- "In a volume its size is the greatest file size in the list."
+  -- document 02, 2026-02: "data size is the greatest size among saved entries"
   pub data-size : dataSizeFor fs ≡ greatestOf (entriesFor fs)
 
 -- proved: proofs/FileEntries.antt, `set-listed`

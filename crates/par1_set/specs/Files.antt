@@ -50,7 +50,7 @@ entriesFor fs = map (λ x. entryFor x) fs
 abbrev pub listFor : List File → List ℕ
 listFor fs = flatten (entriesFor fs)
 
--- "In a volume its size is the greatest file size in the list": `isCounted` says which files count
+-- document 02, 2026-02: "data size is the greatest size among saved entries": `isCounted` says which files count
 abbrev pub dataSizeFor : List File → ℕ
 dataSizeFor fs = foldr max 0 (map (λ x. length (x .contents)) (keep (λ x. isCounted (x .status)) fs))
 

@@ -1,13 +1,13 @@
--- `entries::is_counted` meets its contract: every entry counts.
+-- `entries::is_counted` meets its contract: a saved entry counts.
 -- Assumes nothing.
-use mathlib.Core.Path.{refl}
+use borrow.Author.Needs.{needs}
 use Rattle.entries.specs.Entry.{isCounted}
 use Rattle.entries.proofs.is_counted.Statement.{statement}
 use Rattle.entries.proofs.is_counted.Tie as tie
 
 returns : tie.Need-returns
 unfolding isCounted
-returns c = refl
+returns c = c .is-saved .ensures
 
 pub is-counted-spec : {M : Type 1} → statement M
-is-counted-spec = tie.close (tie.spec returns)
+is-counted-spec = tie.close (tie.spec (λ c κs. search needs) returns)
