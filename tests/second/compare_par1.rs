@@ -33,13 +33,17 @@ pub fn list(random: &mut Random) -> Vec<u8> {
     list
 }
 
+/// The data size of a volume with this list; 0 where an entry breaks a rule.
+fn data_size(list: &[u8]) -> usize {
+    par1::data_size(&par1::entries(list).unwrap_or_default()) as usize
+}
+
 /// A file that is accepted: an index or a volume.
 fn file(random: &mut Random) -> Vec<u8> {
     loop {
         let list = list(random);
         let volume = random.below(4) as u64;
-        let greatest = par1::entries(&list).unwrap_or_default().iter().map(|e| e.size).max().unwrap_or(0);
-        let size = if volume == 0 { 2 * random.below(20) } else { greatest as usize };
+        let size = if volume == 0 { 2 * random.below(20) } else { data_size(&list) };
         let data = random.bytes(size);
         if let Ok(file) = par1::write_volume(random.below(1 << 31) as u32, volume, &list, &data) {
             return file;
@@ -145,32 +149,34 @@ fn small_entries(counts: &mut Counts) {
     read(counts, "a volume of empty files", &empty, 56);
 }
 
+fn test_data(name: &str) -> Vec<u8> {
+    std::fs::read(format!("tests/data/{name}")).expect("test data")
+}
+
 fn other_client(counts: &mut Counts) {
-    for name in ["trip.par", "trip.p01", "trip.p02", "trip.p03"] {
-        let file = std::fs::read(format!("tests/data/trip/{name}")).expect("test data");
+    for name in ["trip/trip.par", "trip/trip.p01", "trip/trip.p02", "trip/trip.p03", "chart/chart.par", "chart/chart.p01", "chart/chart.p02"] {
+        let file = test_data(name);
         counts.same(|| format!("{name} is accepted"), calls::read(&file, &[0; 56]).0, 0);
         read(counts, name, &file, 56);
         again(counts, &file);
     }
-    let index = std::fs::read("tests/data/trip/trip.par").expect("test data");
-    for (name, at) in [("A.LOG", 96), ("B.LOG", 162)] {
-        let contents = std::fs::read(format!("tests/data/trip/{name}")).expect("test data");
-        let entry = &index[at..at + 66];
-        counts.same(|| format!("{name} against its entry"), calls::check(entry, &contents), 0);
+    let (trip, chart) = (test_data("trip/trip.par"), test_data("chart/chart.par"));
+    for (name, entry) in [("trip/A.LOG", &trip[96..162]), ("trip/B.LOG", &trip[162..228]), ("chart/CHART.DAT", &chart[162..236])] {
+        counts.same(|| format!("{name} against its entry"), calls::check(entry, &test_data(name)), 0);
     }
 }
 
-/// The data of the client's volumes is the parity of its files.
-fn other_parity(counts: &mut Counts) {
-    let saved = ["A.LOG", "B.LOG", "EMPTY.LOG", "TRACK.LOG"].map(|name| std::fs::read(format!("tests/data/trip/{name}")).expect("test data"));
-    for v in 1..=3 {
-        let volume = std::fs::read(format!("tests/data/trip/trip.p0{v}")).expect("test data");
-        let mut data = vec![0; 1492];
-        for (f, file) in (1..).zip(&saved) {
+/// The data of the client's volumes is the parity of the files that are saved, which have their numbers in this order.
+fn other_parity(counts: &mut Counts, set: &str, volumes: u64, saved: &[&str]) {
+    for v in 1..=volumes {
+        let volume = test_data(&format!("{set}/{set}.p0{v}"));
+        let [.., start, size] = par1::read(&volume).expect("a volume");
+        let mut data = vec![0; size as usize];
+        for (f, name) in (1..).zip(saved) {
             let (_, weight) = calls::coefficient(f, v, &[0]);
-            calls::mul_add(weight[0], file, &mut data);
+            calls::mul_add(weight[0], &test_data(&format!("{set}/{name}")), &mut data);
         }
-        counts.same(|| format!("the data of trip.p0{v}"), &data[..], &volume[376..]);
+        counts.same(|| format!("the data of {set}.p0{v}"), &data[..], &volume[start as usize..]);
     }
 }
 
@@ -197,9 +203,8 @@ fn write(counts: &mut Counts, random: &mut Random) {
             let at = random.below(l.len());
             l[at] ^= 1 << random.below(8);
         }
-        let greatest = par1::entries(&l).unwrap_or_default().iter().map(|e| e.size).max().unwrap_or(0);
         let number = [0, 1, 2, 252, 253, 254, 255, 256, u64::MAX][random.below(9)];
-        let size = if number == 0 { random.below(9) } else { greatest as usize + random.below(2) };
+        let size = if number == 0 { random.below(9) } else { data_size(&l) + random.below(2) };
         let data = random.bytes(size);
         let room = vec![7; (96 + l.len() + size + 2).saturating_sub(random.below(6))];
         let what = || format!("volume {number} of a list of {} bytes", l.len());
@@ -259,7 +264,8 @@ pub fn run(counts: &mut Counts, random: &mut Random) {
     many_files(counts);
     small_entries(counts);
     other_client(counts);
-    other_parity(counts);
+    other_parity(counts, "trip", 3, &["A.LOG", "B.LOG", "EMPTY.LOG", "TRACK.LOG"]);
+    other_parity(counts, "chart", 2, &["C.LOG", "D.LOG"]);
     check(counts, random);
     write(counts, random);
 }

@@ -4,6 +4,7 @@
 //! library's calls, on lent bytes with guards on both sides; `compare_*` are the comparisons.
 
 mod calls;
+mod compare_data_size;
 mod compare_entries;
 mod compare_faults;
 mod compare_field;
@@ -62,13 +63,14 @@ impl Random {
 fn main() {
     let mut counts = Counts { passed: 0, failed: 0 };
     let mut random = Random(2026);
-    let parts: [(&str, fn(&mut Counts, &mut Random)); 7] = [
+    let parts: [(&str, fn(&mut Counts, &mut Random)); 8] = [
         ("md5", compare_md5::run),
         ("field", compare_field::run),
         ("parity", compare_parity::run),
         ("par1", compare_par1::run),
         ("entries", compare_entries::run),
         ("faults", compare_faults::run),
+        ("data size", compare_data_size::run),
         ("inventory", compare_inventory::run),
     ];
     for (name, run) in parts {

@@ -1,4 +1,4 @@
-//! Par 1.0 files, written from document 000, document 01 ("Byte layout", "What comes back") and document 02 (2026-01) alone.
+//! Par 1.0 files, written from document 000, document 01 ("Byte layout", "What comes back") and document 02 (2026-01, 2026-02) alone.
 
 use crate::md5::digest;
 
@@ -107,12 +107,13 @@ fn numbers_fit(number: u64, n: u64) -> bool {
     n <= 254 && (number == 0 || (n > 0 && number <= 255 - n))
 }
 
+/// "data size is the greatest size among saved entries"; 0 where none is saved
+pub fn data_size(list: &[Entry]) -> u64 {
+    saved(list).iter().map(|e| e.size).max().unwrap_or(0)
+}
+
 fn data_fits(number: u64, list: &[Entry], size: u64) -> bool {
-    if number == 0 {
-        size % 2 == 0
-    } else {
-        size == list.iter().map(|e| e.size).max().unwrap_or(0)
-    }
+    if number == 0 { size % 2 == 0 } else { size == data_size(list) }
 }
 
 /// Tests 1 to 5, 16 to 19, 7 to 9 in order; accepted: program, volume number, entries, saved entries, list size, data start, data size.
