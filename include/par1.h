@@ -32,7 +32,7 @@ enum {
     PAR1_CONTROL_HASH = 5,  /* the control hash differs */
     PAR1_VOLUME_NUMBER = 7, /* too many files, or the volume number does not go with them */
     PAR1_SET_HASH = 8,      /* the set hash differs */
-    PAR1_DATA_SIZE = 9,     /* the size of the data breaks its rule */
+    PAR1_DATA_SIZE = 9,     /* the data's size is odd in an index, or in a volume not the greatest file size among the saved entries */
     PAR1_OUT_OF_RANGE = 10, /* a number is out of range, no calls give the inventory, or 0 has no inverse */
     PAR1_ALREADY = 11,      /* present already, or not present */
     PAR1_UNDETERMINED = 12, /* what is present does not determine the file */
@@ -119,8 +119,8 @@ uint32_t par1_write_entry(const uint8_t *contents, size_t contents_len, uint64_t
 /* Writes a volume, or an index where number is 0, from its list of entries and its data, over the first 96 + list_len + data_len bytes of
  * `out`. Refuses, in this order, with 16, 17 or 18: an entry breaks a rule, the first that does, with its place, and the first of its rules
  * (bytes after the last entry that are none are 16 at the place after it); 7: more than 254 saved entries, or a volume with none, or its
- * number and the saved entries are above 255 together; 9: data_len is odd in an index, or not the greatest file size in a volume; 1: the
- * whole is above 33,554,432 bytes; 14: `out` is shorter. Whether the data is the parity of the files is the caller's. */
+ * number and the saved entries are above 255 together; 9: data_len is odd in an index, or in a volume not the greatest file size among the
+ * saved entries; 1: the whole is above 33,554,432 bytes; 14: `out` is shorter. Whether the data is the parity of the files is the caller's. */
 par1_answer par1_write_volume(uint32_t program, uint64_t number, const uint8_t *list, size_t list_len, const uint8_t *data, size_t data_len,
                               uint8_t *out, size_t out_len);
 
