@@ -153,6 +153,7 @@ fn test_data(name: &str) -> Vec<u8> {
     std::fs::read(format!("tests/data/{name}")).expect("test data")
 }
 
+/// Files of another client; the volumes of chart have the list of its index put in by hand (tests/data/chart/README.md).
 fn other_client(counts: &mut Counts) {
     for name in ["trip/trip.par", "trip/trip.p01", "trip/trip.p02", "trip/trip.p03", "chart/chart.par", "chart/chart.p01", "chart/chart.p02"] {
         let file = test_data(name);

@@ -1,4 +1,4 @@
--- The number of a file's refusal as document 01 alone has it ("Reading tests 1 to 9 in this order and returns the first that holds"), with 6
+-- The number of a file's refusal as document 01 has it ("Reading tests 1 to 9 in this order and returns the first that holds"), with 6
 -- for every fault of an entry, of the list and of the count. Test 9 goes by the data size as it is now (document 02, 2026-02).
 --
 --   formerNumber n        what document 01 has for the number n of document 02, 2026-01: "Where 01 says 6, read these"

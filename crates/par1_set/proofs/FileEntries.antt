@@ -28,6 +28,7 @@ use Rattle.entries.proofs.NumberingLaws.{number-saved}
 use Rattle.par1.proofs.EntryWritten.{entry-back}
 use Rattle.par1_write.proofs.EntryWritingLaws.{EntryPassed}
 use Rattle.par1_set.specs.Claim.{FileBack, SetListed}
+use Rattle.par1_set.proofs.DataSizes.{saved-size}
 use Rattle.par1_set.specs.Files.{File, noFile, savedFiles, fileCount, contentsOf, entryFor, entriesFor, listFor, dataSizeFor, FileRight}
 
 -- ---- each entry
@@ -113,4 +114,5 @@ set-listed fs right short =
       saved-are = keep-entries isSaved bs;
       numbered = number-contents bs;
       data-size = sym (greatest-is bs);
+      of-saved = saved-size fs;
     }

@@ -1,5 +1,6 @@
 pub mod AcceptedCalls
 pub mod CallLaws
+mod DataSizes
 mod Examples
 pub mod FileEntries
 pub mod Layouts

@@ -28,7 +28,7 @@ use Rattle.mul_add.specs.Once.{Once}
 use Rattle.par1.specs.Claim.{ReadBack, EntryBack}
 use Rattle.par1_rules.specs.Layout.{version}
 use Rattle.parity.specs.Coefficient.{coefficient, coefficientAnswer}
-use Rattle.parity.specs.Parity.{isFile}
+use Rattle.parity.specs.Parity.{isFile, greatest}
 use Rattle.refusals.specs.Limits.{maxVolumeLength}
 use Rattle.par1_set.specs.Calls.{writeEntries, addFiles, writeSet}
 use Rattle.par1_set.specs.Files.{File, noFile, savedFiles, fileCount, contentsOf, entryFor, entriesFor, listFor, dataSizeFor, FileRight}
@@ -100,8 +100,10 @@ pub record FilesListed (fs : List File) : Type 0 where
   -- so the file that counts in the parity by the number of entry k is the file of entry k
   pub numbered : (k : ℕ) → k < length fs → isSaved (getD fs k noFile .status) ≡ true
       → contentsOf fs (fileNumber (entriesFor fs) k) ≡ getD fs k noFile .contents
-  -- document 02, 2026-02: "data size is the greatest size among saved entries"
+  -- the data size is the one that reading and writing ask for
   pub data-size : dataSizeFor fs ≡ greatestOf (entriesFor fs)
+  -- document 02, 2026-02: it "is the greatest size among saved entries"
+  pub of-saved : dataSizeFor fs ≡ greatest (fileCount fs) (λ f. length (contentsOf fs f))
 
 -- proved: proofs/FileEntries.antt, `set-listed`
 abbrev pub SetListed : Type 0
