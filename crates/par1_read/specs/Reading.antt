@@ -78,6 +78,7 @@ partsFrom head saved =
       «data_size» = dataSizeOf head;
     }
 
+-- the number 0 is no refusal, and no walk over a list gives it (`entries` specs/Claim, `FirstRefused`)
 unfoldable pub readFrom : List ℕ → ℕ → List ℕ → List ℕ → Walked → Reading
 readFrom head n digest set w =
     let refusal : Refusal = refusalFrom head n digest set w in
