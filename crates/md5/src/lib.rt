@@ -27,10 +27,11 @@ pub fn digest_into(bytes: &[u8], out: &mut [u8]) -> u32
 
 // A running hash: the words after the whole blocks so far; the bytes that wait for their block to be full, of which there are
 // total % 64, then zeros; and how many bytes there were, modulo 2^64.
+#[repr(C)]
 pub struct Md5 {
-    words: Words,
-    tail: [u8; 64],
-    total: u64,
+    pub words: Words,
+    pub tail: [u8; 64],
+    pub total: u64,
 }
 
 impl Md5 {

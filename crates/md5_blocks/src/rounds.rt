@@ -4,6 +4,7 @@ ghost use Prim.Native.Nat.{_<_, _≤_};
 ghost use Rattle.md5_blocks.specs.Rounds.{aux, rotl as rotlOf, row, operation as operationOf, steps};
 
 // The words A, B, C, D.
+#[repr(C)]
 pub struct Words {
     pub a: u32,
     pub b: u32,

@@ -69,6 +69,9 @@ pub const NAME: u32 = 18;
 // The number of entries differs.
 pub const ENTRY_COUNT: u32 = 19;
 
+// A job is over, or no run of pushes gives its counts.
+pub const ENDED: u32 = 20;
+
 // A refusal: its number, and the place in its list, from 1, of the entry that it is about; 0 where there is none. The number 0 is no refusal.
 pub struct Refusal {
     pub number: u32,
