@@ -1,5 +1,6 @@
 pub mod AnswerLaws
 mod CallLaws
 mod Determined
+mod HashWalks
 pub mod OnBytes
 pub mod OtherBytes

@@ -1,4 +1,4 @@
-// What C sees: the libraries' calls on numbers and byte slices, as include/par1.h declares them. Each answers 0, or the
+// What C sees: the libraries' calls on numbers, byte slices and a running hash, as include/par1.h declares them. Each answers 0, or the
 // document's number of a refusal, which changes no byte; two of them tell the place of the refusal too, in one number.
 ghost use mathlib.Core.Path.{_≡_};
 ghost use Prim.Native.Nat.{_^_, _<_};
@@ -15,6 +15,7 @@ ghost use Rattle.entries.specs.Walk.{firstOf};
 ghost use Rattle.lent_bytes.specs.Writing.{withRefusal, withNumber};
 ghost use Rattle.par1_c.specs.Answers.{answerOf, answered};
 
+mod hash;
 mod inventories;
 
 use answer_bytes::put_answer;
