@@ -1,1 +1,2 @@
+pub mod Chunks
 mod HashLaws
