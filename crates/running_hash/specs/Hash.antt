@@ -1,11 +1,13 @@
--- A running hash that its owner keeps between the calls (document 02, 2026-03: "Logs too long to hold"): what each call on one gives.
+-- A running hash that its owner keeps between the calls, a job (document 02, 2026-03: "Logs too long to hold"): what each call on one gives.
 --
---   isOpen h         whether the job h still runs
---   running s, over s    the job with the state s, that runs and that is over
---   outcome n h      the number n, and the job h
---   startHash        the job before any byte
---   pushOf h bs      the outcome of a push of the bytes bs
---   endOf h out      the outcome of an end, and what `out` then holds
+--   isOpen h             whether the job h still runs
+--   running s, over s    a job with the state s that runs, and one that is over
+--   outcome n h          the number n, and the job h
+--   startHash            the job before any byte
+--   refused h            the refusal 20, and the job h as it was
+--   pushOf h bs          the outcome of a push of the bytes bs
+--   endedBy s w          the state s ended: w is the number, and what the lent room then holds
+--   endOf h out          the outcome of an end, and what the lent room `out` then holds
 -- Assumes nothing.
 use mathlib.Core.Bool.{Bool, cond}
 use mathlib.Core.List.{List, []}
@@ -17,6 +19,7 @@ use Rattle.md5.specs.declared.Md5.{Md5}
 use Rattle.running_hash.specs.declared.RunningHash.{RunningHash}
 use Rattle.running_hash.specs.declared.Outcome.{Outcome}
 
+-- the mark is 0 while the job runs
 abbrev pub isOpen : RunningHash → Bool
 isOpen h = eqb (h .ended) 0
 
