@@ -155,7 +155,7 @@ pub fn fault_number(fault: Fault) -> u32
 }
 
 // The refusal for a fault of the entry at `place`.
-fn refusal_at(fault: Fault, place: u64) -> Refusal
+pub fn refusal_at(fault: Fault, place: u64) -> Refusal
     ensures { λ r. ⌜ r ≡ refusalAt fault place ⌝ }
 {
     Refusal {
@@ -165,7 +165,7 @@ fn refusal_at(fault: Fault, place: u64) -> Refusal
 }
 
 // Whether an entry of `size` bytes may stand at the front of `room` bytes.
-fn entry_size_allowed(size: u64, room: usize) -> bool
+pub fn entry_size_allowed(size: u64, room: usize) -> bool
     ensures { λ r. ⌜ r ≡ entrySizeAllowed size room ⌝ }
 {
     if size % 2 != 0 {
@@ -192,7 +192,7 @@ fn units_allowed(name: &[u8]) -> bool
 }
 
 // Whether a unit may stand in a name: any but a slash and a backslash.
-fn unit_allowed(unit: u16) -> bool
+pub fn unit_allowed(unit: u16) -> bool
     ensures { λ r. ⌜ r ≡ unitAllowed unit ⌝ }
 {
     if unit == 47 {
@@ -214,7 +214,7 @@ fn added(totals: Totals, status: u64, size: u64) -> Totals
 }
 
 // The greatest size that counts, with one entry more.
-fn greatest_after(greatest: u64, status: u64, size: u64) -> u64
+pub fn greatest_after(greatest: u64, status: u64, size: u64) -> u64
     ensures { λ r. ⌜ r ≡ cond (isCounted status) (max greatest size) greatest ⌝ }
 {
     if is_counted(status) {
