@@ -22,7 +22,7 @@ use Rattle.entries.specs.Numbering.{savedOf}
 use Rattle.entries.specs.Walk.{entriesOf}
 use Rattle.entries.proofs.EntryLaws.{IsEntry}
 use Rattle.entries.proofs.WalkLaws.{entries-more}
-use Rattle.par1_rules.specs.Hashes.{setHash}
+use Rattle.par1_rules.specs.Hashes.{setHash, hashEntry}
 use Rattle.lent_bytes.proofs.PartLaws.{part-take}
 
 pub length-md5 : (m : List ℕ) → length (md5 m) ≡ 16
@@ -37,7 +37,7 @@ length-set-hash es = length-md5 _
 
 unfoldable pub pushedOver : Md5 → List (List ℕ) → Md5
 pushedOver h [] = h
-pushedOver h (e ∷ es) = pushedOver (cond (isSaved (statusOf e)) (pushed h (md5Of e)) h) es
+pushedOver h (e ∷ es) = pushedOver (hashEntry h (statusOf e) (md5Of e)) es
 
 joined : List (List ℕ) → List ℕ
 joined es = flatten (map (λ e. md5Of e) es)
@@ -66,10 +66,10 @@ set-start es = ap finished (over-state [] es) ∙ finish-state (joined (savedOf 
 
 module _ (h : Md5) where
   pub set-more : {s : List ℕ} {n status size : ℕ} → IsEntry s n status size
-      → pushedOver (cond (isSaved status) (pushed h (md5Of (take n s))) h) (entriesOf (drop n s) .pieces) ≡ pushedOver h (entriesOf s .pieces)
+      → pushedOver (hashEntry h status (md5Of (take n s))) (entriesOf (drop n s) .pieces) ≡ pushedOver h (entriesOf s .pieces)
   unfolding pushedOver
   set-more {s} {n} i =
-      ap (λ (x : ℕ). pushedOver (cond (isSaved x) (pushed h (md5Of (take n s))) h) (entriesOf (drop n s) .pieces)) (i .status-is)
+      ap (λ (x : ℕ). pushedOver (hashEntry h x (md5Of (take n s))) (entriesOf (drop n s) .pieces)) (i .status-is)
       ∙ ap (λ c. pushedOver h (c .pieces)) (sym (entries-more i))
 
   pub set-none : {es : List (List ℕ)} → es ≡ [] → pushedOver h es ≡ h

@@ -1,13 +1,10 @@
 // The hashes of a Par 1.0 file (document 01, "Byte layout").
 ghost use mathlib.Core.Path.{_≡_};
-ghost use mathlib.Core.Bool.{cond};
 ghost use lib.ListN.{take};
-ghost use Rattle.entries.specs.Entry.{isSaved};
 ghost use Rattle.entries.specs.Walk.{entriesOf};
 ghost use Rattle.md5.specs.Digest.{md5};
-ghost use Rattle.md5.specs.Running.{pushed};
 ghost use Rattle.lent_bytes.specs.Equal.{equal};
-ghost use Rattle.par1_rules.specs.Hashes.{setHash};
+ghost use Rattle.par1_rules.specs.Hashes.{setHash, hashEntry};
 use crate::layout;
 use entries::Item;
 use md5::Md5;
@@ -55,8 +52,8 @@ pub fn of_set(list: &[u8]) -> [u8; 16]
 }
 
 // The running hash after an entry, which counts where it is saved.
-fn with_entry(hash: Md5, status: u64, md5: &[u8]) -> Md5
-    ensures { λ r. ⌜ r ≡ cond (isSaved status) (pushed hash (now (md5 .entry))) hash ⌝ }
+pub fn with_entry(hash: Md5, status: u64, md5: &[u8]) -> Md5
+    ensures { λ r. ⌜ r ≡ hashEntry hash status (now (md5 .entry)) ⌝ }
 {
     if entries::is_saved(status) {
         return hash.push(md5);

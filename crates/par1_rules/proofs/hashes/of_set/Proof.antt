@@ -5,16 +5,14 @@ use mathlib.Core.Path.{_≡_, sym, ap, ap₂, _∙_}
 use Prim.Native.Nat.{ℕ, _≤_, _-_}
 use native.Mathlib.Omega.{arith}
 use lib.ListN.{length, drop}
-use mathlib.Core.Bool.{cond}
 use mathlib.Core.List.{List}
 use denote.Ref.{now}
 use Rattle.md5.specs.declared.Md5.{Md5}
-use Rattle.md5.specs.Running.{finished, pushed}
-use Rattle.entries.specs.Entry.{isSaved}
+use Rattle.md5.specs.Running.{finished}
 use Rattle.entries.specs.Walk.{entriesOf}
 use Rattle.entries.proofs.EntryLaws.{EntryAt, entry-at}
 use Rattle.entries.proofs.WalkLaws.{entries-none}
-use Rattle.par1_rules.specs.Hashes.{setHash}
+use Rattle.par1_rules.specs.Hashes.{setHash, hashEntry}
 use Rattle.par1_rules.proofs.HashLaws.{pushedOver, set-start, set-more, set-none, hash-part}
 use borrow.Author.Needs.{needs}
 use Rattle.par1_rules.proofs.hashes.of_set.Statement.{statement}
@@ -62,7 +60,7 @@ loop-again c =
     let l = known .before .before .before .before in
     let s : List ℕ = now (l .before .before .before .args .list) in
     let part = c .before .part .ensures ∙ hash-part s (l .loop .from) (e .0) (omega (arith, i .low)) in
-    let pushed-is = c .with-entry .ensures ∙ ap (λ (q : List ℕ). cond (isSaved (e .1 .0)) (pushed (l .loop .hash) q) (l .loop .hash)) part in (
+    let pushed-is = c .with-entry .ensures ∙ ap (λ (q : List ℕ). hashEntry (l .loop .hash) (e .1 .0) q) part in (
       i .fits,
       ap₂ (λ (h : Md5) (q : List ℕ). finished (pushedOver h (entriesOf q .pieces))) pushed-is (sym (i .next))
           ∙ ap finished (set-more (l .loop .hash) (i .entry)) ∙ l .loop .inv .1,
