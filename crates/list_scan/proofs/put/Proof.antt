@@ -1,0 +1,14 @@
+-- `list_scan::put` meets its contract.
+-- Assumes nothing.
+use lib.Seq.{set-out}
+use mathlib.Core.Path.{sym}
+use native.Mathlib.Omega.{arith}
+use borrow.Author.Needs.{needs}
+use Rattle.list_scan.proofs.put.Statement.{statement}
+use Rattle.list_scan.proofs.put.Tie as tie
+
+returns-2 : tie.Need-returns-2
+returns-2 c = sym (set-out _ _ _ (omega (arith, c .before .pre)))
+
+pub put-spec : {M : Type 1} → statement M
+put-spec = tie.close (tie.spec (λ c. search needs) (λ c. search needs) returns-2)

@@ -1,0 +1,4 @@
+pub mod Found
+pub mod Room
+pub mod Scan
+pub mod Witness
