@@ -178,7 +178,7 @@ pub fn entry_size_allowed(size: u64, room: usize) -> bool
 }
 
 // Whether each unit of a name is allowed.
-fn units_allowed(name: &[u8]) -> bool
+pub fn units_allowed(name: &[u8]) -> bool
     ensures { λ r. ⌜ r ≡ unitsAllowed (unitsOf (now (name .entry))) ⌝ }
 {
     let mut at: usize = 0;

@@ -5,7 +5,6 @@
 --   counted           and are so after any bytes; Witnesses has bytes for all such counts
 -- Assumes nothing.
 use mathlib.Core.Path.{_≡_, refl, sym, _∙_, subst}
-use mathlib.Core.Logic.{_⊎_, inl, inr}
 use mathlib.Core.Bool.{Bool, true, false, cond}
 use mathlib.Core.List.{List, [], _∷_}
 use Prim.Native.Nat.{ℕ, suc, _+_, _*_, _^_, _≤_, _<_}
@@ -18,8 +17,7 @@ use Rattle.entries.specs.Entry.{isSaved, statusOf, md5Of}
 use Rattle.entries.specs.Walk.{addEntry}
 use Rattle.list_scan.specs.declared.Scan.{Scan}
 use Rattle.list_scan.specs.Scan.{nameByte, isWhole, entryEnded, stepOf, scanned, scanStart}
-use Rattle.list_scan.proofs.Mid.{order}
-use Rattle.list_scan.proofs.StepLaws.{short-entry}
+use Rattle.list_scan.proofs.WholeLaws.{whole-at}
 
 pub record Counted (sc : Scan) (n : ℕ) : Type 0 where
   pub head-size : length (sc .head) ≡ 56
@@ -38,13 +36,6 @@ hash-more false h m saved size e fits = omega arith
 saved-more : (b : Bool) (saved entries : ℕ) → saved ≤ entries → saved + cond b 1 0 ≤ entries + 1
 saved-more true saved entries h = omega arith
 saved-more false saved entries h = omega arith
-
-long-enough : (hd : List ℕ) (at : ℕ) (named : Bool) → isWhole hd at named ≡ true → 58 ≤ at
-long-enough hd at named e = by (order at 58)
-  where
-    by : (at < 58) ⊎ (58 ≤ at) → 58 ≤ at
-    by (inl h) = absurd (let z : _≡_ {A = Bool} true false = sym e ∙ short-entry hd at named h in let y : _≡_ {A = ℕ} 0 1 = cc in omega arith)
-    by (inr h) = h
 
 abbrev headAfter : Scan → ℕ → List ℕ
 headAfter sc b = set (sc .head) (sc .at) b
@@ -78,7 +69,7 @@ module _ (sc : Scan) (b n : ℕ) (k : Counted sc n) (small : n < 2 ^ 58) where
       by : (q : Bool) → isWhole (headAfter sc b) (sc .at + 1) (namedAfter sc b) ≡ q
           → Counted (cond q (entryEnded (headAfter sc b) (sc .totals) (sc .hash))
           (record { head = headAfter sc b; at = sc .at + 1; low = b; named = namedAfter sc b; totals = sc .totals; hash = sc .hash })) (n + 1)
-      by true e = counted-ended (long-enough (headAfter sc b) (sc .at + 1) (namedAfter sc b) e)
+      by true e = counted-ended (whole-at (headAfter sc b) (sc .at + 1) (namedAfter sc b) e .low)
       by false e = record { head-size = size-after; saved-most = k .saved-most; hash-total = k .hash-total; within = omega (arith, k .within) }
 
 pub counted-scan : (l : List ℕ) (sc : Scan) (n : ℕ) → Counted sc n → n + length l < 2 ^ 58 → Counted (scanned sc l) (n + length l)

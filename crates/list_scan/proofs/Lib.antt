@@ -1,7 +1,9 @@
 pub mod CountLaws
+pub mod FoundLaws
 pub mod Mid
 pub mod NameBytes
 pub mod RoomLaws
-pub mod StepLaws
+pub mod RunLaws
 pub mod Walks
+pub mod WholeLaws
 pub mod Witnesses

@@ -3,11 +3,11 @@
 --   fits-by        two counts and 64 bits, as the code tests it
 --   Room sc n, room    the counts of sc have room for n bytes more, in numbers
 --   pushed-room    bytes that there is room for are scanned
---   room-step      a step uses up one of the room
+--   room-step, room-run    a byte uses up one of the room; so does each of many
 -- Assumes nothing.
-use mathlib.Core.Path.{_≡_, refl, sym}
+use mathlib.Core.Path.{_≡_, refl, subst}
 use mathlib.Core.Bool.{Bool, true, false, cond, _&&_}
-use mathlib.Core.List.{List}
+use mathlib.Core.List.{List, [], _∷_}
 use Prim.Native.Nat.{ℕ, _+_, _-_, _^_, _<_}
 use native.Mathlib.Omega.{arith}
 use lib.Dec.{leb, ltb}
@@ -51,7 +51,7 @@ room-ended hd sc n r =
     let more = add-added (sc .totals) (statusOf hd) (fileSizeOf hd) in
     record { place = omega (arith, r .place); count = omega (arith, r .count, more .entries-is); chosen = omega (arith, r .chosen, more .saved-most) }
 
-pub room-step : (sc : Scan) (b n : ℕ) → Room sc (n + 1) → Room (stepOf sc b) n
+room-step : (sc : Scan) (b n : ℕ) → Room sc (n + 1) → Room (stepOf sc b) n
 unfolding stepOf
 room-step sc b n r = by (isWhole (set (sc .head) (sc .at) b) (sc .at + 1) (nameByte (sc .named) (sc .at) (sc .low) b))
   where
@@ -60,3 +60,10 @@ room-step sc b n r = by (isWhole (set (sc .head) (sc .at) b) (sc .at + 1) (nameB
         (record { head = set (sc .head) (sc .at) b; at = sc .at + 1; low = b; named = nameByte (sc .named) (sc .at) (sc .low) b; totals = sc .totals; hash = sc .hash })) n
     by true = room-ended (set (sc .head) (sc .at) b) sc n r
     by false = record { place = omega (arith, r .place); count = omega (arith, r .count); chosen = omega (arith, r .chosen) }
+
+pub room-run : (sc : Scan) (l : List ℕ) (n : ℕ) → Room sc (length l + n) → Room (scanned sc l) n
+unfolding scanned
+room-run sc [] n r = subst (Room sc) (let e : 0 + n ≡ n = omega arith in e) r
+room-run sc (b ∷ l) n r =
+    let e : length (b ∷ l) + n ≡ length l + n + 1 = omega arith in
+    room-run (stepOf sc b) l n (room-step sc b (length l + n) (subst (Room sc) e r))

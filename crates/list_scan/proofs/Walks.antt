@@ -39,7 +39,7 @@ use Rattle.lent_bytes.proofs.PartLaws.{part-take}
 use Rattle.list_scan.specs.declared.Scan.{Scan}
 use Rattle.list_scan.specs.Scan.{stepOf, scanned, scanStart}
 use Rattle.list_scan.specs.Found.{foundOf}
-use Rattle.list_scan.proofs.StepLaws.{if-not-zero}
+use Rattle.list_scan.proofs.FoundLaws.{if-not-zero}
 use Rattle.list_scan.proofs.Mid.{whole, Mid, step-more, step-whole, fault-is}
 
 pub scanned-append : (sc : Scan) (l m : List ℕ) → scanned sc (l ++ m) ≡ scanned (scanned sc l) m
@@ -157,7 +157,7 @@ scan-none : (sc : Scan) {s : List ℕ} → s ≡ [] → scanned sc s ≡ sc
 unfolding scanned
 scan-none sc e = ap (scanned sc) e
 
-scan-join : (sc : Scan) (n : ℕ) (s : List ℕ) → scanned sc s ≡ scanned (scanned sc (take n s)) (drop n s)
+pub scan-join : (sc : Scan) (n : ℕ) (s : List ℕ) → scanned sc s ≡ scanned (scanned sc (take n s)) (drop n s)
 scan-join sc n s = ap (scanned sc) (sym (take-append-drop n s)) ∙ scanned-append sc (take n s) (drop n s)
 
 module _ {t : Totals} {h : Md5} {sc : Scan} (m : Mid t h [] sc) where

@@ -1,11 +1,15 @@
 // The list of a Par 1.0 file, walked as its bytes come in (document 02, 2026-03).
 ghost use mathlib.Core.Path.{_≡_};
-ghost use mathlib.Core.Bool.{true};
-ghost use Prim.Native.Nat.{_+_, _<_, _^_};
-ghost use lib.ListN.{length, set};
+ghost use mathlib.Core.Bool.{true, _&&_};
+ghost use mathlib.Core.Logic.{_⊎_};
+ghost use Prim.Native.Nat.{_+_, _*_, _%_, _^_, _<_, _≤_, min};
+ghost use lib.ListN.{length};
+ghost use Rattle.entries.specs.Entry.{statusOf, fileSizeOf, md5Of, unitsOf, unitAllowed, unitsAllowed};
 ghost use Rattle.entries.specs.Walk.{addEntry};
 ghost use Rattle.md5.specs.Running.{finished};
-ghost use Rattle.list_scan.specs.Scan.{nameByte, isWhole, entryEnded, scanned, scanStart};
+ghost use Rattle.par1_rules.specs.Hashes.{hashEntry};
+ghost use Rattle.list_scan.specs.Scan.{isWhole, scanned, scanStart};
+ghost use Rattle.list_scan.specs.Run.{IsRun};
 ghost use Rattle.list_scan.specs.Found.{faultAt, foundOf};
 ghost use Rattle.list_scan.specs.Room.{sumFits, hasRoom, pushed};
 use entries::Fault;
@@ -13,6 +17,7 @@ use entries::Totals;
 use entries::Walked;
 use md5::Md5;
 use par1_rules::hashes;
+use par1_rules::layout;
 
 // A scan of a list: the first bytes of the entry at hand; how many of its bytes came; the last of them; whether the units of its name so far
 // are allowed; the totals of the entries before it; and the running hash over the saved ones.
@@ -23,6 +28,12 @@ pub struct Scan {
     pub named: bool,
     pub totals: Totals,
     pub hash: Md5,
+}
+
+// A run: how many bytes of an entry are taken at once, and whether the units of its name are allowed with them.
+struct Run {
+    length: usize,
+    named: bool,
 }
 
 // The scan before any byte.
@@ -97,7 +108,7 @@ fn sum_fits(count: u64, more: u64) -> bool
     count <= 0xffff_ffff_ffff_ffff - more
 }
 
-// The scan after the bytes too.
+// The scan after the bytes too, run by run.
 fn after(scan: Scan, bytes: &[u8]) -> Scan
     requires { ⌜ hasRoom scan (length (now bytes)) ≡ true ⌝ }
     ensures { λ r. ⌜ r ≡ scanned scan (now (bytes .entry)) ⌝ }
@@ -110,23 +121,23 @@ fn after(scan: Scan, bytes: &[u8]) -> Scan
     let mut hash = scan.hash;
     let mut i: usize = 0;
     while i < bytes.len() {
-        let byte = bytes[i];
-        i += 1;
-        put(&mut head, at, byte);
-        named = name_byte(named, at, low, byte);
-        at += 1;
+        let rest = &bytes[i..];
+        let run = next_run(&head, at, low, named, rest);
+        let n = run.length;
+        let taken = &rest[..n];
+        i += n;
+        lent_bytes::put(&mut head, at as usize, taken);
+        at += n as u64;
+        named = run.named;
         if is_whole(&head, at, named) {
-            let next = ended(head, totals, hash);
-            let t = next.totals;
-            let h = next.hash;
-            totals = t;
-            hash = h;
+            totals = added(totals, &head);
+            hash = hashed(hash, &head);
             at = 0;
             low = 0;
             named = true;
             continue;
         }
-        low = byte;
+        low = taken[n - 1];
     }
     Scan {
         head,
@@ -138,28 +149,84 @@ fn after(scan: Scan, bytes: &[u8]) -> Scan
     }
 }
 
-// The scan after an entry that ends.
-fn ended(head: [u8; 56], totals: Totals, hash: Md5) -> Scan
-    requires { ⌜ (totals .entries + 1 < 2 ^ 64) × (totals .saved + 1 < 2 ^ 64) ⌝ }
-    ensures { λ r. ⌜ r ≡ entryEnded head totals hash ⌝ }
+// The run at the front of `rest`: what there is of the first bytes of the entry; or of its name, whole units up to its end, or a byte where
+// a unit is cut.
+fn next_run(head: &[u8; 56], at: u64, low: u8, named: bool, rest: &[u8]) -> Run
+    requires { ⌜ (0 < length (now rest)) × (length (now head) ≡ 56) ⌝ }
+    ensures { λ r. ⌜ IsRun (now (head .entry)) at low named (now (rest .entry)) r ⌝ }
 {
-    let status = little_endian::read64(&head, entries::STATUS_AT);
-    let size = little_endian::read64(&head, entries::FILE_SIZE_AT);
-    Scan {
-        head,
-        at: 0,
-        low: 0,
-        named: true,
-        totals: added(totals, status, size),
-        hash: hashes::with_entry(hash, status, &head[entries::MD5_AT..entries::MD5_16K_AT]),
+    if at < 56 {
+        return Run {
+            length: lesser(56 - at as usize, rest.len()),
+            named,
+        };
+    }
+    if at % 2 == 1 {
+        return Run {
+            length: 1,
+            named: unit_allowed(named, low, rest[0]),
+        };
+    }
+    if rest.len() == 1 {
+        return Run { length: 1, named };
+    }
+    let length = units_to_end(little_endian::read64(head, 0), at, rest.len());
+    Run {
+        length,
+        named: units_allowed(named, &rest[..length]),
     }
 }
 
-// The totals with one entry more.
-fn added(totals: Totals, status: u64, size: u64) -> Totals
-    requires { ⌜ (totals .entries + 1 < 2 ^ 64) × (totals .saved + 1 < 2 ^ 64) ⌝ }
-    ensures { λ r. ⌜ r ≡ addEntry totals status size ⌝ }
+// How many of `left` bytes of a name are whole units up to the end of the entry; up to the end of the bytes where it is past.
+fn units_to_end(size: u64, at: u64, left: usize) -> usize
+    requires { ⌜ 1 < left ⌝ }
+    ensures { λ r. ⌜ (0 < r) × (r ≤ left) × (r % 2 ≡ 0) × ((size ≤ at) ⊎ (at + r ≤ size + 1)) ⌝ }
 {
+    let whole = left - left % 2;
+    if size <= at {
+        return whole;
+    }
+    let to_end = size - at;
+    if whole as u64 <= to_end {
+        return whole;
+    }
+    (to_end + to_end % 2) as usize
+}
+
+// Whether the name is allowed so far, with a run of whole units.
+fn units_allowed(named: bool, units: &[u8]) -> bool
+    ensures { λ r. ⌜ r ≡ (named && unitsAllowed (unitsOf (now (units .entry)))) ⌝ }
+{
+    if !named {
+        return false;
+    }
+    entries::units_allowed(units)
+}
+
+// Whether the name is allowed so far, with a unit of which `low` came before.
+fn unit_allowed(named: bool, low: u8, high: u8) -> bool
+    ensures { λ r. ⌜ r ≡ (named && unitAllowed (low + 256 * high)) ⌝ }
+{
+    if !named {
+        return false;
+    }
+    entries::unit_allowed(low as u16 + 256 * (high as u16))
+}
+
+// The lesser of two lengths.
+fn lesser(a: usize, b: usize) -> usize
+    ensures { λ r. ⌜ r ≡ min a b ⌝ }
+{
+    if a <= b { a } else { b }
+}
+
+// The totals with an entry more.
+fn added(totals: Totals, head: &[u8; 56]) -> Totals
+    requires { ⌜ (totals .entries + 1 < 2 ^ 64) × (totals .saved + 1 < 2 ^ 64) ⌝ }
+    ensures { λ r. ⌜ r ≡ addEntry totals (statusOf (now (head .entry))) (fileSizeOf (now (head .entry))) ⌝ }
+{
+    let status = little_endian::read64(head, entries::STATUS_AT);
+    let size = little_endian::read64(head, entries::FILE_SIZE_AT);
     Totals {
         entries: totals.entries + 1,
         saved: totals.saved + entries::saved_count(status),
@@ -167,30 +234,12 @@ fn added(totals: Totals, status: u64, size: u64) -> Totals
     }
 }
 
-// Stores the byte at `at` of an entry, where it is one of the first.
-fn put(head: &mut [u8; 56], at: u64, byte: u8)
-    requires { ⌜ length (now head) ≡ 56 ⌝ }
-    ensures { λ _. ⌜ now (head .exit) ≡ set (now (head .entry)) at byte ⌝ }
+// The running hash with an entry more.
+fn hashed(hash: Md5, head: &[u8; 56]) -> Md5
+    ensures { λ r. ⌜ r ≡ hashEntry hash (statusOf (now (head .entry))) (md5Of (now (head .entry))) ⌝ }
 {
-    if at < 56 {
-        head[at as usize] = byte;
-    }
-}
-
-// Whether the name is allowed so far, with the byte at `at`, and `low` before it.
-fn name_byte(named: bool, at: u64, low: u8, byte: u8) -> bool
-    ensures { λ r. ⌜ r ≡ nameByte named at low byte ⌝ }
-{
-    if at < 56 {
-        return named;
-    }
-    if at % 2 != 1 {
-        return named;
-    }
-    if !entries::unit_allowed(low as u16 + 256 * (byte as u16)) {
-        return false;
-    }
-    named
+    let status = little_endian::read64(head, entries::STATUS_AT);
+    hashes::with_entry(hash, status, layout::part(head, entries::MD5_AT, layout::HASH_LENGTH))
 }
 
 // Whether the entry ends after `at` bytes.

@@ -7,12 +7,21 @@ use borrow.Author.Needs.{needs}
 use Rattle.list_scan.proofs.added.Statement.{statement}
 use Rattle.list_scan.proofs.added.Tie as tie
 
-add-t6 : tie.Need-add-t6
-add-t6 c = omega (arith, c .before .saved-count .ensures, saved-most (c .before .before .before .args .status))
+add-t11 : tie.Need-add-t11
+add-t11 c = omega (arith, c .before .saved-count .ensures, saved-most (c .before .before .before .before .before .read64 .result))
 
 returns : tie.Need-returns
 unfolding addEntry
 returns c = cc
 
 pub added-spec : {M : Type 1} → statement M
-added-spec = tie.close (tie.spec (λ c. search needs) (λ c κs. search needs) add-t6 (λ c κs. search needs) returns)
+added-spec =
+    tie.close
+    (tie.spec
+    (λ c κs. search needs)
+    (λ c κs. search needs)
+    (λ c. search needs)
+    (λ c κs. search needs)
+    add-t11
+    (λ c κs. search needs)
+    returns)

@@ -1,20 +1,20 @@
--- `list_scan::after` meets its contract.
+-- `list_scan::after` meets its contract. The loop's invariant: the scan so far ends, over the bytes that remain, as the scan before them all,
+-- and its counts have room for them.
 -- Assumes nothing.
-use mathlib.Core.List.{List}
-use denote.Ref.{now}
-use Rattle.list_scan.specs.declared.Scan.{Scan}
-use Rattle.list_scan.proofs.StepLaws.{scanWith, Kept, kept-start, kept-next, ended-parts, step-ends, step-goes-on, scan-done}
-use mathlib.Core.Path.{_≡_, refl, sym, ap, _∙_}
-use Prim.Native.Nat.{ℕ, _≤_, _<_, _-_}
+use mathlib.Core.Path.{_≡_, sym, ap}
+use Prim.Native.Nat.{_-_, _+_, _≤_}
 use native.Mathlib.Omega.{arith}
-use lib.ListN.{length, getD, length-set}
+use lib.ListN.{length, take, drop, length-drop}
+use denote.Ref.{now}
+use Rattle.lent_bytes.proofs.PartLaws.{part-to-end}
+use Rattle.list_scan.proofs.RunLaws.{scanWith, Kept, kept-start, kept-done, run-fits, run-length, run-ends, run-goes-on}
 use borrow.Author.Needs.{needs}
 use Rattle.list_scan.proofs.after.Statement.{statement}
 use Rattle.list_scan.proofs.after.Tie as tie
 
 abbrev Inv-loop : tie.InvT-loop
 Inv-loop bytes head₀ at₀ low₀ named₀ totals₀ hash₀ i₀ head at low named totals hash i =
-    (i ≤ length bytes) × Kept (scanWith head₀ at₀ low₀ named₀ totals₀ hash₀) (scanWith head at low named totals hash) bytes i × (length head ≡ 56)
+    Kept (scanWith head₀ at₀ low₀ named₀ totals₀ hash₀) (scanWith head at low named totals hash) bytes i
 
 abbrev μ-loop : tie.MeasureT-loop
 μ-loop bytes head₀ at₀ low₀ named₀ totals₀ hash₀ i₀ head at low named totals hash i = length bytes - i
@@ -23,65 +23,73 @@ headed : (c : tie.Start Inv-loop μ-loop) → length (c .args .scan .head) ≡ 5
 headed c = search needs
 
 loop-holds : tie.Need-loop-holds Inv-loop μ-loop
-loop-holds c =
-    let start = c .before .before .before .before in
-    (omega arith, kept-start _ _ (start .pre), headed start)
+loop-holds c = let start = c .before .before .before .before in kept-start _ _ (headed start) (start .pre)
 
-shared-slice-read-byte : tie.Need-shared-slice-read-byte Inv-loop μ-loop
-shared-slice-read-byte c = omega arith
+part-rest-start : tie.Need-part-rest-start Inv-loop μ-loop
+part-rest-start c = c .before .loop .inv .within
+
+next-run-requires : tie.Need-next-run-requires Inv-loop μ-loop
+next-run-requires c κs =
+    let l = c .before .before .before .loop in
+    let s = now (c .before .before .before .before .before .before .before .before .args .bytes) in
+    (omega (arith, ap length (part-to-end s (l .i)), length-drop (l .i) s), l .inv .head-size)
+
+-- where the run ends, and how many bytes it has
+ends-at : (c : tie.After-next-run Inv-loop μ-loop)
+    → c .before .before .before .before .loop .i + c .next-run .result .length ≤ length (now (c .before .before .before .before .before .before .before .before .before .args .bytes))
+ends-at c = run-fits _ _ _ (c .before .before .before .before .loop .inv) (c .next-run .ensures)
+
+size-is : (c : tie.After-next-run Inv-loop μ-loop)
+    → let n = c .next-run .result .length in
+    let i = c .before .before .before .before .loop .i in
+    let s = now (c .before .before .before .before .before .before .before .before .before .args .bytes) in length (take n (take (length s - i) (drop i s))) ≡ n
+size-is c = run-length _ _ _ (c .before .before .before .before .loop .inv) (c .next-run .ensures)
+
+slice-aggregate-taken : tie.Need-slice-aggregate-taken Inv-loop μ-loop
+slice-aggregate-taken c = sym (size-is (c .before))
 
 add-i : tie.Need-add-i Inv-loop μ-loop
-add-i c = omega arith
+add-i c = omega (arith, ends-at (c .before))
 
-put-requires : tie.Need-put-requires Inv-loop μ-loop
-put-requires c κs = c .before .before .before .loop .inv .2
-
-name-byte-requires : tie.Need-name-byte-requires Inv-loop μ-loop
-name-byte-requires c κs = search needs
+slice-aggregate-put : tie.Need-slice-aggregate-put Inv-loop μ-loop
+slice-aggregate-put c = sym (c .before .before .before .before .before .before .loop .inv .head-size)
 
 add-at : tie.Need-add-at Inv-loop μ-loop
-add-at c = let r = c .before .before .before .before .before .loop .inv .1 .room in omega (arith, r .place)
+add-at c = let run = c .before .before .before .before in omega (arith, ends-at run, run .before .before .before .before .loop .inv .room .place)
 
-is-whole-requires : tie.Need-is-whole-requires Inv-loop μ-loop
-is-whole-requires c κs = search needs
-
-ended-requires : tie.Need-ended-requires Inv-loop μ-loop
-ended-requires c κs = let r = c .before .before .before .before .before .before .before .before .loop .inv .1 .room in (omega (arith, r .count), omega (arith, r .chosen))
+added-requires : tie.Need-added-requires Inv-loop μ-loop
+added-requires c κs =
+    let run = c .before .before .before .before .before .before .before .before in
+    let room = run .before .before .before .before .loop .inv .room in
+    let some = run .next-run .ensures .some in
+    (omega (arith, ends-at run, some, room .count), omega (arith, ends-at run, some, room .chosen))
 
 loop-less : tie.Need-loop-less Inv-loop μ-loop
-loop-less c = omega arith
+loop-less c = let run = c .before .before .before .before .before .before .before .before .before .before .before in omega (arith, ends-at run, run .next-run .ensures .some)
 
 loop-again : tie.Need-loop-again Inv-loop μ-loop
 loop-again c =
-    let l = c .before .before .before .before .before .before .before .before .before .before .before .loop in
-    let a = c .before .before .before .before .before .before .before .before .before .before .before .before .before .before .before .before .args in
-    let s : List ℕ = now (a .bytes) in
-    let sd : Scan = scanWith (l .head) (l .at) (l .low) (l .named) (l .totals) (l .hash) in
-    let h : l .i < length s = c .before .before .before .before .before .before .before .before .before .before .loop-test .taken in
-    let p = c .before .before .before .before .before .before .before .put in
-    let n = c .before .before .ended in
-    let e = step-ends sd (getD s (l .i) 0) (p .ensures) (c .before .before .before .before .before .before .name-byte .ensures) (c .before .before .before .before .is-whole .ensures) (c .before .before .before .if1 .taken) (ended-parts (p .last .0) (l .totals) (l .hash) (n .ensures)) in
-    (omega (arith, h), kept-next (a .scan) sd _ s (l .i) h (l .inv .1) e, ap length (p .ensures) ∙ length-set (l .head) (l .at) _ ∙ l .inv .2)
+    let run = c .before .before .before .before .before .before .before .before .before .before .before in
+    run-ends _ _ _ (run .before .before .before .before .loop .inv) (run .next-run .ensures) (c .before .before .before .before .before .before .before .before .put .ensures)
+    (c .before .before .before .before .before .is-whole .ensures) (c .before .before .before .before .if1 .taken) (c .before .before .added .ensures) (c .hashed .ensures)
+
+sub-low : tie.Need-sub-low Inv-loop μ-loop
+sub-low c = c .before .before .before .before .before .before .before .next-run .ensures .some
+
+shared-slice-read-low : tie.Need-shared-slice-read-low Inv-loop μ-loop
+shared-slice-read-low c = let run = c .before .before .before .before .before .before .before .before in omega (arith, size-is run, run .next-run .ensures .some)
 
 loop-less-2 : tie.Need-loop-less-2 Inv-loop μ-loop
-loop-less-2 c = omega arith
+loop-less-2 c = let run = c .before .before .before .before .before .before .before .before in omega (arith, ends-at run, run .next-run .ensures .some)
 
 loop-again-2 : tie.Need-loop-again-2 Inv-loop μ-loop
 loop-again-2 c =
-    let l = c .before .before .before .before .before .before .before .before .loop in
-    let a = c .before .before .before .before .before .before .before .before .before .before .before .before .before .args in
-    let s : List ℕ = now (a .bytes) in
-    let sd : Scan = scanWith (l .head) (l .at) (l .low) (l .named) (l .totals) (l .hash) in
-    let h : l .i < length s = c .before .before .before .before .before .before .before .loop-test .taken in
-    let p = c .before .before .before .before .put in
-    let e = step-goes-on sd (getD s (l .i) 0) (p .ensures) (c .before .before .before .name-byte .ensures) (c .before .is-whole .ensures) (c .if1 .left) in
-    (omega (arith, h), kept-next (a .scan) sd _ s (l .i) h (l .inv .1) e, ap length (p .ensures) ∙ length-set (l .head) (l .at) _ ∙ l .inv .2)
+    let run = c .before .before .before .before .before .before .before .before in
+    run-goes-on _ _ _ (run .before .before .before .before .loop .inv) (run .next-run .ensures) (c .before .before .before .before .before .put .ensures)
+    (c .before .before .is-whole .ensures) (c .before .if1 .left)
 
 returns : tie.Need-returns Inv-loop μ-loop
-returns c =
-    let l = c .before .loop in
-    let s : List ℕ = now (c .before .before .before .before .before .before .args .bytes) in
-    sym (scan-done (scanWith (l .head) (l .at) (l .low) (l .named) (l .totals) (l .hash)) s (l .i) (omega arith)) ∙ l .inv .1 .rest
+returns c = let l = c .before .loop in kept-done _ _ _ (l .i) (omega arith) (l .inv)
 
 pub after-spec : {M : Type 1} → statement M
 after-spec =
@@ -90,15 +98,22 @@ after-spec =
     Inv-loop
     μ-loop
     loop-holds
-    shared-slice-read-byte
+    (λ c. omega arith)
+    part-rest-start
+    (λ c. omega arith)
+    next-run-requires
+    slice-aggregate-taken
     add-i
-    put-requires
-    name-byte-requires
+    slice-aggregate-put
+    (λ c κs. search needs)
     add-at
-    is-whole-requires
-    ended-requires
+    (λ c κs. search needs)
+    added-requires
+    (λ c κs. search needs)
     loop-less
     loop-again
+    sub-low
+    shared-slice-read-low
     loop-less-2
     loop-again-2
     returns)

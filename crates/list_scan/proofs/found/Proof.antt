@@ -1,7 +1,7 @@
 -- `list_scan::found` meets its contract.
 -- Assumes nothing.
 use Rattle.list_scan.specs.Found.{foundOf}
-use Rattle.list_scan.proofs.StepLaws.{found-refused}
+use Rattle.list_scan.proofs.FoundLaws.{found-refused}
 use borrow.Author.Needs.{needs}
 use Rattle.list_scan.proofs.found.Statement.{statement}
 use Rattle.list_scan.proofs.found.Tie as tie

@@ -1,0 +1,239 @@
+-- Runs of bytes, as the code takes them.
+--
+--   scanWith ..        the scan with these parts
+--   scan-run           the scan after a run is worked out once, at its end
+--   run-head, run-high, run-low, run-units     what the code takes is a run: first bytes; the second byte of a unit, the first of one; whole units
+--   Kept sc sd s i     the scan sd, i bytes into s, ends as the scan sc before s does, and its counts have room for the rest
+--   kept-start, kept-done          before the bytes, and after them all
+--   run-fits, run-length           a run at the front of what remains
+--   run-ends, run-goes-on          after it, where an entry ends with it or not
+-- Assumes nothing.
+use mathlib.Core.Path.{_≡_, refl, sym, ap, ap₂, _∙_, subst}
+use mathlib.Core.Logic.{_⊎_, inl, inr}
+use mathlib.Core.Bool.{Bool, true, false, cond, _&&_, and-true, and-false, and-assoc}
+use mathlib.Core.List.{List, [], _∷_, foldl}
+use Prim.Native.Nat.{ℕ, zero, suc, _+_, _-_, _*_, _%_, _≤_, _<_, min}
+use native.Mathlib.Numerals.{add-one}
+use native.Mathlib.Omega.{arith}
+use lib.ListN.{length, set, take, drop, getD, length-drop, drop-of-length-le}
+use lib.Seq.{sets, length-sets, length-take-le, drop-drop}
+use borrow.Author.Tests.{lt-leb, le-leb, ne-eqb, eq-eqb}
+use Rattle.little_endian.specs.Bytes.{fromLe, leAt}
+use Rattle.little_endian.proofs.Stores.{sets-out}
+use Rattle.lent_bytes.proofs.PartLaws.{part-to-end}
+use Rattle.md5.specs.declared.Md5.{Md5}
+use Rattle.entries.specs.Entry.{entrySize, statusOf, fileSizeOf, md5Of, unitsOf, unitAllowed, unitsAllowed}
+use Rattle.entries.specs.Walk.{addEntry}
+use Rattle.entries.specs.declared.Totals.{Totals}
+use Rattle.par1_rules.specs.Hashes.{hashEntry}
+use Rattle.list_scan.specs.declared.Run.{Run}
+use Rattle.list_scan.specs.declared.Scan.{Scan}
+use Rattle.list_scan.specs.Scan.{nameByte, isWhole, entryEnded, stepOf, scanned}
+use Rattle.list_scan.specs.Room.{hasRoom}
+use Rattle.list_scan.specs.Run.{namedAfter, NoneEnds, IsRun}
+use Rattle.list_scan.proofs.NameBytes.{lastOr}
+use Rattle.list_scan.proofs.RoomLaws.{Room, room, room-run}
+use Rattle.list_scan.proofs.Walks.{scan-join}
+use Rattle.list_scan.proofs.WholeLaws.{not-whole}
+
+-- ---- the scan after a run
+
+abbrev pub scanWith : List ℕ → ℕ → ℕ → Bool → Totals → Md5 → Scan
+scanWith head at low named t h = record { head = head; at = at; low = low; named = named; totals = t; hash = h }
+
+-- the test whether the entry ends, after any number of its bytes
+abbrev stepTo : List ℕ → ℕ → ℕ → Bool → Totals → Md5 → Scan
+stepTo head at low named t h = cond (isWhole head at named) (entryEnded head t h) (scanWith head at low named t h)
+
+module _ (t : Totals) (h : Md5) where
+  scan-run : (hd : List ℕ) (at low : ℕ) (named : Bool) (l : List ℕ) → 0 < length l → NoneEnds hd at l
+      → scanned (scanWith hd at low named t h) l
+      ≡ stepTo (sets hd at l) (at + length l) (lastOr low l) (namedAfter named at low l) t h
+  unfolding scanned stepOf namedAfter
+  scan-run hd at low named [] some none = absurd (omega arith)
+  scan-run hd at low named (b ∷ []) some none = refl
+  scan-run hd at low named (b ∷ c ∷ l) some none =
+      let now : Bool = nameByte named at low b in
+      let place : at + 1 + length (c ∷ l) ≡ at + length (b ∷ c ∷ l) = omega arith in
+      let last : ℕ = lastOr low (b ∷ c ∷ l) in
+      let all : Bool = namedAfter named at low (b ∷ c ∷ l) in
+      ap (λ (w : Bool). foldl stepOf (cond w (entryEnded (set hd at b) t h) (scanWith (set hd at b) (at + 1) b now t h)) (c ∷ l))
+      (none 1 (omega arith) (omega arith) now)
+      ∙ scan-run (set hd at b) (at + 1) b now (c ∷ l) (omega arith) later
+      ∙ ap₂ (λ (p n : ℕ). stepTo (sets (set hd at b) p (c ∷ l)) n last all t h) (add-one at) place
+    where
+      later : NoneEnds (set hd at b) (at + 1) (c ∷ l)
+      later k pos less w =
+          let place : at + 1 + k ≡ at + suc k = omega arith in
+          ap₂ (λ (p n : ℕ). isWhole (sets (set hd at b) p (take k (c ∷ l))) n w) (add-one at) place ∙ none (suc k) (omega arith) (omega arith) w
+
+-- ---- the name, byte by byte
+
+module _ (named : Bool) (at low b : ℕ) where
+  byte-before : at < 56 → nameByte named at low b ≡ named
+  unfolding nameByte
+  byte-before h = simp (lt-leb 56 at h)
+
+  byte-low : (at % 2 ≡ 1 → ⊥) → nameByte named at low b ≡ named
+  unfolding nameByte
+  byte-low h = simp (ne-eqb (at % 2) 1 h, and-false)
+
+  byte-high : 56 ≤ at → at % 2 ≡ 1 → nameByte named at low b ≡ (named && unitAllowed (low + 256 * b))
+  unfolding nameByte
+  byte-high h o = simp (le-leb 56 at h, eq-eqb (at % 2) 1 o)
+
+named-head : (named : Bool) (at low : ℕ) (l : List ℕ) → at + length l ≤ 56 → namedAfter named at low l ≡ named
+unfolding namedAfter
+named-head named at low [] h = refl
+named-head named at low (b ∷ l) h = named-head (nameByte named at low b) (at + 1) b l (omega arith) ∙ byte-before named at low b (omega arith)
+
+named-units : (named : Bool) (at low : ℕ) (l : List ℕ) → 56 ≤ at → at % 2 ≡ 0 → length l % 2 ≡ 0
+    → namedAfter named at low l ≡ (named && unitsAllowed (unitsOf l))
+unfolding namedAfter unitsAllowed unitsOf leAt fromLe
+named-units named at low [] h even whole = sym (and-true named)
+named-units named at low (a ∷ []) h even whole = absurd (omega arith)
+named-units named at low (a ∷ b ∷ l) h even whole =
+    let unit : a + 256 * b ≡ a + 256 * (b + 256 * 0) = omega arith in
+    let first : nameByte named at low a ≡ named = byte-low named at low a (λ o. omega arith) in
+    let second : nameByte (nameByte named at low a) (at + 1) a b ≡ (named && unitAllowed (a + 256 * (b + 256 * 0))) =
+    byte-high (nameByte named at low a) (at + 1) a b (omega arith) (omega arith)
+    ∙ ap₂ (λ (w : Bool) (u : ℕ). w && unitAllowed u) first unit in
+    named-units (nameByte (nameByte named at low a) (at + 1) a b) (at + 1 + 1) b l (omega arith) (omega arith) (omega arith)
+    ∙ ap (λ (w : Bool). w && unitsAllowed (unitsOf l)) second
+    ∙ and-assoc named (unitAllowed (a + 256 * (b + 256 * 0))) (unitsAllowed (unitsOf l))
+
+-- ---- what the code takes
+
+take-one : (s : List ℕ) → 0 < length s → take 1 s ≡ getD s 0 0 ∷ []
+take-one [] h = absurd (omega arith)
+take-one (b ∷ s) h = refl
+
+module _ (hd : List ℕ) (at low : ℕ) (named : Bool) (l : List ℕ) (some : 0 < length l) where
+  abbrev IsRunOf : ℕ → Bool → Type 0
+  IsRunOf n w = IsRun hd at low named l (record { length = n; named = w })
+
+  pub run-head : {n : ℕ} → at < 56 → n ≡ min (56 - at) (length l) → IsRunOf n named
+  run-head {n} h e =
+      let size : length (take n l) ≡ n = length-take-le n l (omega arith) in
+      record {
+        some = omega arith;
+        within = omega arith;
+        none-ends = λ k pos less w. not-whole _ (at + k) w (λ z. omega (arith, z .low));
+        named-is = sym (named-head named at low (take n l) (omega arith));
+      }
+
+  -- a single byte
+  run-byte : {w : Bool} → w ≡ nameByte named at low (getD l 0 0) → IsRunOf 1 w
+  unfolding namedAfter
+  run-byte e =
+      record {
+        some = omega arith;
+        within = some;
+        none-ends = λ k pos less w. absurd (omega (arith, length-take-le 1 l some));
+        named-is = e ∙ ap (namedAfter named at low) (sym (take-one l some));
+      }
+
+  pub run-high : {w : Bool} → 56 ≤ at → at % 2 ≡ 1 → w ≡ (named && unitAllowed (low + 256 * getD l 0 0)) → IsRunOf 1 w
+  run-high h o e = run-byte (e ∙ sym (byte-high named at low (getD l 0 0) h o))
+
+  pub run-low : (at % 2 ≡ 1 → ⊥) → IsRunOf 1 named
+  run-low h = run-byte (sym (byte-low named at low (getD l 0 0) h))
+
+  pub run-units : {n size : ℕ} {w : Bool} → length hd ≡ 56 → 56 ≤ at → (at % 2 ≡ 1 → ⊥) → 0 < n → n ≤ length l → n % 2 ≡ 0
+      → size ≡ entrySize hd → (size ≤ at) ⊎ (at + n ≤ size + 1) → w ≡ (named && unitsAllowed (unitsOf (take n l))) → IsRunOf n w
+  run-units {n} {size} full h o pos fits whole size-is ends e =
+      let length-is : length (take n l) ≡ n = length-take-le n l fits in
+      record {
+        some = pos;
+        within = fits;
+        none-ends = λ k low less w.
+          ap (λ (q : List ℕ). isWhole q (at + k) w) (sets-out hd at (take k (take n l)) (omega arith))
+          ∙ not-whole hd (at + k) w (λ z. past k (omega arith) (omega arith) (z .even) (size-is ∙ z .size-is) ends);
+        named-is = e ∙ sym (named-units named at low (take n l) h (omega arith) (omega arith));
+      }
+    where
+      past : (k : ℕ) → 0 < k → k < n → (at + k) % 2 ≡ 0 → size ≡ at + k → (size ≤ at) ⊎ (at + n ≤ size + 1) → ⊥
+      past k low less even is (inl z) = omega arith
+      past k low less even is (inr z) = omega arith
+
+-- ---- the bytes of a chunk, run by run
+
+pub record Kept (sc sd : Scan) (s : List ℕ) (i : ℕ) : Type 0 where
+  pub within : i ≤ length s
+  pub head-size : length (sd .head) ≡ 56
+  pub room : Room sd (length s - i)
+  pub rest : scanned sd (drop i s) ≡ scanned sc s
+
+pub kept-start : (sc : Scan) (s : List ℕ) → length (sc .head) ≡ 56 → hasRoom sc (length s) ≡ true → Kept sc sc s 0
+kept-start sc s h e =
+    let n : length s ≡ length s - 0 = omega arith in
+    record { within = omega arith; head-size = h; room = subst (Room sc) n (room sc (length s) e); rest = refl }
+
+pub kept-done : (sc sd : Scan) (s : List ℕ) (i : ℕ) → length s ≤ i → Kept sc sd s i → sd ≡ scanned sc s
+unfolding scanned
+kept-done sc sd s i h k = sym (ap (scanned sd) (drop-of-length-le s h)) ∙ k .rest
+
+-- n bytes on
+kept-on : (sc sd se : Scan) (s : List ℕ) (i n : ℕ) → i + n ≤ length s → length (se .head) ≡ 56 → Kept sc sd s i
+    → se ≡ scanned sd (take n (drop i s)) → Kept sc se s (i + n)
+kept-on sc sd se s i n fits full k e =
+    let l : List ℕ = take n (drop i s) in
+    let size : length l ≡ n = length-take-le n (drop i s) (omega (arith, length-drop i s)) in
+    let left : length s - i ≡ length l + (length s - (i + n)) = omega arith in
+    record {
+      within = fits;
+      head-size = full;
+      room = subst (λ (x : Scan). Room x (length s - (i + n))) (sym e) (room-run sd l (length s - (i + n)) (subst (Room sd) left (k .room)));
+      rest = ap₂ scanned e (sym (drop-drop n i s)) ∙ sym (scan-join sd n (drop i s)) ∙ k .rest;
+    }
+
+last-at : (d : ℕ) (l : List ℕ) → 0 < length l → getD l (length l - 1) 0 ≡ lastOr d l
+last-at d [] h = absurd (omega arith)
+last-at d (a ∷ []) h = refl
+last-at d (a ∷ b ∷ l) h =
+    let n : length (a ∷ b ∷ l) - 1 ≡ suc (length (b ∷ l) - 1) = omega arith in
+    ap (λ (k : ℕ). getD (a ∷ b ∷ l) k 0) n ∙ last-at a (b ∷ l) (omega arith)
+
+-- a run at the front of what remains
+module _ (sc : Scan) (s : List ℕ) (i : ℕ) {hd : List ℕ} {at low : ℕ} {named : Bool} {t : Totals} {h : Md5}
+    (k : Kept sc (scanWith hd at low named t h) s i) {r : Run} (run : IsRun hd at low named (take (length s - i) (drop i s)) r) where
+  abbrev taken : List ℕ
+  taken = take (r .length) (take (length s - i) (drop i s))
+
+  pub run-fits : i + r .length ≤ length s
+  run-fits = omega (arith, k .within, run .within, ap length (part-to-end s i), length-drop i s)
+
+  pub run-length : length (take (r .length) (take (length s - i) (drop i s))) ≡ r .length
+  run-length = length-take-le (r .length) (take (length s - i) (drop i s)) (run .within)
+
+  module _ {head : List ℕ} {w : Bool} (head-is : head ≡ sets hd at (take (r .length) (take (length s - i) (drop i s))))
+      (test : w ≡ isWhole head (at + r .length) (r .named)) where
+    abbrev ended : Bool → Scan
+    ended x = cond x (entryEnded head t h) (scanWith head (at + r .length) (lastOr low taken) (r .named) t h)
+
+    run-is : scanned (scanWith hd at low named t h) taken ≡ ended w
+    run-is =
+        let last : ℕ = lastOr low taken in
+        scan-run t h hd at low named taken (omega (arith, run-length, run .some)) (run .none-ends)
+        ∙ ap₂ (λ (q : List ℕ) (n : ℕ). stepTo q (at + n) last (namedAfter named at low taken) t h) (sym head-is) run-length
+        ∙ ap (λ (m : Bool). stepTo head (at + r .length) last m t h) (sym (run .named-is)) ∙ ap ended (sym test)
+
+    kept-run : {x : Bool} {se : Scan} → w ≡ x → se .head ≡ head → se ≡ ended x → Kept sc se s (i + r .length)
+    kept-run {x} {se} tested same e =
+        kept-on sc (scanWith hd at low named t h) se s i (r .length) run-fits
+        (ap length (same ∙ head-is) ∙ length-sets hd at taken ∙ k .head-size) k
+        (e ∙ ap ended (sym tested) ∙ sym run-is
+        ∙ ap (λ (q : List ℕ). scanned (scanWith hd at low named t h) (take (r .length) q)) (part-to-end s i))
+
+    pub run-ends : {u : Totals} {g : Md5} → w ≡ true → u ≡ addEntry t (statusOf head) (fileSizeOf head)
+        → g ≡ hashEntry h (statusOf head) (md5Of head) → Kept sc (scanWith head 0 0 true u g) s (i + r .length)
+    unfolding entryEnded
+    run-ends ends totals-is hash-is = kept-run ends refl (ap₂ (λ (u : Totals) (g : Md5). scanWith head 0 0 true u g) totals-is hash-is)
+
+    pub run-goes-on : w ≡ false
+        → Kept sc (scanWith head (at + r .length) (getD (take (r .length) (take (length s - i) (drop i s))) (r .length - 1) 0) (r .named) t h) s
+        (i + r .length)
+    run-goes-on goes-on =
+        let last : getD taken (r .length - 1) 0 ≡ lastOr low taken =
+        ap (λ (n : ℕ). getD taken (n - 1) 0) (sym run-length) ∙ last-at low taken (omega (arith, run-length, run .some)) in
+        kept-run goes-on refl (ap (λ (b : ℕ). scanWith head (at + r .length) b (r .named) t h) last)
