@@ -1,0 +1,2 @@
+pub mod Chunks
+mod PushLaws
