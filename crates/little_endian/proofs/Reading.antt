@@ -3,6 +3,7 @@
 --   leAt-zero, leAt-suc, leAt-byte   a number byte by byte
 --   leAt-add       a number of j + k bytes is that of its j low bytes, plus 256 ^ j times that of the next k
 --   leAt-out       past the end it is 0
+--   leAt-below     it is below 256 ^ k
 --   leAt-same      lists with the same bytes there have the same number there
 --   leAt-drop, leAt-append   a number of a part, and of the first of two lists in a row
 --   to-leAt        the bytes of the number there are the bytes there
@@ -46,6 +47,10 @@ leAt-same (suc k) s t i h =
 pub leAt-out : (k : ℕ) (s : List ℕ) (i : ℕ) → length s ≤ i → leAt k s i ≡ 0
 unfolding leAt fromLe
 leAt-out k s i h = simp (drop-of-length-le s h, take-nil)
+
+pub leAt-below : (k : ℕ) (s : List ℕ) (i : ℕ) → Bytes s → leAt k s i < 256 ^ k
+leAt-below zero s i h = rw (leAt-zero, pow-zero) (omega arith)
+leAt-below (suc k) s i h = rw (leAt-suc k s i, pow-succ') (omega (arith, h i, leAt-below k s (suc i) h))
 
 -- ---- of a part, and of two lists in a row
 

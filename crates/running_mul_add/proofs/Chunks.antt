@@ -1,5 +1,8 @@
 -- A running mul_add over lists of chunks and of calls.
 --
+--   positionOf n        the position after n bytes
+--   goes-on             a push after the bytes m
+--   one, all-lendable, length-ones     pushes of one byte each
 --   mul-add-chunked     every call answers what the bytes pushed since the start tell
 --   mul-add-20          20 exactly where no start and pushes give the job
 --   one-buffer          pushes into one buffer
@@ -27,8 +30,7 @@ use Rattle.running_mul_add.proofs.PushLaws.{at-past, at-next, push-over
 
 -- ---- what a job stands for
 
--- the position after so many bytes
-abbrev positionOf : ℕ → ℕ
+abbrev pub positionOf : ℕ → ℕ
 positionOf n = min n (2 ^ 64 - 1)
 
 abbrev Goes : ℕ → List ℕ → RunningMulAdd → Type 0
@@ -43,14 +45,23 @@ at-stop w n fragment buffer h =
     at-min (λ p. mulAddAt w p fragment buffer) n (2 ^ 64 - 1)
     (λ past. at-past w (2 ^ 64 - 1) fragment buffer (omega arith) ∙ sym (at-past w n fragment buffer (omega arith)))
 
--- a push after the bytes m
-goes-on : (w : ℕ) (m fragment buffer : List ℕ) {s : RunningMulAdd} → length buffer < 2 ^ 63 → Goes w m s
+pub goes-on : (w : ℕ) (m fragment buffer : List ℕ) {s : RunningMulAdd} → length buffer < 2 ^ 63 → Goes w m s
     → pushOf s fragment buffer ≡ (accepted (mulAddFrom w (positionOf (length (m ++ fragment)))), mulAddAt w (length m) fragment buffer)
 goes-on w m fragment buffer h g =
     let p : ℕ = positionOf (length m) in
     let next : positionOf (length (m ++ fragment)) ≡ positionAfter p (length fragment) = omega (arith, length-append m fragment) in
     ap (λ (s : RunningMulAdd). pushOf s fragment buffer) g
     ∙ sym (push-going (mulAddFrom w p) fragment buffer refl next (sym (at-stop w (length m) fragment buffer h)))
+
+-- a job that is over stays so
+push-refused : (s : RunningMulAdd) (p : Push) → Over s → mulAddSteps .pushes s p ≡ ((20, p .buffer), s)
+push-refused s p o = ap (λ (r : Outcome × List ℕ). ((r .0 .number, r .1), r .0 .next)) (push-over s (p .fragment) (p .buffer) o)
+
+end-refused : (s : RunningMulAdd) (e : Unit {0}) → Over s → mulAddSteps .ends s e ≡ ((20, []), s)
+end-refused s e o = ap (λ (r : Outcome). ((r .number, []), r .next)) (end-over s o)
+
+over-still : (s : RunningMulAdd) → Over s → {r : (ℕ × List ℕ) × RunningMulAdd} {n : ℕ × List ℕ} → r ≡ (n, s) → (r .0 ≡ n) × Over (r .1)
+over-still s o e = (ap (λ (r : (ℕ × List ℕ) × RunningMulAdd). r .0) e, ap (λ (r : (ℕ × List ℕ) × RunningMulAdd). r .1 .ended) e ∙ o)
 
 follows : Follows mulAddSteps mulAddWhole Goes Over
 follows =
@@ -62,21 +73,11 @@ follows =
       ended = λ w m s e g.
           let r = ap endOf g ∙ end-going (mulAddFrom w (positionOf (length m))) refl in
           (ap (λ (o : Outcome). (o .number, [])) r, ap (λ (o : Outcome). o .next .ended) r);
-      pushed-over = λ s p o.
-          let e = push-over s (p .fragment) (p .buffer) o in
-          (ap (λ (r : Outcome × List ℕ). (r .0 .number, r .1)) e, ap (λ (r : Outcome × List ℕ). r .0 .next .ended) e ∙ o);
-      ended-over = λ s e o.
-          let r = end-over s o in
-          (ap (λ (o : Outcome). (o .number, [])) r, ap (λ (o : Outcome). o .next .ended) r ∙ o);
+      pushed-over = λ s p o. over-still s o (push-refused s p o);
+      ended-over = λ s e o. over-still s o (end-refused s e o);
     }
 
 -- ---- 20, and nothing else, changes nothing
-
-push-refused : (s : RunningMulAdd) (p : Push) → Over s → mulAddSteps .pushes s p ≡ ((20, p .buffer), s)
-push-refused s p o = ap (λ (r : Outcome × List ℕ). ((r .0 .number, r .1), r .0 .next)) (push-over s (p .fragment) (p .buffer) o)
-
-end-refused : (s : RunningMulAdd) (e : Unit {0}) → Over s → mulAddSteps .ends s e ≡ ((20, []), s)
-end-refused s e o = ap (λ (r : Outcome). ((r .number, []), r .next)) (end-over s o)
 
 push-taken : (s : RunningMulAdd) (p : Push) → s .ended ≡ false → mulAddSteps .pushes s p .0 ≡ (20, p .buffer) → ⊥
 push-taken s p going e =
@@ -104,8 +105,7 @@ mul-add-chunked = chunked mulAddSteps mulAddWhole Goes Over follows (λ s p. by-
 
 -- ---- the jobs that pushes give
 
--- a push of one byte
-one : Push
+abbrev pub one : Push
 one = record { fragment = 0 ∷ []; buffer = []; lent = omega arith }
 
 one-lendable : Lendable (0 ∷ [])
@@ -115,13 +115,12 @@ one-lendable = (byte, omega arith)
     byte zero = omega arith
     byte (suc i) = omega arith
 
-all-lendable : (n : ℕ) → All (λ (p : Push). Lendable (p .fragment)) (replicate n one)
-unfolding one
+pub all-lendable : (n : ℕ) → All (λ (p : Push). Lendable (p .fragment)) (replicate n one)
 all-lendable zero = all-none
 all-lendable (suc n) = all-more one-lendable (all-lendable n)
 
-length-ones : (n : ℕ) → length (flatten (map (mulAddWhole .chunk) (replicate n one))) ≡ n
-unfolding flatten one
+pub length-ones : (n : ℕ) → length (flatten (map (mulAddWhole .chunk) (replicate n one))) ≡ n
+unfolding flatten
 length-ones zero = refl
 length-ones (suc n) = ap suc (length-ones n)
 

@@ -1,2 +1,2 @@
 pub mod Chunks
-mod PushLaws
+pub mod PushLaws

@@ -1,0 +1,2 @@
+pub mod MulAddChunks
+pub mod MulAddLaws

@@ -1,0 +1,6 @@
+// Jobs in lent bytes (document 02, 2026-03): the caller keeps the bytes from one call to the next.
+mod mul_adds;
+
+pub use mul_adds::loaded_mul_add;
+pub use mul_adds::start_mul_add;
+pub use mul_adds::store_mul_add;
