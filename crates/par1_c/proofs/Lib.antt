@@ -2,5 +2,6 @@ pub mod AnswerLaws
 mod CallLaws
 mod Determined
 mod HashWalks
+mod MulAddCalls
 pub mod OnBytes
 pub mod OtherBytes

@@ -17,6 +17,7 @@ ghost use Rattle.par1_c.specs.Answers.{answerOf, answered};
 
 mod hash;
 mod inventories;
+mod mul_adds;
 
 use answer_bytes::put_answer;
 use answer_bytes::put_entry;
