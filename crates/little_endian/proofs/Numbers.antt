@@ -2,6 +2,8 @@
 --
 --   bytes-take,
 --   bytes-drop    parts of bytes are bytes
+--   bytes-append  bytes and bytes after them are bytes
+--   bytes-toLe    and so are those of a number
 --   length-toLe   the k lowest bytes are k
 --   to-add        j + k bytes are the j lowest bytes, then the next k
 --   to-mod        only the number modulo 256 ^ k counts
@@ -29,6 +31,11 @@ bytes-take (suc n) (b ∷ s) h (suc i) = bytes-take n s (λ p. h (suc p)) i
 pub bytes-drop : (n : ℕ) (s : List ℕ) → Bytes s → Bytes (drop n s)
 bytes-drop n s h i = rw getD-drop (h (n + i))
 
+pub bytes-append : (s t : List ℕ) → Bytes s → Bytes t → Bytes (s ++ t)
+bytes-append [] t h k i = k i
+bytes-append (b ∷ s) t h k zero = h 0
+bytes-append (b ∷ s) t h k (suc i) = bytes-append s t (λ p. h (suc p)) k i
+
 -- ---- 256 ^ k
 
 pow-pos : (k : ℕ) → zero < 256 ^ k
@@ -44,6 +51,12 @@ pub length-toLe : (k n : ℕ) → length (toLe k n) ≡ k
 unfolding toLe
 length-toLe zero n = refl
 length-toLe (suc k) n = ap suc (length-toLe k (n / 256))
+
+pub bytes-toLe : (k n : ℕ) → Bytes (toLe k n)
+unfolding toLe
+bytes-toLe zero n i = zero-lt-suc 255
+bytes-toLe (suc k) n zero = omega arith
+bytes-toLe (suc k) n (suc i) = bytes-toLe k (n / 256) i
 
 pub to-add : (j k n : ℕ) → toLe (j + k) n ≡ toLe j n ++ toLe k (n / 256 ^ j)
 unfolding toLe
