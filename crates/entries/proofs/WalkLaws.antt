@@ -8,6 +8,7 @@
 --   walk-more, walk-end, walk-fault    a step of the walk, by what is at the front
 --   walk-totals, walk-count, walk-saved    what a walk to the end tells
 --   entries-most   an entry has 58 bytes or more
+--   fault-range    the numbers of the faults
 --   WalkRefused, walk-refused     what a walk to a fault tells
 --   Added t u      u is t with one entry more, and at most one saved entry more
 --   add-added      an entry more is one entry more, and one saved entry more at most
@@ -159,7 +160,7 @@ entries-most =
     cut-induct lengthOf (λ s c. length (c .pieces) * 58 ≤ length s) (omega arith) (λ s e. omega arith)
     (λ s h k e. let z = length-sized s k in omega (arith, z .1, z .2, length-drop (lengthOf s) s))
 
-fault-range : (f : Fault) → (16 ≤ faultNumber f) × (faultNumber f ≤ 18)
+pub fault-range : (f : Fault) → (16 ≤ faultNumber f) × (faultNumber f ≤ 18)
 fault-range Size = (omega arith, omega arith)
 fault-range FileSize = (omega arith, omega arith)
 fault-range Name = (omega arith, omega arith)

@@ -8,7 +8,7 @@ ghost use Rattle.entries.specs.Walk.{faultNumber, refusalAt, firstOf, ad
 use refusals::Refusal;
 
 // The shortest entry: 56 bytes of fields, and a name of one unit.
-const MIN_ENTRY_SIZE: u64 = 58;
+pub const MIN_ENTRY_SIZE: u64 = 58;
 
 // Where the fields of an entry lie; its own size is at 0, and the name goes to its end.
 pub const STATUS_AT: usize = 8;

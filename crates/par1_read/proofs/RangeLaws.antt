@@ -1,7 +1,8 @@
 -- Which refusals reading gives.
 --
 --   header-most        tests 1 to 4
---   refusal-within     all tests: a number of at most 19, and the place of an entry of 58 bytes or more in the file
+--   from-within        all tests: a number of at most 19, and the place that the walk found
+--   refusal-within     the same of a file: the place of an entry of 58 bytes or more in it
 -- Assumes nothing.
 use mathlib.Core.Path.{_≡_, refl}
 use mathlib.Core.Bool.{Bool}
@@ -11,6 +12,7 @@ use native.Mathlib.Omega.{arith}
 use lib.Dec.{eqb}
 use lib.ListN.{length, drop, length-take, length-drop}
 use Rattle.refusals.specs.Tests.{test}
+use Rattle.refusals.specs.declared.Refusal.{Refusal}
 use Rattle.refusals.proofs.RangeLaws.{Within, test-most, bare-within, or-within}
 use Rattle.lent_bytes.specs.Equal.{equal}
 use Rattle.entries.specs.Walk.{walkOf}
@@ -39,23 +41,26 @@ control-most : (head digest : List ℕ) → controlRefusal head digest ≤ 19
 unfolding controlRefusal
 control-most head digest = test-most 5 (equal (controlHashOf head) digest) 0 (omega arith) (omega arith)
 
--- a list within n bytes
-list-within : (head set list : List ℕ) (n : ℕ) → length list ≤ n → (w : Walked) → walkOf list ≡ w → Within (n / 58 + 1) (listRefusal head set w)
-unfolding totalsRefusal
-list-within head set list n h (walked.Entries t) e =
-    bare-within (n / 58 + 1) (totalsRefusal head set t)
-    (four-most 19 7 8 9 (eqb (t .entries) (countOf head)) (numberAllowed (volumeNumberOf head) (t .saved)) (equal (setHashOf head) set)
-    (dataAllowed (volumeNumberOf head) (t .greatest) (dataSizeOf head)) (omega arith) (omega arith) (omega arith) (omega arith))
-list-within head set list n h (walked.Refused r) e =
-    let told = walk-refused list e in
-    record { number-most = omega (arith, told .high); place-most = omega (arith, told .place-most) }
+-- where the refusal that the walk found is within the range, so is that by all tests
+module _ (k : ℕ) (head : List ℕ) (n : ℕ) (digest set : List ℕ) where
+  list-within : (w : Walked) → ((r : Refusal) → w ≡ walked.Refused r → Within k r) → Within k (listRefusal head set w)
+  unfolding totalsRefusal
+  list-within (walked.Entries t) h =
+      bare-within k (totalsRefusal head set t)
+      (four-most 19 7 8 9 (eqb (t .entries) (countOf head)) (numberAllowed (volumeNumberOf head) (t .saved)) (equal (setHashOf head) set)
+      (dataAllowed (volumeNumberOf head) (t .greatest) (dataSizeOf head)) (omega arith) (omega arith) (omega arith) (omega arith))
+  list-within (walked.Refused r) h = h r refl
+
+  pub from-within : (w : Walked) → ((r : Refusal) → w ≡ walked.Refused r → Within k r) → Within k (refusalFrom head n digest set w)
+  unfolding refusalFrom
+  from-within w h =
+      or-within k (headerRefusal head n) _ (header-most head n) (or-within k (controlRefusal head digest) _ (control-most head digest) (list-within w h))
 
 pub refusal-within : (f : List ℕ) → Within (length f / 58 + 1) (refusalOf f)
-unfolding refusalOf refusalFrom
+unfolding refusalOf
 refusal-within f =
-    let n : ℕ = length f in
-    let set : List ℕ = setHash (entriesIn f) in
-    let short : length (listOf f) ≤ n = omega (arith, length-take (listSizeOf f) (drop 96 f), length-drop 96 f) in
-    let list = list-within f set (listOf f) n short (walkOf (listOf f)) refl in
-    or-within (n / 58 + 1) (headerRefusal f n) _ (header-most f n)
-    (or-within (n / 58 + 1) (controlRefusal f (controlHash f)) _ (control-most f (controlHash f)) list)
+    let short : length (listOf f) ≤ length f = omega (arith, length-take (listSizeOf f) (drop 96 f), length-drop 96 f) in
+    from-within (length f / 58 + 1) f (length f) (controlHash f) (setHash (entriesIn f)) (walkOf (listOf f))
+    (λ r e.
+    let told = walk-refused (listOf f) e in
+    record { number-most = omega (arith, told .high); place-most = omega (arith, told .place-most) })
