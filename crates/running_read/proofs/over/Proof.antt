@@ -1,0 +1,13 @@
+-- `running_read::over` meets its contract.
+-- Assumes nothing.
+use mathlib.Core.Path.{refl}
+use Rattle.running_read.specs.Running.{overOf}
+use Rattle.running_read.proofs.over.Statement.{statement}
+use Rattle.running_read.proofs.over.Tie as tie
+
+returns : tie.Need-returns
+unfolding overOf
+returns c = refl
+
+pub over-spec : {M : Type 1} → statement M
+over-spec = tie.close (tie.spec returns)

@@ -1,0 +1,13 @@
+-- `running_read::start` meets its contract.
+-- Assumes nothing.
+use Rattle.running_read.specs.Running.{startRead}
+use borrow.Author.Needs.{needs}
+use Rattle.running_read.proofs.start.Statement.{statement}
+use Rattle.running_read.proofs.start.Tie as tie
+
+returns : tie.Need-returns
+unfolding startRead
+returns c = cc
+
+pub start-spec : {M : Type 1} → statement M
+start-spec = tie.close (tie.spec (λ c κs. search needs) (λ c κs. search needs) returns)

@@ -1,0 +1,51 @@
+-- What is claimed of a file that is read in chunks, over the definitions that the contracts of start, push and end cite.
+--
+--   Reply          what a call on a job answers: a number, or a reading
+--   readSteps      the calls
+--   readWhole      what they are to answer
+--   ReadChunked    however a file is cut, the end gives what reading it whole gives, and no push is refused before it
+--   Read20         a push and an end are refused with 20 exactly where no start and pushes give the counts of the job
+-- Assumes nothing.
+use mathlib.Core.List.{List}
+use Prim.Native.Nat.{ℕ}
+use Rattle.jobs.specs.Job.{Steps, Whole}
+use Rattle.jobs.specs.Claim.{Chunked, Exactly20}
+use Rattle.refusals.specs.Tests.{bare}
+use Rattle.par1_read.specs.Reading.{readOf}
+use Rattle.par1_read.specs.declared.reading.Reading.{Reading}
+use Rattle.par1_read.specs.declared.reading.Reading.the-variants.{Refused}
+use Rattle.running_read.specs.declared.RunningRead.{RunningRead}
+use Rattle.running_read.specs.Running.{startRead, countsOf, pushAnswer, endAnswer}
+
+pub data Reply : Type 0 where
+  number : ℕ → Reply
+  reading : Reading → Reply
+
+-- a start and an end are given nothing, a push bytes
+abbrev pub readSteps : Steps RunningRead (Unit {0}) (List ℕ) (Unit {0}) Reply
+readSteps =
+    record {
+      starts = λ _. (number 0, startRead);
+      pushes = λ j bs. (number (pushAnswer j bs .number), pushAnswer j bs .next);
+      ends = λ j _. (reading (endAnswer j .reading), endAnswer j .next);
+    }
+
+-- "Any refusal but 20 is given at the end only"
+abbrev pub readWhole : Whole (Unit {0}) (List ℕ) (Unit {0}) Reply
+readWhole =
+    record {
+      begun = λ _. number 0;
+      chunk = λ bs. bs;
+      taken = λ _ m bs. number 0;
+      whole = λ _ m _. reading (readOf m);
+      refused-push = λ bs. number 20;
+      refused-end = λ _. reading (Refused (bare 20));
+    }
+
+-- proved: proofs/Chunks.antt, `read-chunked`
+abbrev pub ReadChunked : Type 0
+ReadChunked = Chunked readSteps readWhole
+
+-- of every job, whatever its numbers are; proved: proofs/Chunks.antt, `read-20`
+abbrev pub Read20 : Type 0
+Read20 = Exactly20 readSteps readWhole (λ j. Unit {0}) countsOf
