@@ -22,8 +22,10 @@ use Rattle.running_mul_add.specs.declared.Outcome.{Outcome}
 use Rattle.running_mul_add.proofs.Chunks.{positionOf, goes-on, one, all-lendable, length-ones, one-buffer}
 use Rattle.running_mul_add.proofs.PushLaws.{push-over, push-going, end-over, end-going}
 use Rattle.job_bytes.specs.MulAdds.{mulAddBytes, isMulAdd, overMulAdd, mulAddOf, mulAddStored, mulAddStarted, mulAddPushed, mulAddEnded}
-use Rattle.job_bytes.specs.Claim.{MulAddStart, mulAddByteSteps, mulAddByteWhole, MulAddBytesChunked, MulAddBytes20, mulAddPushedInto, MulAddBytesOneBuffer}
-use Rattle.job_bytes.proofs.MulAddLaws.{tests, loaded-going, loaded-over, loaded-back, loaded-ended, stored-back, stored-accepted, stored-refused}
+use Rattle.job_bytes.specs.Claim.{MulAddStart, mulAddByteSteps, mulAddByteWhole, MulAddBytesChunked, MulAddBytes20}
+use Rattle.job_bytes.specs.Claim.{mulAddPushedInto, MulAddBytesOneBuffer}
+use Rattle.job_bytes.proofs.MulAddLaws.{tests, loaded-going, loaded-over, loaded-back, loaded-ended}
+use Rattle.job_bytes.proofs.MulAddLaws.{stored-back, stored-accepted, stored-refused}
 
 -- ---- the calls on bytes that are a job, and on others
 
@@ -81,7 +83,7 @@ follows =
     record {
       started = λ a. let e = started-whole a in (ap (λ (r : ℕ × List ℕ). (r .0, [])) e, ap (λ (r : ℕ × List ℕ). r .1) e);
       pushed = λ a m b p g.
-          let e = pushed-going a m b (p .fragment) (p .buffer) (p .lent) g in
+          let e = pushed-going a m b (p .fragment) (p .buffer) (p .short) g in
           (ap (λ (r : ℕ × List ℕ × List ℕ). (r .0, r .2)) e, ap (λ (r : ℕ × List ℕ × List ℕ). r .1) e);
       ended = λ a m b u g.
           let e = ended-going a m b g in (
@@ -114,9 +116,11 @@ end-taken b u is e =
     omega arith
 
 pub mul-add-bytes-chunked : MulAddBytesChunked
-mul-add-bytes-chunked = chunked mulAddByteSteps mulAddByteWhole Goes Over follows (λ b p. by-push b p (isMulAdd b) refl) (λ b u. by-end b u (isMulAdd b) refl)
+mul-add-bytes-chunked =
+    chunked mulAddByteSteps mulAddByteWhole Goes Over follows (λ b p. by-push b p (isMulAdd b) refl) (λ b u. by-end b u (isMulAdd b) refl)
   where
-    by-push : (b : List ℕ) (p : Push) (t : Bool) → isMulAdd b ≡ t → mulAddByteSteps .pushes b p .0 ≡ (20, p .buffer) → mulAddByteSteps .pushes b p .1 ≡ b
+    by-push : (b : List ℕ) (p : Push) (t : Bool) → isMulAdd b ≡ t → mulAddByteSteps .pushes b p .0 ≡ (20, p .buffer)
+        → mulAddByteSteps .pushes b p .1 ≡ b
     by-push b p true is e = absurd (push-taken b p is e)
     by-push b p false none e = ap (λ (r : ℕ × List ℕ × List ℕ). r .1) (pushed-on-others b none (p .fragment) (p .buffer))
 
@@ -163,7 +167,8 @@ same-pushes w p hw hp [] buffer = refl
 same-pushes w p hw hp (c ∷ cs) buffer =
     let back = loaded-back w p hw hp in
     let pushed = push-going (mulAddFrom w p) c buffer refl refl refl in
-    ap (λ (r : ℕ × List ℕ × List ℕ). mulAddPushedInto (r .1) cs (r .2)) (pushed-on-job (mulAddBytes (mulAddFrom w p)) (back .0) (back .1) c buffer pushed)
+    ap (λ (r : ℕ × List ℕ × List ℕ). mulAddPushedInto (r .1) cs (r .2))
+    (pushed-on-job (mulAddBytes (mulAddFrom w p)) (back .0) (back .1) c buffer pushed)
     ∙ same-pushes w (positionAfter p (length c)) hw (omega arith) cs (mulAddAt w p c buffer)
     ∙ ap (λ (r : Outcome × List ℕ). pushedInto (r .0 .next) cs (r .1)) pushed
 

@@ -6,6 +6,7 @@
 --   never                           a refusal is no acceptance
 --   Accepted, unless-tells          what it tells where it is accepted
 --   refused-as, numbered-as         as a refusal, and as a number
+--   numbered-none                   as a number, where the tests hold nowhere
 --   written-refusal                 where there are no tests, the number says it all
 --   unless-within                   which refusals it gives
 -- Assumes nothing.
@@ -85,6 +86,12 @@ module _ {w : Writing} {t : List ℕ} {r : Writing × List ℕ} {k : Refusal} (e
 
   pub numbered-as : (k .number, t) ≡ withNumber r
   numbered-as = ap (λ (p : Refusal × List ℕ). (p .0 .number, p .1)) refused-as
+
+-- the bytes l, which s names, are written where the number n of the tests is 0
+pub numbered-none : (s out : List ℕ) (n : ℕ) {l : List ℕ} {r : ℕ × List ℕ} → n ≡ 0 → r ≡ withNumber (written l out) → l ≡ s
+    → r ≡ withNumber (writtenUnless (bare n) s out)
+numbered-none s out n z e same =
+    e ∙ ap (λ (l : List ℕ). withNumber (written l out)) same ∙ ap withNumber (unless-none s out {n = bare n} refl z refl)
 
 pub written-refusal : (s out : List ℕ) {n : ℕ} {t : List ℕ} → (n, t) ≡ withNumber (written s out) → (bare n, t) ≡ withRefusal (written s out)
 unfolding written

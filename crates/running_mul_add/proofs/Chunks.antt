@@ -68,7 +68,7 @@ follows =
     record {
       started = λ w. (refl, refl);
       pushed = λ w m s p g.
-          let e = goes-on w m (p .fragment) (p .buffer) (p .lent) g in
+          let e = goes-on w m (p .fragment) (p .buffer) (p .short) g in
           (ap (λ (r : Outcome × List ℕ). (r .0 .number, r .1)) e, ap (λ (r : Outcome × List ℕ). r .0 .next) e);
       ended = λ w m s e g.
           let r = ap endOf g ∙ end-going (mulAddFrom w (positionOf (length m))) refl in
@@ -95,7 +95,8 @@ end-taken s u going e =
 pub mul-add-chunked : MulAddChunked
 mul-add-chunked = chunked mulAddSteps mulAddWhole Goes Over follows (λ s p. by-push s p (s .ended) refl) (λ s e. by-end s e (s .ended) refl)
   where
-    by-push : (s : RunningMulAdd) (p : Push) (b : Bool) → s .ended ≡ b → mulAddSteps .pushes s p .0 ≡ (20, p .buffer) → mulAddSteps .pushes s p .1 ≡ s
+    by-push : (s : RunningMulAdd) (p : Push) (b : Bool) → s .ended ≡ b → mulAddSteps .pushes s p .0 ≡ (20, p .buffer)
+        → mulAddSteps .pushes s p .1 ≡ s
     by-push s p true o e = ap (λ (r : (ℕ × List ℕ) × RunningMulAdd). r .1) (push-refused s p o)
     by-push s p false o e = absurd (push-taken s p o e)
 
@@ -106,7 +107,7 @@ mul-add-chunked = chunked mulAddSteps mulAddWhole Goes Over follows (λ s p. by-
 -- ---- the jobs that pushes give
 
 abbrev pub one : Push
-one = record { fragment = 0 ∷ []; buffer = []; lent = omega arith }
+one = record { fragment = 0 ∷ []; buffer = []; short = omega arith }
 
 one-lendable : Lendable (0 ∷ [])
 one-lendable = (byte, omega arith)
@@ -154,17 +155,18 @@ mul-add-20 =
 
 -- ---- one buffer
 
-pushed-into : (w : ℕ) (m : List ℕ) (s : RunningMulAdd) (cs : List (List ℕ)) (buffer now : List ℕ) → length now < 2 ^ 63 → Goes w m s → now ≡ mulAdd w m buffer
-    → pushedInto s cs now ≡ mulAdd w (m ++ flatten cs) buffer
-unfolding flatten
-pushed-into w m s [] buffer now h g e = e ∙ ap (λ (l : List ℕ). mulAdd w l buffer) (sym (append-nil m))
-pushed-into w m s (c ∷ cs) buffer now h g e =
-    let r = goes-on w m c now h g in
-    let next = ap (λ (r : Outcome × List ℕ). r .1) r ∙ ap (mulAddAt w (length m) c) e ∙ at-next w m c buffer in
-    pushed-into w (m ++ c) (pushOf s c now .0 .next) cs buffer (pushOf s c now .1) (omega (arith, ap length next, ap length e, length-mulAdd w m buffer, length-mulAdd w (m ++ c) buffer))
-    (ap (λ (r : Outcome × List ℕ). r .0 .next) r) next
-    ∙ ap (λ (l : List ℕ). mulAdd w l buffer) (append-assoc m c (flatten cs))
+module _ (w : ℕ) (buffer : List ℕ) (h : length buffer < 2 ^ 63) where
+  -- the bytes m are in the buffer, the fragments cs come
+  pushed-into : (m : List ℕ) (s : RunningMulAdd) (cs : List (List ℕ)) (now : List ℕ) → Goes w m s → now ≡ mulAdd w m buffer
+      → pushedInto s cs now ≡ mulAdd w (m ++ flatten cs) buffer
+  unfolding flatten
+  pushed-into m s [] now g e = e ∙ ap (λ (l : List ℕ). mulAdd w l buffer) (sym (append-nil m))
+  pushed-into m s (c ∷ cs) now g e =
+      let r = goes-on w m c now (omega (arith, ap length e, length-mulAdd w m buffer)) g in
+      let next = ap (λ (r : Outcome × List ℕ). r .1) r ∙ ap (mulAddAt w (length m) c) e ∙ at-next w m c buffer in
+      pushed-into (m ++ c) (pushOf s c now .0 .next) cs (pushOf s c now .1) (ap (λ (r : Outcome × List ℕ). r .0 .next) r) next
+      ∙ ap (λ (l : List ℕ). mulAdd w l buffer) (append-assoc m c (flatten cs))
 
 pub one-buffer : OneBuffer
 unfolding mulAdd
-one-buffer w cs buffer h = pushed-into w [] (startMulAdd w) cs buffer buffer h refl refl
+one-buffer w cs buffer h = pushed-into w buffer h [] (startMulAdd w) cs buffer refl refl

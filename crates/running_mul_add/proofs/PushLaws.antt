@@ -38,7 +38,8 @@ module _ (w p : ℕ) (fragment buffer : List ℕ) where
       → take p buffer ++ (last ++ drop (length buffer - p) (drop p buffer)) ≡ mulAddAt w p fragment buffer
   unfolding mulAddAt
   at-part {last} e =
-      let none : drop (length buffer - p) (drop p buffer) ≡ [] = drop-of-length-le (drop p buffer) {i = length buffer - p} (omega (arith, length-drop p buffer)) in
+      let k : ℕ = length buffer - p in
+      let none : drop k (drop p buffer) ≡ [] = drop-of-length-le (drop p buffer) {i = k} (omega (arith, length-drop p buffer)) in
       ap (λ (l : List ℕ). take p buffer ++ l)
       (ap (λ (l : List ℕ). last ++ l) none ∙ append-nil last ∙ e ∙ ap (mulAdd w fragment) (part-to-end buffer p))
 

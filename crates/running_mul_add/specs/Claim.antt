@@ -23,7 +23,7 @@ use Rattle.running_mul_add.specs.declared.RunningMulAdd.{RunningMulAdd}
 pub record Push : Type 0 where
   pub fragment : List ℕ
   pub buffer : List ℕ
-  pub lent : length buffer < 2 ^ 63
+  pub short : length buffer < 2 ^ 63
 
 -- a start and an end are lent nothing
 abbrev pub mulAddSteps : Steps RunningMulAdd ℕ Push (Unit {0}) (ℕ × List ℕ)

@@ -17,7 +17,8 @@ returns-2 : tie.Need-returns-2
 returns-2 c =
     let added = c .before .before .before in
     let a = added .before .before .before .before .before .args in
-    push-going (a .job) (now (a .fragment)) (now (a .buffer)) (added .before .before .if1 .left) (c .position-after .ensures) (added .mul-add-at .ensures)
+    push-going (a .job) (now (a .fragment)) (now (a .buffer)) (added .before .before .if1 .left) (c .position-after .ensures)
+    (added .mul-add-at .ensures)
 
 pub push-spec : {M : Type 1} → statement M
 push-spec =

@@ -29,7 +29,7 @@ returns-4 c =
     let weight = tested .before .before .read64 .ensures in
     let small = subst (λ (w : ℕ). w ≤ 255) weight (tested .before .if2 .left) in
     let none = sym (tested .read642 .ensures) ∙ c .before .if3 .left in
-    ap₂ (λ (w p : ℕ). mulAddFrom w p) weight (c .read643 .ensures) ∙ sym (loaded-going b (is-mul-add b (tested .before .before .before .if1 .left) small none))
+    ap₂ mulAddFrom weight (c .read643 .ensures) ∙ sym (loaded-going b (is-mul-add b (tested .before .before .before .if1 .left) small none))
 
 pub loaded-mul-add-spec : {M : Type 1} → statement M
 loaded-mul-add-spec =
