@@ -5,9 +5,9 @@
  * calls, so calls on different bytes may run at the same time.
  *
  * Each call that can refuse answers 0 where it is accepted, else the number of its refusal; a par1_answer tells more beside it. A refused call
- * changes no byte. A call reads and writes only the bytes it is lent, each a pointer and a length; bytes of `out` past those written stay as
- * they were. The pointer is not NULL, also where the length is 0: lend the address of any byte. Bytes that a call writes must not overlap
- * others that it is lent. Numbers in lent bytes are 64 bits wide, lowest byte first.
+ * changes no byte, but that the end of a job ends it (see Jobs). A call reads and writes only the bytes it is lent, each a pointer and a length;
+ * bytes of `out` past those written stay as they were. The pointer is not NULL, also where the length is 0: lend the address of any byte. Bytes
+ * that a call writes must not overlap others that it is lent. Numbers in lent bytes are 64 bits wide, lowest byte first.
  *
  * Stack: par1_query takes 66 KiB; par1_md5, par1_read, par1_write_entry, par1_write_volume, par1_check and par1_open less than 3 KiB; the
  * others less than 1 KiB (measured, docs/BENCHMARKS.md).
@@ -42,7 +42,8 @@ enum {
     PAR1_ENTRY_SIZE = 16,   /* an entry's own size is odd, below 58 or past the end, or fewer than 8 bytes are left for it */
     PAR1_FILE_SIZE = 17,    /* an entry's file size is above its limit; or the contents or the status of an entry to be written */
     PAR1_NAME = 18,         /* a unit of an entry's name is not allowed; or the name of an entry to be written is empty or odd */
-    PAR1_ENTRY_COUNT = 19   /* the number of entries differs */
+    PAR1_ENTRY_COUNT = 19,  /* the number of entries differs */
+    PAR1_JOB = 20           /* the job is over, or no run of pushes gives it */
 };
 
 /* An answer that has more to say than a number: the number, and a value that goes with it. The value of a refusal 16 to 18 is the place of
@@ -62,6 +63,9 @@ enum {
     PAR1_WEIGHTS = 255,
     PAR1_WEIGHTS_BYTES = PAR1_WEIGHTS
 };
+
+/* How many bytes the jobs take that are lent as bytes. */
+enum { PAR1_MUL_ADD_BYTES = 24, PAR1_READ_BYTES = 392 };
 
 /* Limits: the size of a listed file, the length of an index file or volume, the number of saved files. */
 enum { PAR1_MAX_FILE_SIZE = 16777216, PAR1_MAX_VOLUME_LENGTH = 33554432, PAR1_MAX_FILES = 254 };
@@ -127,6 +131,64 @@ par1_answer par1_write_volume(uint32_t program, uint64_t number, const uint8_t *
 /* Whether `contents` are those of the file that `entry` describes. Refuses with 16, 17 or 18, the first that holds, where the entry
  * breaks a rule (16 also where it does not fill its bytes), then with 15 where length, MD5 or 16k MD5 differ. */
 uint32_t par1_check(const uint8_t *entry, size_t entry_len, const uint8_t *contents, size_t contents_len);
+
+/* Jobs: hashing, mul_add and reading of what is too long to hold. A job is started, pushed to any number of times, with chunks of any length, 0
+ * too, and ended; however the input is cut, the end gives what par1_md5, par1_mul_add or par1_read gives for the whole of it. The caller owns
+ * the job: it may be copied or moved between calls, and started again at any time, running or over.
+ *
+ * A push or an end refuses with 20, first of all, a job that is over, that has another length, or whose counts no run of pushes gives; then
+ * nothing changes. Any other refusal comes at the end only, so a push answers 0 or 20. An end that is not refused with 20 ends the job, also
+ * where it is refused with another number. */
+
+/* A running hash, 96 bytes. `words` are MD5's A, B, C, D after the whole blocks so far; `tail` has the total % 64 bytes that wait for the
+ * rest of their block, then zeros; `total` counts the bytes pushed, modulo 2^64 as MD5 does, so no total is refused; `ended` is 0 while the
+ * hash runs, and any other number where it is over. */
+struct par1_hash {
+    uint32_t words[4];
+    uint8_t tail[64];
+    uint64_t total;
+    uint64_t ended;
+};
+
+/* Starts a hash: whatever `hash` was, it is the hash of no bytes. Refuses nothing. */
+void par1_hash_start(struct par1_hash *hash);
+
+/* Takes the next bytes. Refuses with 20. */
+uint32_t par1_hash_push(struct par1_hash *hash, const uint8_t *bytes, size_t bytes_len);
+
+/* The MD5 of all bytes pushed into the first 16 bytes of `out`; the hash is over. Refuses with 20, then with 14 where `out` is shorter; that
+ * ends the hash too. */
+uint32_t par1_hash_end(struct par1_hash *hash, uint8_t *out, size_t out_len);
+
+/* A mul_add in chunks is 24 bytes, three numbers: the weight; the position, which is the number of bytes pushed and stops at 2^64 - 1; 0
+ * while it runs, any other number where it is over. Of its counts a weight above 255 is one that no run of pushes gives. */
+
+/* Starts a mul_add with this weight at position 0, in the first 24 bytes of `job`. Refuses with 14 where `job` is shorter. */
+uint32_t par1_mul_add_start(uint8_t weight, uint8_t *job, size_t job_len);
+
+/* Adds weight times the fragment to the buffer from the position on, byte by byte, for as many bytes as the buffer has there; the position goes
+ * on by the whole fragment, past the buffer's end too. Each push may lend another buffer. Refuses with 20. */
+uint32_t par1_mul_add_push(uint8_t *job, size_t job_len, const uint8_t *fragment, size_t fragment_len, uint8_t *buffer, size_t buffer_len);
+
+/* Ends a mul_add. Refuses with 20. */
+uint32_t par1_mul_add_end(uint8_t *job, size_t job_len);
+
+/* A reading in chunks is 392 bytes: how many bytes came, a number that stops at 33,554,433; the first 96 of them; the running hash of those
+ * from 32 on; of the entry at hand the first 56 bytes, then as numbers how many came, the last of them, and 1 where its name's units are
+ * allowed so far; as numbers the entries before it, those saved, the greatest size; the running hash of the saved entries' MD5s; a number, 0
+ * while it runs, any other where it is over. A running hash is `words`, `tail` and `total` as above. No run of pushes gives more than
+ * 33,554,433 bytes, hashes of another number of bytes than these counts say, more saved entries than entries, or more bytes of entries, 58
+ * for each whole one, than came after the first 96. */
+
+/* Starts a reading in the first 392 bytes of `job`. Refuses with 14 where `job` is shorter. */
+uint32_t par1_read_start(uint8_t *job, size_t job_len);
+
+/* Takes the next bytes of the file, any number of them; more than 33,554,432 in all are refused at the end. Refuses with 20. */
+uint32_t par1_read_push(uint8_t *job, size_t job_len, const uint8_t *bytes, size_t bytes_len);
+
+/* What the file holds whose bytes were pushed, into the first 56 bytes of `out`, as par1_read has it; the reading is over. Refuses with 20,
+ * then as par1_read, 14 last; that ends the reading too. */
+par1_answer par1_read_end(uint8_t *job, size_t job_len, uint8_t *out, size_t out_len);
 
 /* An inventory says what of a set of n files and their volumes is present. It is 104 bytes, 13 numbers: n; the files present, the volumes
  * present, the files of size 1 or more, four words each, number k being bit k mod 64 of word k div 64. Every call on one refuses with 10,
