@@ -27,7 +27,7 @@ const GUARD: usize = 32;
 static CAME_BACK: [AtomicU64; 32] = [const { AtomicU64::new(0) }; 32];
 
 /// Counts the number of an answer, which has a value beside it where it is of 64 bits.
-fn counted<A: Copy + Into<u64>>(answer: A) -> A {
+pub fn counted<A: Copy + Into<u64>>(answer: A) -> A {
     CAME_BACK[(answer.into() % 32) as usize].fetch_add(1, Ordering::Relaxed);
     answer
 }
@@ -38,7 +38,7 @@ pub fn came_back() -> Vec<u64> {
 }
 
 /// Lends a copy of `room` with guard bytes around it: the call's answer, and the room after it. A guard that changed ends the run.
-fn lent<A: Copy + Into<u64>>(room: &[u8], call: impl FnOnce(*mut u8, usize) -> A) -> (A, Vec<u8>) {
+pub fn guarded<A>(room: &[u8], call: impl FnOnce(*mut u8, usize) -> A) -> (A, Vec<u8>) {
     let mut space = vec![0xa5; GUARD];
     space.extend_from_slice(room);
     space.extend(vec![0x5a; GUARD]);
@@ -46,7 +46,13 @@ fn lent<A: Copy + Into<u64>>(room: &[u8], call: impl FnOnce(*mut u8, usize) -> A
     let end = GUARD + room.len();
     assert!(space[..GUARD].iter().all(|&b| b == 0xa5), "a byte before the room was written");
     assert!(space[end..].iter().all(|&b| b == 0x5a), "a byte past the room was written");
-    (counted(answer), space[GUARD..end].to_vec())
+    (answer, space[GUARD..end].to_vec())
+}
+
+/// The same, and the answer's number is counted.
+pub fn lent<A: Copy + Into<u64>>(room: &[u8], call: impl FnOnce(*mut u8, usize) -> A) -> (A, Vec<u8>) {
+    let (answer, after) = guarded(room, call);
+    (counted(answer), after)
 }
 
 pub fn md5(bytes: &[u8], room: &[u8]) -> (u32, Vec<u8>) {

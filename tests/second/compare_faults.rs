@@ -6,17 +6,17 @@ use crate::compare_par1::{rehashed, unhashed};
 use crate::{calls, expected, par1, small, Counts, Random};
 
 /// The length of the entries below.
-const LENGTH: usize = 60;
+pub const LENGTH: usize = 60;
 
 /// A list of entries that keep the rules.
-fn good(entries: usize) -> Vec<u8> {
+pub fn good(entries: usize) -> Vec<u8> {
     par1::write_entry(b"12345", 1, b"A\0B\0").unwrap().repeat(entries)
 }
 
 /// What is wrong, its number, and how it is made in a part of a list, at the entry that the part begins with.
-type Fault = (&'static str, u32, fn(&mut [u8]));
+pub type Fault = (&'static str, u32, fn(&mut [u8]));
 
-const FAULTS: [Fault; 12] = [
+pub const FAULTS: [Fault; 12] = [
     ("entry size 0", 16, |rest| put(rest, 0, 0)),
     ("entry size 56", 16, |rest| put(rest, 0, 56)),
     ("entry size 57", 16, |rest| put(rest, 0, 57)),
@@ -31,12 +31,12 @@ const FAULTS: [Fault; 12] = [
     ("last unit 47", 18, |rest| rest[58] = 47),
 ];
 
-fn put(rest: &mut [u8], at: usize, number: u64) {
+pub fn put(rest: &mut [u8], at: usize, number: u64) {
     rest[at..at + 8].copy_from_slice(&number.to_le_bytes());
 }
 
 /// A refusal with its place, as C gets it.
-fn at(number: u32, place: usize) -> u64 {
+pub fn at(number: u32, place: usize) -> u64 {
     number as u64 + 32 * place as u64
 }
 

@@ -39,7 +39,7 @@ fn data_size(list: &[u8]) -> usize {
 }
 
 /// A file that is accepted: an index or a volume.
-fn file(random: &mut Random) -> Vec<u8> {
+pub fn file(random: &mut Random) -> Vec<u8> {
     loop {
         let list = list(random);
         let volume = random.below(4) as u64;

@@ -1,6 +1,7 @@
 //! What documents 01 and 02 say of each call: its answer, and the room after it. An answer is a number, or in 64 bits a number and a place.
 
 use crate::inventory::Inventory;
+use crate::jobs::{self, Hash};
 use crate::par1::Refusal;
 use crate::{field, md5, par1};
 
@@ -73,4 +74,27 @@ pub fn count(inventory: &[u8], room: &[u8]) -> (u32, Vec<u8>) {
 
 pub fn query(inventory: &[u8], file: u64, room: &[u8]) -> (u32, Vec<u8>) {
     written(Inventory::parse(inventory).ok_or(10).and_then(|i| i.query(file)), room)
+}
+
+/// 20 where the hash is over, and then nothing changes.
+pub fn hash_push(hash: &Hash, bytes: &[u8]) -> (u32, Hash) {
+    if hash.ended != 0 { (20, *hash) } else { (0, hash.pushed(bytes)) }
+}
+
+/// The room after 20, 14 or an accepted end.
+pub fn hash_end(hash: &Hash, room: &[u8]) -> (u32, Vec<u8>) {
+    written(if hash.ended != 0 { Err(20) } else { Ok(hash.digest().to_vec()) }, room)
+}
+
+pub fn mul_add_start(weight: u8, room: &[u8]) -> (u32, Vec<u8>) {
+    written(Ok(bytes(&[weight as u64, 0, 0])), room)
+}
+
+/// The number, the job and the buffer; 20 changes neither.
+pub fn mul_add_push(job: &[u8], fragment: &[u8], buffer: &[u8]) -> (u32, Vec<u8>, Vec<u8>) {
+    if jobs::mul_add_refused(job) {
+        return (20, job.to_vec(), buffer.to_vec());
+    }
+    let (next, buffer) = jobs::mul_add_pushed(job, fragment, buffer);
+    (0, next, buffer)
 }

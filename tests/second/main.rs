@@ -1,20 +1,28 @@
 //! A second program, written from the documents alone: it compares its own answers with those of the C library's calls.
 //!
-//! `md5`, `field`, `par1`, `inventory` work the answers out; `expected` gives each call's number and lent bytes from them; `calls` makes the
-//! library's calls, on lent bytes with guards on both sides; `compare_*` are the comparisons.
+//! `md5`, `field`, `par1`, `inventory`, `jobs` work the answers out; `expected` gives each call's number and lent bytes from them; `calls` and
+//! `job_calls` make the library's calls, on lent bytes with guards on both sides; `cuts` has ways of cutting an input; `compare_*` are the
+//! comparisons.
 
 mod calls;
 mod compare_data_size;
 mod compare_entries;
 mod compare_faults;
 mod compare_field;
+mod compare_hash_job;
 mod compare_inventory;
 mod compare_md5;
+mod compare_mul_add_job;
 mod compare_par1;
 mod compare_parity;
+mod compare_read_cuts;
+mod compare_read_job;
+mod cuts;
 mod expected;
 mod field;
 mod inventory;
+mod job_calls;
+mod jobs;
 mod md5;
 mod par1;
 
@@ -27,7 +35,7 @@ pub fn small() -> bool {
     std::env::args().any(|word| word == "small")
 }
 
-/// How many calls agreed, and how many differed.
+/// How many calls, or runs of a job's calls, agreed, and how many differed.
 pub struct Counts {
     passed: u64,
     failed: u64,
@@ -63,7 +71,7 @@ impl Random {
 fn main() {
     let mut counts = Counts { passed: 0, failed: 0 };
     let mut random = Random(2026);
-    let parts: [(&str, fn(&mut Counts, &mut Random)); 8] = [
+    let parts: [(&str, fn(&mut Counts, &mut Random)); 12] = [
         ("md5", compare_md5::run),
         ("field", compare_field::run),
         ("parity", compare_parity::run),
@@ -72,14 +80,18 @@ fn main() {
         ("faults", compare_faults::run),
         ("data size", compare_data_size::run),
         ("inventory", compare_inventory::run),
+        ("hash in chunks", compare_hash_job::run),
+        ("mul_add in chunks", compare_mul_add_job::run),
+        ("files cut in chunks", compare_read_cuts::run),
+        ("reading in chunks", compare_read_job::run),
     ];
     for (name, run) in parts {
         let before = counts.passed + counts.failed;
         run(&mut counts, &mut random);
-        println!("{name}: {} calls compared", counts.passed + counts.failed - before);
+        println!("{name}: {} comparisons", counts.passed + counts.failed - before);
     }
     for (number, times) in calls::came_back().into_iter().enumerate() {
-        let given = number <= 19 && number != 6;
+        let given = number <= 20 && number != 6;
         if given {
             println!("number {number} came back {times} times");
         }
