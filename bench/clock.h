@@ -36,6 +36,8 @@ static inline uint8_t *random_bytes(size_t n) {
 static inline void figure(size_t bytes, double time) {
     if (bytes > 0)
         printf(" %8.1f MB/s |", (double)bytes / time / 1e6);
+    else if (time < 1e-5)
+        printf(" %8.1f ns   |", 1e9 * time);
     else
         printf(" %8.2f ms   |", 1e3 * time);
 }

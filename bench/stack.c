@@ -8,6 +8,8 @@ enum { STACK = 1 << 20, PAINT = 0xa5, FILES = 127, VOLUMES = 128, SIZE = 1 << 16
 enum { VOLUME = PAR1_LIST_AT + LIST + SIZE };
 
 static uint8_t contents[SIZE], list[LIST], volume[VOLUME], sizes[8 * FILES], inventory[PAR1_INVENTORY_BYTES], room[VOLUME];
+static uint8_t fold[PAR1_MUL_ADD_BYTES], reading[PAR1_READ_BYTES];
+static struct par1_hash hash;
 static const uint8_t name[2] = {'A', 0};
 static par1_answer number;
 
@@ -21,6 +23,15 @@ static void entry(void) { number = par1_entry(list, LIST, room, VOLUME); }
 static void write_entry(void) { number = par1_write_entry(contents, SIZE, 1, name, 2, room, VOLUME); }
 static void write_volume(void) { number = par1_write_volume(1, 1, list, LIST, contents, SIZE, volume, VOLUME); }
 static void check(void) { number = par1_check(list, ENTRY, contents, SIZE); }
+static void hash_start(void) { par1_hash_start(&hash), number = 0; }
+static void hash_push(void) { number = par1_hash_push(&hash, contents, SIZE - 1); }
+static void hash_end(void) { number = par1_hash_end(&hash, room, VOLUME); }
+static void mul_add_start(void) { number = par1_mul_add_start(7, fold, sizeof fold); }
+static void mul_add_push(void) { number = par1_mul_add_push(fold, sizeof fold, contents, SIZE - 1, room, VOLUME); }
+static void mul_add_end(void) { number = par1_mul_add_end(fold, sizeof fold); }
+static void read_start(void) { number = par1_read_start(reading, sizeof reading); }
+static void read_push(void) { number = par1_read_push(reading, sizeof reading, volume, VOLUME); }
+static void read_end(void) { number = par1_read_end(reading, sizeof reading, room, VOLUME); }
 static void open_(void) { number = par1_open(FILES, sizes, sizeof sizes, inventory, sizeof inventory); }
 static void add_file(void) { number = par1_add_file(inventory, sizeof inventory, 1); }
 static void remove_file(void) { number = par1_remove_file(inventory, sizeof inventory, 1); }
@@ -32,6 +43,9 @@ static void query(void) { number = par1_query(inventory, sizeof inventory, 1, ro
 static const struct { const char *name; void (*run)(void); } calls[] = {
     {"par1_md5", md5}, {"par1_inverse", inverse}, {"par1_coefficient", coefficient}, {"par1_mul_add", mul_add},
     {"par1_write_entry", write_entry}, {"par1_entry", entry}, {"par1_check", check}, {"par1_write_volume", write_volume}, {"par1_read", read_},
+    {"par1_hash_start", hash_start}, {"par1_hash_push", hash_push}, {"par1_hash_end", hash_end},
+    {"par1_mul_add_start", mul_add_start}, {"par1_mul_add_push", mul_add_push}, {"par1_mul_add_end", mul_add_end},
+    {"par1_read_start", read_start}, {"par1_read_push", read_push}, {"par1_read_end", read_end},
     {"par1_open", open_}, {"par1_add_file", add_file}, {"par1_remove_file", remove_file}, {"par1_add_volume", add_volume},
     {"par1_remove_volume", remove_volume}, {"par1_count", count}, {"par1_query", query}};
 
