@@ -1,6 +1,6 @@
 /* A recorder with 64 KiB of memory in all. TRACK.LOG, which is longer, and a volume lie on its card, in the directory where it is called; NET.LOG is
  * lost. It reads the volume, hashes the log and gets NET.LOG back from both, 4 KiB at a time, and measures the memory that this took.
- * examples/ashore.c writes the files. */
+ * examples/write_volume.c writes the files. */
 #include "../include/par1.h"
 #include <fcntl.h>
 #include <stdio.h>
@@ -10,7 +10,7 @@
 
 enum { MEMORY = 65536, CHUNK = 4096, LIST = 256, LOG = 20480, PAINT = 0xa5 };
 
-/* The weight of file 1 and of volume 2 for file 2 of two, which was asked for ashore: a query takes 66 KiB of stack. */
+/* The weight of file 1 and of volume 2 for file 2 of two, which somebody else asked for: a query takes 66 KiB of stack. */
 enum { WEIGHT = 142 };
 
 /* Jobs, one chunk of what is on the card, what reading tells, the list of the volume, and room for the log that is lost. */

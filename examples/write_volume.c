@@ -1,4 +1,4 @@
-/* Ashore, where memory is no matter: two logs of a trip, and volume 2 of them. Writes TRACK.LOG, three times as long as a recorder's memory, and
+/* Two logs of a trip, and volume 2 of them, made where memory is no matter. Writes TRACK.LOG, three times as long as a recorder's memory, and
  * TRIP.P02 into the directory where it is called; NET.LOG is lost, and examples/recorder.c gets it back. */
 #include "../include/par1.h"
 #include <stdio.h>
@@ -41,6 +41,6 @@ int main(void) {
     accepted("write_volume", par1_write_volume(1, VOLUME, list, LIST, data, TRACK, volume, LENGTH));
     save("TRACK.LOG", track, TRACK);
     save("TRIP.P02", volume, LENGTH);
-    printf("ashore: TRACK.LOG of %d bytes, NET.LOG of %d, and volume %d of the two; NET.LOG is lost\n", TRACK, NET, VOLUME);
+    printf("written: TRACK.LOG of %d bytes, and volume %d of it and NET.LOG, of %d bytes, which is lost\n", TRACK, VOLUME, NET);
     return 0;
 }
