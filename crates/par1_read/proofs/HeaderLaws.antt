@@ -1,15 +1,14 @@
 -- What reading gives depends on the first 96 bytes of the file, and no more of it.
 --
---   number-take     a number within the first bytes of a list
 --   header-alone    reading from the header alone
 -- Assumes nothing.
-use mathlib.Core.Path.{_≡_, refl, ap}
+use mathlib.Core.Path.{_≡_, refl}
 use mathlib.Core.List.{List}
 use Prim.Native.Nat.{ℕ, _+_, _≤_}
 use native.Mathlib.Omega.{arith}
 use lib.ListN.{take}
-use Rattle.little_endian.specs.Bytes.{fromLe, leAt}
-use Rattle.lent_bytes.proofs.PartLaws.{part-take}
+use Rattle.little_endian.specs.Bytes.{leAt}
+use Rattle.lent_bytes.proofs.PartLaws.{part-take, number-take}
 use Rattle.entries.specs.declared.Walked.{Walked}
 use Rattle.entries.specs.declared.Walked.the-variants as walked
 use Rattle.par1_rules.specs.Layout.{listSizeOf, dataStartOf, dataSizeOf}
@@ -17,10 +16,6 @@ use Rattle.par1_rules.specs.Rules.{layoutAllowed}
 use Rattle.par1_read.specs.Claim.{HeaderAlone}
 use Rattle.par1_read.specs.Reading.{headerRefusal, controlRefusal, totalsRefusal, listRefusal, refusalFrom}
 use Rattle.par1_read.specs.Reading.{savedIn, partsFrom, readFrom}
-
-number-take : (k i n : ℕ) (f : List ℕ) → i + k ≤ n → leAt k (take n f) i ≡ leAt k f i
-unfolding leAt
-number-take k i n f h = ap fromLe (part-take i k n f h)
 
 module _ (f : List ℕ) where
   field : (k i : ℕ) → i + k ≤ 96 → leAt k (take 96 f) i ≡ leAt k f i
