@@ -5,7 +5,9 @@
 --   breaks-first      what is left and not empty breaks the rule that the walk names, first of all
 --   breaks-number     its number is not 0
 --   broken-first      and so is what the list begins with
+--   kept-length       an entry that keeps every rule is the first of a list that it stands in front of
 --   entries-kept      entries that keep every rule, in front of what begins with none, are the entries of the list
+--   no-sizes          no entry has fewer than 58 bytes
 --   first-refused, stray-bytes     the claims
 -- Assumes nothing.
 use mathlib.Core.Path.{_≡_, refl, sym, ap, ap₂, _∙_, subst}
@@ -36,7 +38,7 @@ sized-right n m even low high = simp (eq-eqb (n % 2) 0 even, le-leb 58 n low, le
 
 -- ---- the entries that the walk takes
 
-keeps-first : (s : List ℕ) → 0 < length s → 0 < lengthOf s → Keeps (take (lengthOf s) s)
+pub keeps-first : (s : List ℕ) → 0 < length s → 0 < lengthOf s → Keeps (take (lengthOf s) s)
 unfolding lengthOf entryAllowed bodyAllowed
 keeps-first s some found =
     let right = length-sized s found in
@@ -103,7 +105,7 @@ broken-first (c ∷ s) some b = (simp (not-allowed (c ∷ s) b), fault-broken (c
 
 -- ---- entries in front
 
-kept-length : {e : List ℕ} → Keeps e → (t : List ℕ) → (lengthOf (e ++ t) ≡ length e) × (58 ≤ length e)
+pub kept-length : {e : List ℕ} → Keeps e → (t : List ℕ) → (lengthOf (e ++ t) ≡ length e) × (58 ≤ length e)
 unfolding lengthOf entryAllowed bodyAllowed
 kept-length {e} k t =
     let z = sized (length e) (length e) (k .size-right) in
@@ -167,7 +169,7 @@ first-refuses s r f =
 pub first-refused : FirstRefused
 first-refused s r = (refused-first s r, first-refuses s r)
 
-no-sizes : (n m : ℕ) → m < 58 → entrySizeAllowed n m ≡ false
+pub no-sizes : (n m : ℕ) → m < 58 → entrySizeAllowed n m ≡ false
 no-sizes n m h = by (entrySizeAllowed n m) refl
   where
     by : (b : Bool) → entrySizeAllowed n m ≡ b → b ≡ false

@@ -201,6 +201,16 @@ pub fn unit_allowed(unit: u16) -> bool
     unit != 92
 }
 
+// The greatest size that counts, with one entry more.
+pub fn greatest_after(greatest: u64, status: u64, size: u64) -> u64
+    ensures { λ r. ⌜ r ≡ cond (isCounted status) (max greatest size) greatest ⌝ }
+{
+    if is_counted(status) {
+        return greater(greatest, size);
+    }
+    greatest
+}
+
 // The totals with one entry more.
 fn added(totals: Totals, status: u64, size: u64) -> Totals
     requires { ⌜ (totals .entries + 1 < 2 ^ 64) × (totals .saved + 1 < 2 ^ 64) ⌝ }
@@ -211,16 +221,6 @@ fn added(totals: Totals, status: u64, size: u64) -> Totals
         saved: totals.saved + saved_count(status),
         greatest: greatest_after(totals.greatest, status, size),
     }
-}
-
-// The greatest size that counts, with one entry more.
-pub fn greatest_after(greatest: u64, status: u64, size: u64) -> u64
-    ensures { λ r. ⌜ r ≡ cond (isCounted status) (max greatest size) greatest ⌝ }
-{
-    if is_counted(status) {
-        return greater(greatest, size);
-    }
-    greatest
 }
 
 // Whether an entry counts for the data size: a saved one does.
