@@ -1,10 +1,9 @@
 -- The counts of a scan.
 --
 --   Counted sc n      the counts of the scan sc are those of a scan over n bytes
---   counted-scan      they stay so, from one scan to the next
---   counted           and are so after any bytes; Witnesses has bytes for all such counts
+--   counted           they are so after any bytes; WitnessLaws has bytes for all such counts
 -- Assumes nothing.
-use mathlib.Core.Path.{_≡_, refl, sym, _∙_, subst}
+use mathlib.Core.Path.{_≡_, refl, _∙_, subst}
 use mathlib.Core.Bool.{Bool, true, false, cond}
 use mathlib.Core.List.{List, [], _∷_}
 use Prim.Native.Nat.{ℕ, suc, _+_, _*_, _^_, _≤_, _<_}
@@ -16,8 +15,8 @@ use Rattle.md5.specs.Running.{stateOf, pushed}
 use Rattle.entries.specs.Entry.{isSaved, statusOf, md5Of}
 use Rattle.entries.specs.Walk.{addEntry}
 use Rattle.list_scan.specs.declared.Scan.{Scan}
-use Rattle.list_scan.specs.Scan.{nameByte, isWhole, entryEnded, stepOf, scanned, scanStart}
-use Rattle.list_scan.proofs.WholeLaws.{whole-at}
+use Rattle.list_scan.specs.Scan.{nameByte, entryEnded, stepOf, scanned, scanStart}
+use Rattle.list_scan.proofs.StepLaws.{settled-either}
 
 pub record Counted (sc : Scan) (n : ℕ) : Type 0 where
   pub head-size : length (sc .head) ≡ 56
@@ -37,42 +36,24 @@ saved-more : (b : Bool) (saved entries : ℕ) → saved ≤ entries → saved + 
 saved-more true saved entries h = omega arith
 saved-more false saved entries h = omega arith
 
-abbrev headAfter : Scan → ℕ → List ℕ
-headAfter sc b = set (sc .head) (sc .at) b
+counted-step : (sc : Scan) (b n : ℕ) → Counted sc n → n < 2 ^ 58 → Counted (stepOf sc b) (n + 1)
+unfolding stepOf entryEnded addEntry
+counted-step sc b n k small =
+    let head : List ℕ = set (sc .head) (sc .at) b in
+    let saved : Bool = isSaved (statusOf head) in
+    let size : length head ≡ 56 = length-set (sc .head) (sc .at) b ∙ k .head-size in
+    let md5-size : length (md5Of head) ≡ 16 = length-take-le 16 (drop 24 head) (omega (arith, length-drop 24 head)) in
+    settled-either (λ sd. Counted sd (n + 1)) head (sc .at + 1) b (nameByte (sc .named) (sc .at) (sc .low) b) (sc .totals) (sc .hash)
+    (λ low.
+    record {
+      head-size = size;
+      saved-most = saved-more saved (sc .totals .saved) (sc .totals .entries) (k .saved-most);
+      hash-total = hash-more saved (sc .hash) (md5Of head) (sc .totals .saved) md5-size (k .hash-total) (omega (arith, k .saved-most, k .within));
+      within = omega (arith, k .within);
+    })
+    (record { head-size = size; saved-most = k .saved-most; hash-total = k .hash-total; within = omega (arith, k .within) })
 
-abbrev namedAfter : Scan → ℕ → Bool
-namedAfter sc b = nameByte (sc .named) (sc .at) (sc .low) b
-
-module _ (sc : Scan) (b n : ℕ) (k : Counted sc n) (small : n < 2 ^ 58) where
-  size-after : length (headAfter sc b) ≡ 56
-  size-after = length-set (sc .head) (sc .at) b ∙ k .head-size
-
-  md5-size : length (md5Of (headAfter sc b)) ≡ 16
-  md5-size = length-take-le 16 (drop 24 (headAfter sc b)) (omega (arith, length-drop 24 (headAfter sc b), size-after))
-
-  counted-ended : 58 ≤ sc .at + 1 → Counted (entryEnded (headAfter sc b) (sc .totals) (sc .hash)) (n + 1)
-  unfolding entryEnded addEntry
-  counted-ended low =
-      record {
-        head-size = size-after;
-        saved-most = saved-more (isSaved (statusOf (headAfter sc b))) (sc .totals .saved) (sc .totals .entries) (k .saved-most);
-        hash-total =
-            hash-more (isSaved (statusOf (headAfter sc b))) (sc .hash) (md5Of (headAfter sc b)) (sc .totals .saved) md5-size (k .hash-total)
-            (omega (arith, k .saved-most, k .within));
-        within = omega (arith, k .within);
-      }
-
-  counted-step : Counted (stepOf sc b) (n + 1)
-  unfolding stepOf
-  counted-step = by (isWhole (headAfter sc b) (sc .at + 1) (namedAfter sc b)) refl
-    where
-      by : (q : Bool) → isWhole (headAfter sc b) (sc .at + 1) (namedAfter sc b) ≡ q
-          → Counted (cond q (entryEnded (headAfter sc b) (sc .totals) (sc .hash))
-          (record { head = headAfter sc b; at = sc .at + 1; low = b; named = namedAfter sc b; totals = sc .totals; hash = sc .hash })) (n + 1)
-      by true e = counted-ended (whole-at (headAfter sc b) (sc .at + 1) (namedAfter sc b) e .low)
-      by false e = record { head-size = size-after; saved-most = k .saved-most; hash-total = k .hash-total; within = omega (arith, k .within) }
-
-pub counted-scan : (l : List ℕ) (sc : Scan) (n : ℕ) → Counted sc n → n + length l < 2 ^ 58 → Counted (scanned sc l) (n + length l)
+counted-scan : (l : List ℕ) (sc : Scan) (n : ℕ) → Counted sc n → n + length l < 2 ^ 58 → Counted (scanned sc l) (n + length l)
 unfolding scanned
 counted-scan [] sc n k small = subst (Counted sc) (let e : n ≡ n + 0 = omega arith in e) k
 counted-scan (b ∷ l) sc n k small =

@@ -20,5 +20,5 @@ if-not-zero (suc n) a b h = refl
 pub found-refused : (sc : Scan) {f : Fault} {n : ℕ} {r : Refusal} → (sc .at ≡ 0 → ⊥) → f ≡ faultAt (sc .head) (sc .at)
     → n ≡ (sc .totals .entries + 1) % 2 ^ 64 → r ≡ refusalAt f n → walked.Refused r ≡ foundOf sc
 unfolding foundOf
-found-refused sc h e g i = sym (if-not-zero (sc .at) _ _ h ∙ ap₂ (λ (f : Fault) (n : ℕ). walked.Refused (refusalAt f n)) (sym e) (sym g) ∙ ap walked.Refused (sym i))
-
+found-refused sc h e g i =
+    ap walked.Refused i ∙ ap₂ (λ (f : Fault) (n : ℕ). walked.Refused (refusalAt f n)) e g ∙ sym (if-not-zero (sc .at) _ _ h)

@@ -1,9 +1,9 @@
+pub mod Amid
 pub mod CountLaws
 pub mod FoundLaws
-pub mod Mid
-pub mod NameBytes
+pub mod NameLaws
 pub mod RoomLaws
 pub mod RunLaws
-pub mod Walks
-pub mod WholeLaws
-pub mod Witnesses
+pub mod StepLaws
+pub mod WalkLaws
+pub mod WitnessLaws

@@ -1,17 +1,26 @@
 -- The name of an entry, byte by byte.
 --
---   lastOr d s     the last element of s, d where it has none
---   last-snoc, last-drop    of a list with one element more; of what is left of a list
---   name-even, name-odd     the rule on names, with a byte more: of an even number of bytes, and of an odd one
+--   lastOr d s                        the last element of s, d where it has none
+--   last-snoc, last-drop, last-at     of a list with one element more; of what is left of a list; by its place
+--   byte-before, byte-low, byte-high  nameByte: before the name, at the first byte of a unit, at its second
+--   name-step                         the rule on the units of an entry's name, with a byte of the entry more
+--   named-head, named-units           the rule with a run of bytes before the name, or of whole units
 -- Assumes nothing.
-use mathlib.Core.Path.{_≡_, refl, sym, ap, _∙_}
-use mathlib.Core.Bool.{Bool, _&&_, and-true, and-assoc}
+use mathlib.Core.Path.{_≡_, refl, sym, ap, ap₂, _∙_}
+use mathlib.Core.Bool.{Bool, _&&_, and-true, and-false, and-assoc}
 use mathlib.Core.List.{List, [], _∷_, _++_}
-use Prim.Native.Nat.{ℕ, zero, suc, _+_, _*_, _%_, _<_}
+use Prim.Native.Nat.{ℕ, zero, suc, _+_, _-_, _*_, _%_, _≤_, _<_}
+use native.Mathlib.Decide.{ℕ-discrete, decLt}
 use native.Mathlib.Omega.{arith}
-use lib.ListN.{length, drop}
+use lib.ListN.{length, drop, getD, length-append, length-drop, drop-of-length-le}
+use lib.Seq.{drop-append-le}
+use borrow.Author.Tests.{lt-leb, le-leb, ne-eqb, eq-eqb}
 use Rattle.little_endian.specs.Bytes.{fromLe, leAt}
-use Rattle.entries.specs.Entry.{unitsOf, unitAllowed, unitsAllowed}
+use Rattle.entries.specs.Entry.{nameOf, unitsOf, unitAllowed, unitsAllowed}
+use Rattle.list_scan.specs.Scan.{nameByte}
+use Rattle.list_scan.specs.Run.{namedAfter}
+
+-- ---- the last element
 
 abbrev pub lastOr : ℕ → List ℕ → ℕ
 lastOr d [] = d
@@ -21,24 +30,91 @@ pub last-snoc : (d : ℕ) (s : List ℕ) (b : ℕ) → lastOr d (s ++ (b ∷ [])
 last-snoc d [] b = refl
 last-snoc d (a ∷ s) b = last-snoc a s b
 
-pub last-drop : (k d e : ℕ) (s : List ℕ) → k < length s → lastOr d (drop k s) ≡ lastOr e s
+last-drop : (k d e : ℕ) (s : List ℕ) → k < length s → lastOr d (drop k s) ≡ lastOr e s
 last-drop k d e [] h = absurd (omega arith)
 last-drop zero d e (a ∷ s) h = refl
 last-drop (suc k) d e (a ∷ s) h = last-drop k d a s (omega arith)
 
-pub name-even : (n : List ℕ) (b : ℕ) → length n % 2 ≡ 0 → unitsAllowed (unitsOf (n ++ (b ∷ []))) ≡ unitsAllowed (unitsOf n)
-unfolding unitsAllowed unitsOf leAt
-name-even [] b h = refl
-name-even (a ∷ []) b h = absurd (omega arith)
-name-even (a ∷ c ∷ n) b h = ap (λ (r : Bool). unitAllowed (leAt 2 (a ∷ c ∷ n) 0) && r) (name-even n b (omega arith))
+pub last-at : (d : ℕ) (s : List ℕ) → 0 < length s → getD s (length s - 1) 0 ≡ lastOr d s
+last-at d [] h = absurd (omega arith)
+last-at d (a ∷ []) h = refl
+last-at d (a ∷ b ∷ s) h =
+    let n : length (a ∷ b ∷ s) - 1 ≡ suc (length (b ∷ s) - 1) = omega arith in
+    ap (λ (k : ℕ). getD (a ∷ b ∷ s) k 0) n ∙ last-at a (b ∷ s) (omega arith)
 
-pub name-odd : (n : List ℕ) (d b : ℕ) → length n % 2 ≡ 1
-    → unitsAllowed (unitsOf (n ++ (b ∷ []))) ≡ (unitsAllowed (unitsOf n) && unitAllowed (lastOr d n + 256 * b))
+-- ---- a byte
+
+module _ (named : Bool) (at low b : ℕ) where
+  byte-before : at < 56 → nameByte named at low b ≡ named
+  unfolding nameByte
+  byte-before h = simp (lt-leb 56 at h)
+
+  pub byte-low : (at % 2 ≡ 1 → ⊥) → nameByte named at low b ≡ named
+  unfolding nameByte
+  byte-low even = simp (ne-eqb (at % 2) 1 even, and-false)
+
+  pub byte-high : 56 ≤ at → at % 2 ≡ 1 → nameByte named at low b ≡ (named && unitAllowed (low + 256 * b))
+  unfolding nameByte
+  byte-high h odd = simp (le-leb 56 at h, eq-eqb (at % 2) 1 odd)
+
+-- ---- the name of an entry, with a byte more
+
+abbrev allowed : List ℕ → Bool
+allowed n = unitsAllowed (unitsOf n)
+
+units-low : (n : List ℕ) (b : ℕ) → length n % 2 ≡ 0 → allowed (n ++ (b ∷ [])) ≡ allowed n
+unfolding unitsAllowed unitsOf leAt
+units-low [] b h = refl
+units-low (a ∷ []) b h = absurd (omega arith)
+units-low (a ∷ c ∷ n) b h = ap (λ (r : Bool). unitAllowed (leAt 2 (a ∷ c ∷ n) 0) && r) (units-low n b (omega arith))
+
+units-high : (n : List ℕ) (d b : ℕ) → length n % 2 ≡ 1 → allowed (n ++ (b ∷ [])) ≡ (allowed n && unitAllowed (lastOr d n + 256 * b))
 unfolding unitsAllowed unitsOf leAt fromLe
-name-odd [] d b h = absurd (omega arith)
-name-odd (a ∷ []) d b h =
-    let e : a + 256 * (b + 256 * 0) ≡ a + 256 * b = omega arith in and-true _ ∙ ap unitAllowed e
-name-odd (a ∷ c ∷ n) d b h =
+units-high [] d b h = absurd (omega arith)
+units-high (a ∷ []) d b h = let e : a + 256 * (b + 256 * 0) ≡ a + 256 * b = omega arith in and-true _ ∙ ap unitAllowed e
+units-high (a ∷ c ∷ n) d b h =
     let u : Bool = unitAllowed (leAt 2 (a ∷ c ∷ n) 0) in
-    ap (λ (r : Bool). u && r) (name-odd n c b (omega arith))
-    ∙ sym (and-assoc u (unitsAllowed (unitsOf n)) (unitAllowed (lastOr c n + 256 * b)))
+    ap (λ (r : Bool). u && r) (units-high n c b (omega arith)) ∙ sym (and-assoc u (allowed n) (unitAllowed (lastOr c n + 256 * b)))
+
+pub name-step : (p : List ℕ) (b : ℕ) → nameByte (allowed (nameOf p)) (length p) (lastOr 0 p) b ≡ allowed (nameOf (p ++ (b ∷ [])))
+name-step p b = elim (decLt (length p) 56) [
+  | yes h ↦
+      let none : nameOf p ≡ [] = drop-of-length-le p {i = 56} (omega arith) in
+      let none-yet : nameOf (p ++ (b ∷ [])) ≡ [] = drop-of-length-le (p ++ (b ∷ [])) {i = 56} (omega (arith, length-append p (b ∷ []))) in
+      byte-before (allowed (nameOf p)) (length p) (lastOr 0 p) b h ∙ ap allowed (none ∙ sym none-yet)
+  | no h ↦ in-name (omega arith) ∙ ap allowed (sym (drop-append-le 56 p (b ∷ []) (omega arith)))
+]
+  where
+    in-name : 56 ≤ length p → nameByte (allowed (nameOf p)) (length p) (lastOr 0 p) b ≡ allowed (nameOf p ++ (b ∷ []))
+    in-name h = elim (ℕ-discrete (length p % 2) 1) [
+      | yes odd ↦
+          byte-high (allowed (nameOf p)) (length p) (lastOr 0 p) b h odd
+          ∙ ap (λ (a : ℕ). allowed (nameOf p) && unitAllowed (a + 256 * b)) (sym (last-drop 56 0 0 p (omega arith)))
+          ∙ sym (units-high (nameOf p) 0 b (omega (arith, length-drop 56 p)))
+      | no even ↦
+          byte-low (allowed (nameOf p)) (length p) (lastOr 0 p) b even
+          ∙ sym (units-low (nameOf p) b (omega (arith, length-drop 56 p)))
+    ]
+
+-- ---- a run of bytes
+
+pub named-head : (named : Bool) (at low : ℕ) (l : List ℕ) → at + length l ≤ 56 → namedAfter named at low l ≡ named
+unfolding namedAfter
+named-head named at low [] h = refl
+named-head named at low (b ∷ l) h = named-head (nameByte named at low b) (at + 1) b l (omega arith) ∙ byte-before named at low b (omega arith)
+
+pub named-units : (named : Bool) (at low : ℕ) (l : List ℕ) → 56 ≤ at → at % 2 ≡ 0 → length l % 2 ≡ 0
+    → namedAfter named at low l ≡ (named && unitsAllowed (unitsOf l))
+unfolding namedAfter unitsAllowed unitsOf leAt fromLe
+named-units named at low [] h even whole = sym (and-true named)
+named-units named at low (a ∷ []) h even whole = absurd (omega arith)
+named-units named at low (a ∷ b ∷ l) h even whole =
+    let unit : a + 256 * b ≡ a + 256 * (b + 256 * 0) = omega arith in
+    let first : nameByte named at low a ≡ named = byte-low named at low a (λ odd. omega arith) in
+    let now : Bool = nameByte (nameByte named at low a) (at + 1) a b in
+    let second : now ≡ (named && unitAllowed (a + 256 * (b + 256 * 0))) =
+    byte-high (nameByte named at low a) (at + 1) a b (omega arith) (omega arith)
+    ∙ ap₂ (λ (w : Bool) (u : ℕ). w && unitAllowed u) first unit in
+    named-units now (at + 1 + 1) b l (omega arith) (omega arith) (omega arith)
+    ∙ ap (λ (w : Bool). w && unitsAllowed (unitsOf l)) second
+    ∙ and-assoc named (unitAllowed (a + 256 * (b + 256 * 0))) (unitsAllowed (unitsOf l))

@@ -1,8 +1,7 @@
 -- Runs of bytes, as the code takes them.
 --
---   scanWith ..        the scan with these parts
---   scan-run           the scan after a run is worked out once, at its end
---   run-head, run-high, run-low, run-units     what the code takes is a run: first bytes; the second byte of a unit, the first of one; whole units
+--   scan-run           the scan after a run is settled once, at its end
+--   run-head, run-high, run-low, run-units     runs: of first bytes, of the second or the first byte of a unit, of whole units
 --   Kept sc sd s i     the scan sd, i bytes into s, ends as the scan sc before s does, and its counts have room for the rest
 --   kept-start, kept-done          before the bytes, and after them all
 --   run-fits, run-length           a run at the front of what remains
@@ -10,15 +9,13 @@
 -- Assumes nothing.
 use mathlib.Core.Path.{_≡_, refl, sym, ap, ap₂, _∙_, subst}
 use mathlib.Core.Logic.{_⊎_, inl, inr}
-use mathlib.Core.Bool.{Bool, true, false, cond, _&&_, and-true, and-false, and-assoc}
+use mathlib.Core.Bool.{Bool, true, false, cond, _&&_}
 use mathlib.Core.List.{List, [], _∷_, foldl}
-use Prim.Native.Nat.{ℕ, zero, suc, _+_, _-_, _*_, _%_, _≤_, _<_, min}
+use Prim.Native.Nat.{ℕ, suc, _+_, _-_, _*_, _%_, _≤_, _<_, min}
 use native.Mathlib.Numerals.{add-one}
 use native.Mathlib.Omega.{arith}
 use lib.ListN.{length, set, take, drop, getD, length-drop, drop-of-length-le}
 use lib.Seq.{sets, length-sets, length-take-le, drop-drop}
-use borrow.Author.Tests.{lt-leb, le-leb, ne-eqb, eq-eqb}
-use Rattle.little_endian.specs.Bytes.{fromLe, leAt}
 use Rattle.little_endian.proofs.Stores.{sets-out}
 use Rattle.lent_bytes.proofs.PartLaws.{part-to-end}
 use Rattle.md5.specs.declared.Md5.{Md5}
@@ -28,27 +25,20 @@ use Rattle.entries.specs.declared.Totals.{Totals}
 use Rattle.par1_rules.specs.Hashes.{hashEntry}
 use Rattle.list_scan.specs.declared.Run.{Run}
 use Rattle.list_scan.specs.declared.Scan.{Scan}
-use Rattle.list_scan.specs.Scan.{nameByte, isWhole, entryEnded, stepOf, scanned}
+use Rattle.list_scan.specs.Scan.{nameByte, isWhole, scanWith, entryEnded, settled, stepOf, scanned}
 use Rattle.list_scan.specs.Room.{hasRoom}
 use Rattle.list_scan.specs.Run.{namedAfter, NoneEnds, IsRun}
-use Rattle.list_scan.proofs.NameBytes.{lastOr}
+use Rattle.list_scan.proofs.NameLaws.{lastOr, last-at, byte-low, byte-high, named-head, named-units}
 use Rattle.list_scan.proofs.RoomLaws.{Room, room, room-run}
-use Rattle.list_scan.proofs.Walks.{scan-join}
-use Rattle.list_scan.proofs.WholeLaws.{not-whole}
+use Rattle.list_scan.proofs.WalkLaws.{scanned-join}
+use Rattle.list_scan.proofs.StepLaws.{not-whole}
 
 -- ---- the scan after a run
-
-abbrev pub scanWith : List ℕ → ℕ → ℕ → Bool → Totals → Md5 → Scan
-scanWith head at low named t h = record { head = head; at = at; low = low; named = named; totals = t; hash = h }
-
--- the test whether the entry ends, after any number of its bytes
-abbrev stepTo : List ℕ → ℕ → ℕ → Bool → Totals → Md5 → Scan
-stepTo head at low named t h = cond (isWhole head at named) (entryEnded head t h) (scanWith head at low named t h)
 
 module _ (t : Totals) (h : Md5) where
   scan-run : (hd : List ℕ) (at low : ℕ) (named : Bool) (l : List ℕ) → 0 < length l → NoneEnds hd at l
       → scanned (scanWith hd at low named t h) l
-      ≡ stepTo (sets hd at l) (at + length l) (lastOr low l) (namedAfter named at low l) t h
+      ≡ settled (sets hd at l) (at + length l) (lastOr low l) (namedAfter named at low l) t h
   unfolding scanned stepOf namedAfter
   scan-run hd at low named [] some none = absurd (omega arith)
   scan-run hd at low named (b ∷ []) some none = refl
@@ -60,47 +50,13 @@ module _ (t : Totals) (h : Md5) where
       ap (λ (w : Bool). foldl stepOf (cond w (entryEnded (set hd at b) t h) (scanWith (set hd at b) (at + 1) b now t h)) (c ∷ l))
       (none 1 (omega arith) (omega arith) now)
       ∙ scan-run (set hd at b) (at + 1) b now (c ∷ l) (omega arith) later
-      ∙ ap₂ (λ (p n : ℕ). stepTo (sets (set hd at b) p (c ∷ l)) n last all t h) (add-one at) place
+      ∙ ap₂ (λ (p n : ℕ). settled (sets (set hd at b) p (c ∷ l)) n last all t h) (add-one at) place
     where
       later : NoneEnds (set hd at b) (at + 1) (c ∷ l)
       later k pos less w =
           let place : at + 1 + k ≡ at + suc k = omega arith in
-          ap₂ (λ (p n : ℕ). isWhole (sets (set hd at b) p (take k (c ∷ l))) n w) (add-one at) place ∙ none (suc k) (omega arith) (omega arith) w
-
--- ---- the name, byte by byte
-
-module _ (named : Bool) (at low b : ℕ) where
-  byte-before : at < 56 → nameByte named at low b ≡ named
-  unfolding nameByte
-  byte-before h = simp (lt-leb 56 at h)
-
-  byte-low : (at % 2 ≡ 1 → ⊥) → nameByte named at low b ≡ named
-  unfolding nameByte
-  byte-low h = simp (ne-eqb (at % 2) 1 h, and-false)
-
-  byte-high : 56 ≤ at → at % 2 ≡ 1 → nameByte named at low b ≡ (named && unitAllowed (low + 256 * b))
-  unfolding nameByte
-  byte-high h o = simp (le-leb 56 at h, eq-eqb (at % 2) 1 o)
-
-named-head : (named : Bool) (at low : ℕ) (l : List ℕ) → at + length l ≤ 56 → namedAfter named at low l ≡ named
-unfolding namedAfter
-named-head named at low [] h = refl
-named-head named at low (b ∷ l) h = named-head (nameByte named at low b) (at + 1) b l (omega arith) ∙ byte-before named at low b (omega arith)
-
-named-units : (named : Bool) (at low : ℕ) (l : List ℕ) → 56 ≤ at → at % 2 ≡ 0 → length l % 2 ≡ 0
-    → namedAfter named at low l ≡ (named && unitsAllowed (unitsOf l))
-unfolding namedAfter unitsAllowed unitsOf leAt fromLe
-named-units named at low [] h even whole = sym (and-true named)
-named-units named at low (a ∷ []) h even whole = absurd (omega arith)
-named-units named at low (a ∷ b ∷ l) h even whole =
-    let unit : a + 256 * b ≡ a + 256 * (b + 256 * 0) = omega arith in
-    let first : nameByte named at low a ≡ named = byte-low named at low a (λ o. omega arith) in
-    let second : nameByte (nameByte named at low a) (at + 1) a b ≡ (named && unitAllowed (a + 256 * (b + 256 * 0))) =
-    byte-high (nameByte named at low a) (at + 1) a b (omega arith) (omega arith)
-    ∙ ap₂ (λ (w : Bool) (u : ℕ). w && unitAllowed u) first unit in
-    named-units (nameByte (nameByte named at low a) (at + 1) a b) (at + 1 + 1) b l (omega arith) (omega arith) (omega arith)
-    ∙ ap (λ (w : Bool). w && unitsAllowed (unitsOf l)) second
-    ∙ and-assoc named (unitAllowed (a + 256 * (b + 256 * 0))) (unitsAllowed (unitsOf l))
+          ap₂ (λ (p n : ℕ). isWhole (sets (set hd at b) p (take k (c ∷ l))) n w) (add-one at) place
+          ∙ none (suc k) (omega arith) (omega arith) w
 
 -- ---- what the code takes
 
@@ -147,8 +103,8 @@ module _ (hd : List ℕ) (at low : ℕ) (named : Bool) (l : List ℕ) (some : 0 
         some = pos;
         within = fits;
         none-ends = λ k low less w.
-          ap (λ (q : List ℕ). isWhole q (at + k) w) (sets-out hd at (take k (take n l)) (omega arith))
-          ∙ not-whole hd (at + k) w (λ z. past k (omega arith) (omega arith) (z .even) (size-is ∙ z .size-is) ends);
+            ap (λ (q : List ℕ). isWhole q (at + k) w) (sets-out hd at (take k (take n l)) (omega arith))
+            ∙ not-whole hd (at + k) w (λ z. past k (omega arith) (omega arith) (z .even) (size-is ∙ z .size-is) ends);
         named-is = e ∙ sym (named-units named at low (take n l) h (omega arith) (omega arith));
       }
     where
@@ -184,15 +140,8 @@ kept-on sc sd se s i n fits full k e =
       within = fits;
       head-size = full;
       room = subst (λ (x : Scan). Room x (length s - (i + n))) (sym e) (room-run sd l (length s - (i + n)) (subst (Room sd) left (k .room)));
-      rest = ap₂ scanned e (sym (drop-drop n i s)) ∙ sym (scan-join sd n (drop i s)) ∙ k .rest;
+      rest = ap₂ scanned e (sym (drop-drop n i s)) ∙ sym (scanned-join sd n (drop i s)) ∙ k .rest;
     }
-
-last-at : (d : ℕ) (l : List ℕ) → 0 < length l → getD l (length l - 1) 0 ≡ lastOr d l
-last-at d [] h = absurd (omega arith)
-last-at d (a ∷ []) h = refl
-last-at d (a ∷ b ∷ l) h =
-    let n : length (a ∷ b ∷ l) - 1 ≡ suc (length (b ∷ l) - 1) = omega arith in
-    ap (λ (k : ℕ). getD (a ∷ b ∷ l) k 0) n ∙ last-at a (b ∷ l) (omega arith)
 
 -- a run at the front of what remains
 module _ (sc : Scan) (s : List ℕ) (i : ℕ) {hd : List ℕ} {at low : ℕ} {named : Bool} {t : Totals} {h : Md5}
@@ -215,8 +164,8 @@ module _ (sc : Scan) (s : List ℕ) (i : ℕ) {hd : List ℕ} {at low : ℕ} {na
     run-is =
         let last : ℕ = lastOr low taken in
         scan-run t h hd at low named taken (omega (arith, run-length, run .some)) (run .none-ends)
-        ∙ ap₂ (λ (q : List ℕ) (n : ℕ). stepTo q (at + n) last (namedAfter named at low taken) t h) (sym head-is) run-length
-        ∙ ap (λ (m : Bool). stepTo head (at + r .length) last m t h) (sym (run .named-is)) ∙ ap ended (sym test)
+        ∙ ap₂ (λ (q : List ℕ) (n : ℕ). settled q (at + n) last (namedAfter named at low taken) t h) (sym head-is) run-length
+        ∙ ap (λ (m : Bool). settled head (at + r .length) last m t h) (sym (run .named-is)) ∙ ap ended (sym test)
 
     kept-run : {x : Bool} {se : Scan} → w ≡ x → se .head ≡ head → se ≡ ended x → Kept sc se s (i + r .length)
     kept-run {x} {se} tested same e =

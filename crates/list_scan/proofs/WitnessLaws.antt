@@ -1,26 +1,29 @@
--- Counts that a scan may have, each with bytes that give them.
+-- The counts that a scan may have, each with a list that gives them.
 --
---   length-list     the length of such bytes
---   list-counts     and the counts of the scan over them
+--   length-list                the list has so many bytes
+--   bytes-list                 they are bytes
+--   ListCounts, list-counts    the scan over it has these counts
 -- Assumes nothing.
 use mathlib.Core.Path.{_≡_, refl, sym, ap, _∙_, subst}
 use mathlib.Core.List.{List, [], _∷_, _++_, append-nil}
 use Prim.Native.Nat.{ℕ, zero, suc, _+_, _-_, _*_, _≤_, _<_}
+use native.Mathlib.Nat.{zero-mul, suc-mul}
 use native.Mathlib.Omega.{arith}
 use lib.ListN.{length, getD, replicate, length-append, length-replicate}
 use Rattle.little_endian.specs.Bytes.{Bytes, fromLe, leAt}
 use Rattle.little_endian.proofs.Numbers.{bytes-append}
 use Rattle.little_endian.proofs.Reading.{leAt-suc}
 use Rattle.md5.specs.declared.Md5.{Md5}
-use Rattle.entries.specs.Entry.{unitsOf, unitAllowed, unitsAllowed, nameAllowed, entrySizeAllowed, bodyAllowed, entryAllowed, lengthOf}
+use Rattle.entries.specs.Entry.{savedCount, unitsOf, lengthOf}
+use Rattle.entries.specs.Entry.{unitAllowed, unitsAllowed, nameAllowed, entrySizeAllowed, bodyAllowed, entryAllowed}
 use Rattle.entries.specs.Walk.{firstOf, addEntry}
 use Rattle.entries.specs.declared.Totals.{Totals}
 use Rattle.entries.proofs.EntryLaws.{IsEntry, is-entry}
 use Rattle.list_scan.specs.declared.Scan.{Scan}
 use Rattle.list_scan.specs.Scan.{scanned, scanStart}
 use Rattle.list_scan.specs.Witness.{plainEntry, many, listWith}
-use Rattle.list_scan.proofs.Mid.{Mid}
-use Rattle.list_scan.proofs.Walks.{runs, entry-scan, start-mid, scanned-append}
+use Rattle.list_scan.proofs.Amid.{Amid}
+use Rattle.list_scan.proofs.WalkLaws.{runs, entry-scan, start-amid, scanned-append}
 
 -- ---- entries
 
@@ -32,62 +35,42 @@ entry-unsaved : IsEntry (plainEntry 0) 58 0 0
 unfolding firstOf entryAllowed entrySizeAllowed bodyAllowed nameAllowed unitsAllowed unitsOf unitAllowed leAt fromLe plainEntry
 entry-unsaved = is-entry refl
 
--- a scan at the start of an entry
-abbrev Ready : Scan → Type 0
-Ready sc = Mid (sc .totals) (sc .hash) [] sc
-
-ready : {t : Totals} {h : Md5} {sc : Scan} → Mid t h [] sc → Ready sc
-ready m =
-    record {
-      at-is = m .at-is;
-      low-is = m .low-is;
-      named-is = m .named-is;
-      totals-is = refl;
-      hash-is = refl;
-      head-size = m .head-size;
-      head-is = m .head-is;
-    }
-
+-- a scan between two entries, after n of them, s of them saved
 record Grown (sc : Scan) (n s : ℕ) : Type 0 where
-  again : Ready sc
+  again : Amid (sc .totals) (sc .hash) [] sc
   entries-is : sc .totals .entries ≡ n
   saved-is : sc .totals .saved ≡ s
-
-one-saved : {sc : Scan} {n s : ℕ} → Grown sc n s → Grown (scanned sc (plainEntry 1)) (n + 1) (s + 1)
-unfolding addEntry plainEntry
-one-saved {sc} g =
-    let m = entry-scan 58 entry-saved (g .again) in
-    record {
-      again = ready m;
-      entries-is = ap (λ (t : Totals). t .entries) (m .totals-is) ∙ ap (λ (k : ℕ). k + 1) (g .entries-is);
-      saved-is = ap (λ (t : Totals). t .saved) (m .totals-is) ∙ ap (λ (k : ℕ). k + 1) (g .saved-is);
-    }
-
-one-unsaved : {sc : Scan} {n s : ℕ} → Grown sc n s → Grown (scanned sc (plainEntry 0)) (n + 1) s
-unfolding addEntry plainEntry
-one-unsaved {sc} {n} {s} g =
-    let m = entry-scan 58 entry-unsaved (g .again) in
-    record {
-      again = ready m;
-      entries-is = ap (λ (t : Totals). t .entries) (m .totals-is) ∙ ap (λ (k : ℕ). k + 1) (g .entries-is);
-      saved-is = ap (λ (t : Totals). t .saved) (m .totals-is) ∙ omega (arith, g .saved-is);
-    }
 
 grown-as : {sc sd : Scan} {n m s r : ℕ} → sd ≡ sc → n ≡ m → s ≡ r → Grown sc n s → Grown sd m r
 grown-as {sc} {sd} {n} {m} {s} {r} e f h g =
     subst (λ (k : Scan). Grown k m r) (sym e) (record { again = g .again; entries-is = g .entries-is ∙ f; saved-is = g .saved-is ∙ h })
 
-all-saved : (k : ℕ) {sc : Scan} {n s : ℕ} → Grown sc n s → Grown (scanned sc (many k 1)) (n + k) (s + k)
-unfolding many scanned
-all-saved zero g = grown-as refl (omega arith) (omega arith) g
-all-saved (suc k) {sc} {n} {s} g =
-    grown-as (scanned-append sc (plainEntry 1) (many k 1)) (omega arith) (omega arith) (all-saved k (one-saved g))
+module _ {status : ℕ} (entry : IsEntry (plainEntry status) 58 status 0) where
+  one-more : {sc : Scan} {n s : ℕ} → Grown sc n s → Grown (scanned sc (plainEntry status)) (n + 1) (s + savedCount status)
+  unfolding addEntry plainEntry
+  one-more g =
+      let m = entry-scan 58 entry (g .again) in
+      record {
+        again =
+            record {
+              at-is = m .at-is;
+              low-is = m .low-is;
+              named-is = m .named-is;
+              totals-is = refl;
+              hash-is = refl;
+              head-size = m .head-size;
+              head-is = m .head-is;
+            };
+        entries-is = ap (λ (t : Totals). t .entries) (m .totals-is) ∙ ap (λ (k : ℕ). k + 1) (g .entries-is);
+        saved-is = ap (λ (t : Totals). t .saved) (m .totals-is) ∙ ap (λ (k : ℕ). k + savedCount status) (g .saved-is);
+      }
 
-all-unsaved : (k : ℕ) {sc : Scan} {n s : ℕ} → Grown sc n s → Grown (scanned sc (many k 0)) (n + k) s
-unfolding many scanned
-all-unsaved zero g = grown-as refl (omega arith) refl g
-all-unsaved (suc k) {sc} {n} {s} g =
-    grown-as (scanned-append sc (plainEntry 0) (many k 0)) (omega arith) refl (all-unsaved k (one-unsaved g))
+  all-more : (k : ℕ) {sc : Scan} {n s : ℕ} → Grown sc n s → Grown (scanned sc (many k status)) (n + k) (s + k * savedCount status)
+  unfolding many scanned
+  all-more zero {sc} {n} {s} g = grown-as refl (omega arith) (omega (arith, zero-mul (savedCount status))) g
+  all-more (suc k) {sc} {n} {s} g =
+      grown-as (scanned-append sc (plainEntry status) (many k status)) (omega arith) (omega (arith, suc-mul k (savedCount status)))
+      (all-more k (one-more g))
 
 -- ---- bytes that end no entry
 
@@ -106,13 +89,13 @@ none-zeros : (n : ℕ) → lengthOf (replicate n 0) ≡ 0
 unfolding lengthOf entryAllowed entrySizeAllowed
 none-zeros n = simp (zeros-number 8 n 0)
 
-amid-zeros : (a : ℕ) {sc : Scan} → Ready sc → Mid (sc .totals) (sc .hash) (replicate a 0) (scanned sc (replicate a 0))
+amid-zeros : (a : ℕ) {t : Totals} {h : Md5} {sc : Scan} → Amid t h [] sc → Amid t h (replicate a 0) (scanned sc (replicate a 0))
 amid-zeros a m =
     runs (replicate a 0) [] (replicate a 0) [] (sym (append-nil (replicate a 0))) (λ j pos up is. omega (arith, none-zeros a)) m
 
 -- ---- all of it
 
-pub length-many : (k status : ℕ) → length (many k status) ≡ 58 * k
+length-many : (k status : ℕ) → length (many k status) ≡ 58 * k
 unfolding many plainEntry
 length-many zero status = refl
 length-many (suc k) status = length-append (plainEntry status) (many k status) ∙ omega (arith, length-many k status)
@@ -130,20 +113,21 @@ pub record ListCounts (sc : Scan) (a n s : ℕ) : Type 0 where
 
 start-grown : Grown scanStart 0 0
 unfolding scanStart
-start-grown = record { again = start-mid; entries-is = refl; saved-is = refl }
+start-grown = record { again = start-amid; entries-is = refl; saved-is = refl }
 
 pub list-counts : (a n s : ℕ) → s ≤ n → ListCounts (scanned scanStart (listWith a n s)) a n s
 unfolding listWith
 list-counts a n s h =
     let sc : Scan = scanned scanStart (many s 1 ++ many (n - s) 0) in
-    let total : s + (n - s) ≡ n = omega arith in
-    let g : Grown sc (0 + s + (n - s)) (0 + s) = grown-as (scanned-append scanStart (many s 1) (many (n - s) 0)) refl refl (all-unsaved (n - s) (all-saved s start-grown)) in
+    let g : Grown sc n s =
+    grown-as (scanned-append scanStart (many s 1) (many (n - s) 0)) (omega arith) (omega arith)
+    (all-more entry-unsaved (n - s) (all-more entry-saved s start-grown)) in
     let m = amid-zeros a (g .again) in
     let e = scanned-append scanStart (many s 1 ++ many (n - s) 0) (replicate a 0) in
     record {
       at-is = ap (λ (k : Scan). k .at) e ∙ m .at-is ∙ length-replicate {A = ℕ} a 0;
-      entries-is = ap (λ (k : Scan). k .totals .entries) e ∙ ap (λ (t : Totals). t .entries) (m .totals-is) ∙ g .entries-is ∙ omega arith;
-      saved-is = ap (λ (k : Scan). k .totals .saved) e ∙ ap (λ (t : Totals). t .saved) (m .totals-is) ∙ g .saved-is ∙ omega arith;
+      entries-is = ap (λ (k : Scan). k .totals .entries) e ∙ ap (λ (t : Totals). t .entries) (m .totals-is) ∙ g .entries-is;
+      saved-is = ap (λ (k : Scan). k .totals .saved) e ∙ ap (λ (t : Totals). t .saved) (m .totals-is) ∙ g .saved-is;
     }
 
 -- ---- they are bytes
@@ -152,7 +136,7 @@ bytes-cons : (a : ℕ) (s : List ℕ) → a < 256 → Bytes s → Bytes (a ∷ s
 bytes-cons a s h b zero = h
 bytes-cons a s h b (suc i) = b i
 
-pub bytes-zeros : (n : ℕ) → Bytes (replicate n 0)
+bytes-zeros : (n : ℕ) → Bytes (replicate n 0)
 bytes-zeros n i = omega (arith, zeros-at n i)
 
 bytes-entry : (status : ℕ) → status < 256 → Bytes (plainEntry status)

@@ -2,7 +2,9 @@
 --
 --   nameByte named at low b   whether the units of a name are allowed, where they were (named) before the byte b at place at, and low came before it
 --   isWhole head at named     whether the entry with these first 56 bytes ends after at bytes and keeps every rule
+--   scanWith head at low named t h    the scan with these parts
 --   entryEnded head t h       the scan after the entry with these first bytes, where t and h were the totals and the hash before it
+--   settled head at low named t h     that scan; where its entry ends, the one after it
 --   stepOf sc b               the scan sc after the byte b
 --   scanned sc l              the scan sc after the bytes l
 --   scanStart                 the scan before any byte
@@ -27,36 +29,24 @@ nameByte named at low b = cond (leb 56 at && eqb (at % 2) 1) (named && unitAllow
 unfoldable pub isWhole : List ℕ → ℕ → Bool → Bool
 isWhole head at named = eqb (entrySize head) at && (entrySizeAllowed at at && (fileSizeAllowed (fileSizeOf head) && named))
 
--- the next entry begins; what is left of these first bytes is written over as its own come
+abbrev pub scanWith : List ℕ → ℕ → ℕ → Bool → Totals → Md5 → Scan
+scanWith head at low named t h = record { head = head; at = at; low = low; named = named; totals = t; hash = h }
+
+-- the next entry begins; its first bytes are written over those of the last as they come
 unfoldable pub entryEnded : List ℕ → Totals → Md5 → Scan
 entryEnded head t h =
-    record {
-      head = head;
-      at = 0;
-      low = 0;
-      named = true;
-      totals = addEntry t (statusOf head) (fileSizeOf head);
-      hash = hashEntry h (statusOf head) (md5Of head);
-    }
+    scanWith head 0 0 true (addEntry t (statusOf head) (fileSizeOf head)) (hashEntry h (statusOf head) (md5Of head))
 
 -- an entry that breaks a rule never ends
+abbrev pub settled : List ℕ → ℕ → ℕ → Bool → Totals → Md5 → Scan
+settled head at low named t h = cond (isWhole head at named) (entryEnded head t h) (scanWith head at low named t h)
+
 unfoldable pub stepOf : Scan → ℕ → Scan
 stepOf sc b =
-    let head : List ℕ = set (sc .head) (sc .at) b in
-    let named : Bool = nameByte (sc .named) (sc .at) (sc .low) b in
-    cond (isWhole head (sc .at + 1) named) (entryEnded head (sc .totals) (sc .hash))
-    (record { head = head; at = sc .at + 1; low = b; named = named; totals = sc .totals; hash = sc .hash })
+    settled (set (sc .head) (sc .at) b) (sc .at + 1) b (nameByte (sc .named) (sc .at) (sc .low) b) (sc .totals) (sc .hash)
 
 unfoldable pub scanned : Scan → List ℕ → Scan
 scanned sc l = foldl stepOf sc l
 
 unfoldable pub scanStart : Scan
-scanStart =
-    record {
-      head = replicate 56 0;
-      at = 0;
-      low = 0;
-      named = true;
-      totals = record { entries = 0; saved = 0; greatest = 0 };
-      hash = stateOf [];
-    }
+scanStart = scanWith (replicate 56 0) 0 0 true (record { entries = 0; saved = 0; greatest = 0 }) (stateOf [])

@@ -30,12 +30,6 @@ pub struct Scan {
     pub hash: Md5,
 }
 
-// A run: how many bytes of an entry are taken at once, and whether the units of its name are allowed with them.
-struct Run {
-    length: usize,
-    named: bool,
-}
-
 // The scan before any byte.
 pub fn start() -> Scan
     ensures { λ r. ⌜ r ≡ scanStart ⌝ }
@@ -105,7 +99,7 @@ fn has_room(scan: Scan, more: u64) -> bool
 fn sum_fits(count: u64, more: u64) -> bool
     ensures { λ r. ⌜ r ≡ sumFits count more ⌝ }
 {
-    count <= 0xffff_ffff_ffff_ffff - more
+    count <= u64::MAX - more
 }
 
 // The scan after the bytes too, run by run.
@@ -149,15 +143,20 @@ fn after(scan: Scan, bytes: &[u8]) -> Scan
     }
 }
 
-// The run at the front of `rest`: what there is of the first bytes of the entry; or of its name, whole units up to its end, or a byte where
-// a unit is cut.
+// A run: how many bytes of an entry are taken at once, and whether the units of its name are allowed with them.
+struct Run {
+    length: usize,
+    named: bool,
+}
+
+// The run at the front of `rest`: what there is of the entry's first bytes; or of its name, whole units up to its end; or a byte where a unit is cut.
 fn next_run(head: &[u8; 56], at: u64, low: u8, named: bool, rest: &[u8]) -> Run
     requires { ⌜ (0 < length (now rest)) × (length (now head) ≡ 56) ⌝ }
     ensures { λ r. ⌜ IsRun (now (head .entry)) at low named (now (rest .entry)) r ⌝ }
 {
-    if at < 56 {
+    if at < entries::NAME_AT as u64 {
         return Run {
-            length: lesser(56 - at as usize, rest.len()),
+            length: lesser(entries::NAME_AT - at as usize, rest.len()),
             named,
         };
     }
@@ -177,7 +176,8 @@ fn next_run(head: &[u8; 56], at: u64, low: u8, named: bool, rest: &[u8]) -> Run
     }
 }
 
-// How many of `left` bytes of a name are whole units up to the end of the entry; up to the end of the bytes where it is past.
+// How many of `left` bytes from `at` on are whole units up to the end of an entry of `size` bytes; all that are whole where that is past. No entry
+// of an odd size ends.
 fn units_to_end(size: u64, at: u64, left: usize) -> usize
     requires { ⌜ 1 < left ⌝ }
     ensures { λ r. ⌜ (0 < r) × (r ≤ left) × (r % 2 ≡ 0) × ((size ≤ at) ⊎ (at + r ≤ size + 1)) ⌝ }
@@ -239,20 +239,21 @@ fn hashed(hash: Md5, head: &[u8; 56]) -> Md5
     ensures { λ r. ⌜ r ≡ hashEntry hash (statusOf (now (head .entry))) (md5Of (now (head .entry))) ⌝ }
 {
     let status = little_endian::read64(head, entries::STATUS_AT);
-    hashes::with_entry(hash, status, layout::part(head, entries::MD5_AT, layout::HASH_LENGTH))
+    hashes::with_entry(
+        hash,
+        status,
+        layout::part(head, entries::MD5_AT, layout::HASH_LENGTH),
+    )
 }
 
-// Whether the entry ends after `at` bytes.
+// Whether the entry ends after `at` bytes and keeps every rule.
 fn is_whole(head: &[u8; 56], at: u64, named: bool) -> bool
     ensures { λ r. ⌜ r ≡ isWhole (now (head .entry)) at named ⌝ }
 {
-    if at < 58 {
-        return false;
-    }
-    if at % 2 != 0 {
-        return false;
-    }
     if little_endian::read64(head, 0) != at {
+        return false;
+    }
+    if !entries::entry_size_allowed(at, at as usize) {
         return false;
     }
     if little_endian::read64(head, entries::FILE_SIZE_AT) > refusals::MAX_FILE_SIZE {
@@ -261,7 +262,7 @@ fn is_whole(head: &[u8; 56], at: u64, named: bool) -> bool
     named
 }
 
-// The rule that an entry breaks which does not end with the list, after `at` bytes.
+// The rule that an entry breaks of which the list has `at` bytes.
 fn fault_at(head: &[u8; 56], at: u64) -> Fault
     ensures { λ r. ⌜ r ≡ faultAt (now (head .entry)) at ⌝ }
 {

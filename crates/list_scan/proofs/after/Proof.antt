@@ -7,7 +7,8 @@ use native.Mathlib.Omega.{arith}
 use lib.ListN.{length, take, drop, length-drop}
 use denote.Ref.{now}
 use Rattle.lent_bytes.proofs.PartLaws.{part-to-end}
-use Rattle.list_scan.proofs.RunLaws.{scanWith, Kept, kept-start, kept-done, run-fits, run-length, run-ends, run-goes-on}
+use Rattle.list_scan.specs.Scan.{scanWith}
+use Rattle.list_scan.proofs.RunLaws.{Kept, kept-start, kept-done, run-fits, run-length, run-ends, run-goes-on}
 use borrow.Author.Needs.{needs}
 use Rattle.list_scan.proofs.after.Statement.{statement}
 use Rattle.list_scan.proofs.after.Tie as tie
@@ -36,13 +37,14 @@ next-run-requires c κs =
 
 -- where the run ends, and how many bytes it has
 ends-at : (c : tie.After-next-run Inv-loop μ-loop)
-    → c .before .before .before .before .loop .i + c .next-run .result .length ≤ length (now (c .before .before .before .before .before .before .before .before .before .args .bytes))
+    → let l = c .before .before .before .before in
+    l .loop .i + c .next-run .result .length ≤ length (now (l .before .before .before .before .before .args .bytes))
 ends-at c = run-fits _ _ _ (c .before .before .before .before .loop .inv) (c .next-run .ensures)
 
 size-is : (c : tie.After-next-run Inv-loop μ-loop)
-    → let n = c .next-run .result .length in
-    let i = c .before .before .before .before .loop .i in
-    let s = now (c .before .before .before .before .before .before .before .before .before .args .bytes) in length (take n (take (length s - i) (drop i s))) ≡ n
+    → let l = c .before .before .before .before in
+    let s = now (l .before .before .before .before .before .args .bytes) in
+    let n = c .next-run .result .length in length (take n (take (length s - l .loop .i) (drop (l .loop .i) s))) ≡ n
 size-is c = run-length _ _ _ (c .before .before .before .before .loop .inv) (c .next-run .ensures)
 
 slice-aggregate-taken : tie.Need-slice-aggregate-taken Inv-loop μ-loop
@@ -55,37 +57,46 @@ slice-aggregate-put : tie.Need-slice-aggregate-put Inv-loop μ-loop
 slice-aggregate-put c = sym (c .before .before .before .before .before .before .loop .inv .head-size)
 
 add-at : tie.Need-add-at Inv-loop μ-loop
-add-at c = let run = c .before .before .before .before in omega (arith, ends-at run, run .before .before .before .before .loop .inv .room .place)
+add-at c = let run = c .before .before .before .before in omega (arith, ends-at run, run .before .before .before .before .loop .inv .room .at-fits)
 
 added-requires : tie.Need-added-requires Inv-loop μ-loop
 added-requires c κs =
     let run = c .before .before .before .before .before .before .before .before in
     let room = run .before .before .before .before .loop .inv .room in
     let some = run .next-run .ensures .some in
-    (omega (arith, ends-at run, some, room .count), omega (arith, ends-at run, some, room .chosen))
+    (omega (arith, ends-at run, some, room .entries-fit), omega (arith, ends-at run, some, room .saved-fit))
 
 loop-less : tie.Need-loop-less Inv-loop μ-loop
-loop-less c = let run = c .before .before .before .before .before .before .before .before .before .before .before in omega (arith, ends-at run, run .next-run .ensures .some)
+loop-less c =
+    let run = c .before .before .before .before .before .before .before .before .before .before .before in
+    omega (arith, ends-at run, run .next-run .ensures .some)
 
 loop-again : tie.Need-loop-again Inv-loop μ-loop
 loop-again c =
-    let run = c .before .before .before .before .before .before .before .before .before .before .before in
-    run-ends _ _ _ (run .before .before .before .before .loop .inv) (run .next-run .ensures) (c .before .before .before .before .before .before .before .before .put .ensures)
-    (c .before .before .before .before .before .is-whole .ensures) (c .before .before .before .before .if1 .taken) (c .before .before .added .ensures) (c .hashed .ensures)
+    let tested = c .before .before .before .before in
+    let put = tested .before .before .before .before in
+    let run = put .before .before .before in
+    run-ends _ _ _ (run .before .before .before .before .loop .inv) (run .next-run .ensures) (put .put .ensures)
+    (tested .before .is-whole .ensures) (tested .if1 .taken) (c .before .before .added .ensures) (c .hashed .ensures)
 
 sub-low : tie.Need-sub-low Inv-loop μ-loop
 sub-low c = c .before .before .before .before .before .before .before .next-run .ensures .some
 
 shared-slice-read-low : tie.Need-shared-slice-read-low Inv-loop μ-loop
-shared-slice-read-low c = let run = c .before .before .before .before .before .before .before .before in omega (arith, size-is run, run .next-run .ensures .some)
+shared-slice-read-low c =
+    let run = c .before .before .before .before .before .before .before .before in
+    omega (arith, size-is run, run .next-run .ensures .some)
 
 loop-less-2 : tie.Need-loop-less-2 Inv-loop μ-loop
-loop-less-2 c = let run = c .before .before .before .before .before .before .before .before in omega (arith, ends-at run, run .next-run .ensures .some)
+loop-less-2 c =
+    let run = c .before .before .before .before .before .before .before .before in
+    omega (arith, ends-at run, run .next-run .ensures .some)
 
 loop-again-2 : tie.Need-loop-again-2 Inv-loop μ-loop
 loop-again-2 c =
-    let run = c .before .before .before .before .before .before .before .before in
-    run-goes-on _ _ _ (run .before .before .before .before .loop .inv) (run .next-run .ensures) (c .before .before .before .before .before .put .ensures)
+    let put = c .before .before .before .before .before in
+    let run = put .before .before .before in
+    run-goes-on _ _ _ (run .before .before .before .before .loop .inv) (run .next-run .ensures) (put .put .ensures)
     (c .before .before .is-whole .ensures) (c .before .if1 .left)
 
 returns : tie.Need-returns Inv-loop μ-loop

@@ -14,14 +14,24 @@ returns c = simp (sym (c .before .before .read64 .ensures), sym (c .before .entr
 returns-2 : tie.Need-returns-2
 unfolding faultAt
 returns-2 c =
-    let b = c .before .before .before in
-    simp (sym (b .before .before .read64 .ensures), sym (b .before .entry-size-allowed .ensures) ∙ not-false _ (b .if1 .left), sym (c .before .read642 .ensures), lt-leb _ _ (c .if2 .taken))
+    let sized = c .before .before .before in
+    simp (
+      sym (sized .before .before .read64 .ensures),
+      sym (sized .before .entry-size-allowed .ensures) ∙ not-false _ (sized .if1 .left),
+      sym (c .before .read642 .ensures),
+      lt-leb _ _ (c .if2 .taken),
+    )
 
 returns-3 : tie.Need-returns-3
 unfolding faultAt
 returns-3 c =
-    let b = c .before .before .before in
-    simp (sym (b .before .before .read64 .ensures), sym (b .before .entry-size-allowed .ensures) ∙ not-false _ (b .if1 .left), sym (c .before .read642 .ensures), le-leb _ _ (c .if2 .left))
+    let sized = c .before .before .before in
+    simp (
+      sym (sized .before .before .read64 .ensures),
+      sym (sized .before .entry-size-allowed .ensures) ∙ not-false _ (sized .if1 .left),
+      sym (c .before .read642 .ensures),
+      le-leb _ _ (c .if2 .left),
+    )
 
 pub fault-at-spec : {M : Type 1} → statement M
 fault-at-spec =

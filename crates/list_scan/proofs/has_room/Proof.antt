@@ -13,11 +13,20 @@ returns c = simp (sym (c .before .sum-fits .ensures) ∙ not-true _ (c .if1 .tak
 
 returns-2 : tie.Need-returns-2
 unfolding hasRoom
-returns-2 c = simp (sym (c .before .before .before .sum-fits .ensures) ∙ not-false _ (c .before .before .if1 .left), sym (c .before .sum-fits2 .ensures) ∙ not-true _ (c .if2 .taken))
+returns-2 c =
+    let first = c .before .before in
+    simp (sym (first .before .sum-fits .ensures) ∙ not-false _ (first .if1 .left), sym (c .before .sum-fits2 .ensures) ∙ not-true _ (c .if2 .taken))
 
 returns-3 : tie.Need-returns-3
 unfolding hasRoom
-returns-3 c = simp (sym (c .before .before .before .before .sum-fits .ensures) ∙ not-false _ (c .before .before .before .if1 .left), sym (c .before .before .sum-fits2 .ensures) ∙ not-false _ (c .before .if2 .left)) (c .sum-fits3 .ensures)
+returns-3 c =
+    let second = c .before in
+    let first = second .before .before in
+    simp (
+      sym (first .before .sum-fits .ensures) ∙ not-false _ (first .if1 .left),
+      sym (second .before .sum-fits2 .ensures) ∙ not-false _ (second .if2 .left),
+    )
+    (c .sum-fits3 .ensures)
 
 pub has-room-spec : {M : Type 1} → statement M
 has-room-spec =

@@ -11,8 +11,9 @@ use Rattle.list_scan.proofs.next_run.Tie as tie
 
 returns : tie.Need-returns
 returns c =
-    let a = c .before .before .before .args in
-    run-head (now (a .head)) (a .at) (a .low) (a .named) (now (a .rest)) (c .before .before .before .pre .0) (c .before .if1 .taken) (c .lesser .ensures)
+    let start = c .before .before .before in
+    let a = start .args in
+    run-head (now (a .head)) (a .at) (a .low) (a .named) (now (a .rest)) (start .pre .0) (c .before .if1 .taken) (c .lesser .ensures)
 
 returns-2 : tie.Need-returns-2
 returns-2 c =
