@@ -1,13 +1,13 @@
 -- The list of a Par 1.0 file, walked as its bytes come in (document 02, 2026-03).
 --
---   nameByte named at low b   whether the units of a name are allowed, where they were (named) before the byte b at place at, and low came before it
---   isWhole head at named     whether the entry with these first 56 bytes ends after at bytes and keeps every rule
+--   nameByte named at low b    whether the units of a name are allowed, where they were (named) before the byte b at place at, and low came before it
+--   isWhole head at named      whether the entry with these first 56 bytes ends after at bytes and keeps every rule
 --   scanWith head at low named t h    the scan with these parts
---   entryEnded head t h       the scan after the entry with these first bytes, where t and h were the totals and the hash before it
---   settled head at low named t h     that scan; where its entry ends, the one after it
---   stepOf sc b               the scan sc after the byte b
---   scanned sc l              the scan sc after the bytes l
---   scanStart                 the scan before any byte
+--   entryEnded head t h        the scan after the entry with these first bytes, where t and h were the totals and the hash before it
+--   settled head at low named t h     the scan with these parts; where its entry ends, the one after it
+--   stepOf sc b                the scan sc after the byte b
+--   scanned sc l               the scan sc after the bytes l
+--   scanStart                  the scan before any byte
 -- Assumes nothing.
 use Prim.Native.Nat.{ℕ, _+_, _*_, _%_}
 use mathlib.Core.Bool.{Bool, true, cond, _&&_}

@@ -1,9 +1,9 @@
 -- The hashes of a Par 1.0 file (document 01, "Byte layout").
 --
---   setHash es       the set hash of the entries es
---   hashEntry h st m     the running hash h after an entry with the status st and the whole-file MD5 m
---   controlHash f    the control hash of the file f
---   md5First m       the MD5 of the first 16,384 bytes of the contents m, of all of them where they are fewer
+--   setHash es         the set hash of the entries es
+--   hashEntry h st m   the running hash h after an entry with the status st and the whole-file MD5 m
+--   controlHash f      the control hash of the file f
+--   md5First m         the MD5 of the first 16,384 bytes of the contents m, of all of them where they are fewer
 -- Assumes nothing.
 use Prim.Native.Nat.{ℕ}
 use mathlib.Core.Bool.{cond}
