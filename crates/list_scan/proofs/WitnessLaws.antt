@@ -136,7 +136,7 @@ bytes-cons : (a : ℕ) (s : List ℕ) → a < 256 → Bytes s → Bytes (a ∷ s
 bytes-cons a s h b zero = h
 bytes-cons a s h b (suc i) = b i
 
-bytes-zeros : (n : ℕ) → Bytes (replicate n 0)
+pub bytes-zeros : (n : ℕ) → Bytes (replicate n 0)
 bytes-zeros n i = omega (arith, zeros-at n i)
 
 bytes-entry : (status : ℕ) → status < 256 → Bytes (plainEntry status)

@@ -36,8 +36,8 @@ use Rattle.par1_read.proofs.HeaderLaws.{header-alone}
 use Rattle.par1_read.proofs.RangeLaws.{from-within}
 use Rattle.list_scan.specs.declared.Scan.{Scan}
 use Rattle.list_scan.specs.Found.{faultAt, foundOf}
-use Rattle.list_scan.proofs.Mid.{order}
-use Rattle.list_scan.proofs.Walks.{found-walk, scan-set-hash}
+use Rattle.running_read.proofs.Order.{order}
+use Rattle.list_scan.proofs.WalkLaws.{found-walk, scan-set-hash}
 use Rattle.running_read.specs.declared.RunningRead.{RunningRead}
 use Rattle.running_read.specs.Running.{cap, readingOf}
 use Rattle.running_read.proofs.PartLaws.{headerOf, header-full}
@@ -72,7 +72,7 @@ unfolding readingOf jobAfter readOf
 after-end m h =
     let few = length-list m in
     let small = cap-small in
-    parts-same (headerOf m) (length m) (finish-state (drop 32 m)) (scan-set-hash (listOf m) (omega arith)) (found-walk (listOf m) (omega arith))
+    parts-same (headerOf m) (length m) (finish-state (drop 32 m)) (scan-set-hash (listOf m)) (found-walk (listOf m) (omega arith))
     ∙ kept-header m (controlHash m) (setHash (entriesIn m)) (walkOf (listOf m))
 
 -- ---- past the cap

@@ -2,6 +2,7 @@ pub mod AfterLaws
 pub mod Chunks
 pub mod EndLaws
 pub mod OpenLaws
+mod Order
 mod PartLaws
 mod PushLaws
 mod Witness

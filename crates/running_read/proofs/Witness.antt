@@ -18,8 +18,8 @@ use Rattle.par1_rules.specs.Layout.{listSizeOf, listOf}
 use Rattle.list_scan.specs.declared.Scan.{Scan}
 use Rattle.list_scan.specs.Scan.{scanned, scanStart}
 use Rattle.list_scan.specs.Witness.{many, listWith}
-use Rattle.list_scan.proofs.Mid.{order}
-use Rattle.list_scan.proofs.Witnesses.{ListCounts, length-list, list-counts, bytes-zeros, bytes-list}
+use Rattle.running_read.proofs.Order.{order}
+use Rattle.list_scan.proofs.WitnessLaws.{ListCounts, length-list, list-counts, bytes-zeros, bytes-list}
 use Rattle.running_read.specs.declared.Counts.{Counts}
 use Rattle.running_read.proofs.AfterLaws.{cap-small}
 use Rattle.running_read.proofs.OpenLaws.{Open}
