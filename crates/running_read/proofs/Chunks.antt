@@ -1,9 +1,12 @@
 -- A file that is read in chunks: the claims.
 --
 --   after-open       a job that pushes gave goes on
+--   pushed-more      a push after the bytes m
+--   ended-whole      the end after the bytes m
 --   Goes, Over       the job after the bytes m, and a job that is over
 --   read-follows     one by one the calls answer what they are to answer
 --   read-chunked     the claim over lists of chunks and of calls
+--   open-reached     the counts of a job that goes on are those of one push of bytes
 --   read-20          the claim on 20
 -- Assumes nothing.
 use mathlib.Core.Path.{_≡_, refl, sym, ap, _∙_}
@@ -16,6 +19,7 @@ use lib.Seq.{take-nil, take-all}
 use Rattle.cut_lists.specs.All.{all-none, all-more}
 use Rattle.jobs.specs.Claim.{Given}
 use Rattle.jobs.proofs.JobLaws.{Follows, pushes-follow, chunked, exactly-20}
+use Rattle.little_endian.specs.Bytes.{Bytes}
 use Rattle.refusals.specs.Tests.{bare}
 use Rattle.md5.specs.Running.{stateOf}
 use Rattle.par1_rules.specs.Layout.{listOf}
@@ -53,7 +57,7 @@ after-counts m h =
       set-is = c .hash-total;
     }
 
-take-most : (n : ℕ) (m : List ℕ) → length (take n m) ≤ n
+pub take-most : (n : ℕ) (m : List ℕ) → length (take n m) ≤ n
 take-most n m = omega (arith, length-take n m)
 
 pub after-open : (m : List ℕ) → isOpen (countsOf (jobAfter (take cap m))) ≡ true
@@ -67,7 +71,7 @@ Goes a m j = j ≡ jobAfter (take cap m)
 abbrev pub Over : RunningRead → Type 0
 Over j = j .ended ≡ true
 
-over-shut : (j : RunningRead) → Over j → isOpen (countsOf j) ≡ false
+pub over-shut : (j : RunningRead) → Over j → isOpen (countsOf j) ≡ false
 unfolding isOpen countsOf
 over-shut j e = simp e
 
@@ -76,19 +80,19 @@ row-more n m bs =
     let left : n - length (take n m) ≡ n - length m = omega (arith, length-take n m) in
     ap (λ (k : ℕ). take n m ++ take k bs) left ∙ sym (take-row n m bs)
 
-pushed-more : (m bs : List ℕ) → pushAnswer (jobAfter (take cap m)) bs ≡ record { number = 0; next = jobAfter (take cap (m ++ bs)) }
+pub pushed-more : (m bs : List ℕ) → pushAnswer (jobAfter (take cap m)) bs ≡ record { number = 0; next = jobAfter (take cap (m ++ bs)) }
 pushed-more m bs =
     push-open (jobAfter (take cap m)) bs (after-open m)
     ∙ ap (λ (j : RunningRead). record { number = 0; next = j })
     (after-push (take cap m) bs (take-most cap m) ∙ ap jobAfter (row-more cap m bs))
 
-ended-whole : (m : List ℕ) → endAnswer (jobAfter (take cap m)) ≡ record { reading = readOf m; next = overOf (jobAfter (take cap m)) }
+pub ended-whole : (m : List ℕ) → endAnswer (jobAfter (take cap m)) ≡ record { reading = readOf m; next = overOf (jobAfter (take cap m)) }
 ended-whole m =
     end-open (jobAfter (take cap m)) (after-open m)
     ∙ ap (λ (r : Reading). record { reading = r; next = overOf (jobAfter (take cap m)) })
     (after-end (take cap m) (take-most cap m) ∙ read-cap m)
 
-over-over : (j : RunningRead) → Over (overOf j)
+pub over-over : (j : RunningRead) → Over (overOf j)
 unfolding overOf
 over-over j = refl
 
@@ -163,22 +167,31 @@ gives-counts c o m g =
     same-counts (after-counts m (omega (arith, g .length-is, o .short))) o (g .length-is) (g .list-is .at-is) (g .list-is .entries-is)
     (g .list-is .saved-is)
 
+-- one push of the bytes m gives the counts of the job j
+pub record Reached (j : RunningRead) (m : List ℕ) : Type 0 where
+  pub are-bytes : Bytes m
+  pub short : length m ≤ cap
+  pub same : countsOf (jobAfter m) ≡ countsOf j
+
+pub open-reached : (j : RunningRead) → isOpen (countsOf j) ≡ true → (m : List ℕ) × Reached j m
+open-reached j e =
+    let o = open-tells (countsOf j) e in
+    let g = given (countsOf j) o in
+    (g .0, record { are-bytes = g .1 .are-bytes; short = omega (arith, g .1 .length-is, o .short); same = gives-counts (countsOf j) o (g .0) (g .1) })
+
 open-given : (j : RunningRead) → isOpen (countsOf j) ≡ true → Given readSteps readWhole countsOf j
 unfolding flatten
 open-given j e =
-    let o = open-tells (countsOf j) e in
-    let g = given (countsOf j) o in
+    let g = open-reached j e in
     let m : List ℕ = g .0 in
-    let all : take cap (m ++ []) ≡ m = ap (take cap) (append-nil m) ∙ take-all cap m (omega (arith, g .1 .length-is, o .short)) in
-    let short : length m < 2 ^ 63 = omega (arith, g .1 .length-is, o .short, cap-small) in
+    let all : take cap (m ++ []) ≡ m = ap (take cap) (append-nil m) ∙ take-all cap m (g .1 .short) in
+    let few : length m < 2 ^ 63 = omega (arith, g .1 .short, cap-small) in
+    let after = pushes-follow readSteps readWhole Goes Over read-follows tt [] startRead (m ∷ []) (read-follows .started tt .1) in
     record {
       by = tt;
       pushed = m ∷ [];
-      lendable = all-more (g .1 .are-bytes, short) all-none;
-      same =
-          ap countsOf
-          (pushes-follow readSteps readWhole Goes Over read-follows tt [] startRead (m ∷ []) (read-follows .started tt .1) ∙ ap jobAfter all)
-          ∙ gives-counts (countsOf j) o m (g .1);
+      lendable = all-more (g .1 .are-bytes, few) all-none;
+      same = ap countsOf (after ∙ ap jobAfter all) ∙ g .1 .same;
     }
 
 given-open : (j : RunningRead) → Given readSteps readWhole countsOf j → isOpen (countsOf j) ≡ true

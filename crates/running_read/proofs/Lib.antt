@@ -4,5 +4,5 @@ pub mod EndLaws
 pub mod OpenLaws
 mod Order
 mod PartLaws
-mod PushLaws
+pub mod PushLaws
 mod Witness

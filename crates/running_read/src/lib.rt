@@ -94,6 +94,22 @@ pub fn end(job: RunningRead) -> Ended
     }
 }
 
+// The job, over.
+pub fn over(job: RunningRead) -> RunningRead
+    ensures { λ r. ⌜ r ≡ overOf job ⌝ }
+{
+    let header = job.header;
+    let control = job.control;
+    let list = job.list;
+    RunningRead {
+        total: job.total,
+        header,
+        control,
+        list,
+        ended: true,
+    }
+}
+
 // What a job counts.
 fn counts_of(job: RunningRead) -> Counts
     ensures { λ r. ⌜ r ≡ countsOf job ⌝ }
@@ -193,22 +209,6 @@ fn reading_of(job: RunningRead) -> Reading
         &set,
         list_scan::found(list),
     )
-}
-
-// The job, over.
-fn over(job: RunningRead) -> RunningRead
-    ensures { λ r. ⌜ r ≡ overOf job ⌝ }
-{
-    let header = job.header;
-    let control = job.control;
-    let list = job.list;
-    RunningRead {
-        total: job.total,
-        header,
-        control,
-        list,
-        ended: true,
-    }
 }
 
 // `a` less `b`, 0 where b is more.
