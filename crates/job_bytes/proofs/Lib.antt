@@ -1,2 +1,3 @@
 pub mod MulAddChunks
 pub mod MulAddLaws
+pub mod ReadLaws

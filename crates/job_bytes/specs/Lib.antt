@@ -1,2 +1,4 @@
 pub mod Claim
+pub mod Marks
 pub mod MulAdds
+pub mod Reads

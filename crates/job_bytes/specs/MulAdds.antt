@@ -21,9 +21,10 @@ use Rattle.refusals.specs.Tests.{bare}
 use Rattle.running_mul_add.specs.Running.{mulAddFrom, startMulAdd, accepted, pushOf, endOf}
 use Rattle.running_mul_add.specs.declared.RunningMulAdd.{RunningMulAdd}
 use Rattle.running_mul_add.specs.declared.Outcome.{Outcome}
+use Rattle.job_bytes.specs.Marks.{markOf}
 
 unfoldable pub mulAddBytes : RunningMulAdd → List ℕ
-mulAddBytes s = numbers (s .weight ∷ s .position ∷ cond (s .ended) 1 0 ∷ [])
+mulAddBytes s = numbers (s .weight ∷ s .position ∷ markOf (s .ended) ∷ [])
 
 -- the weight is a byte
 unfoldable pub isMulAdd : List ℕ → Bool

@@ -1,7 +1,7 @@
 // A running mul_add in lent bytes: three numbers of 64 bits.
 ghost use mathlib.Core.Path.{_≡_};
-ghost use mathlib.Core.Bool.{cond};
 ghost use Rattle.job_bytes.specs.MulAdds.{mulAddBytes, mulAddOf, overMulAdd, mulAddStarted, mulAddStored};
+use crate::marks::mark;
 use lent_bytes::write;
 use little_endian::read64;
 use little_endian::write_numbers;
@@ -77,11 +77,4 @@ fn bytes_of(job: RunningMulAdd) -> [u8; LENGTH]
     let mut bytes = [0u8; LENGTH];
     write_numbers(&mut bytes, 0, &numbers);
     bytes
-}
-
-// 1 where a job is over, else 0.
-fn mark(ended: bool) -> u64
-    ensures { λ r. ⌜ r ≡ cond ended 1 0 ⌝ }
-{
-    if ended { 1 } else { 0 }
 }
