@@ -23,12 +23,11 @@ use Rattle.list_scan.specs.Room as scan
 use Rattle.list_scan.specs.Room.{sumFits, hasRoom}
 use Rattle.list_scan.specs.Scan.{scanned, scanStart}
 use Rattle.list_scan.proofs.CountLaws.{counted}
-use Rattle.running_read.proofs.Order.{order}
 use Rattle.list_scan.proofs.RoomLaws.{pushed-room}
 use Rattle.list_scan.proofs.WalkLaws.{scanned-append}
 use Rattle.running_read.specs.declared.RunningRead.{RunningRead}
 use Rattle.running_read.specs.Running.{cap, startRead, pushOf}
-use Rattle.running_read.proofs.PartLaws.{take-row, drop-row, headerOf, header-more, header-size}
+use Rattle.running_read.proofs.PartLaws.{order, take-row, drop-row, headerOf, header-more, header-size}
 
 unfoldable pub jobAfter : List ℕ → RunningRead
 jobAfter m = record { total = length m; header = headerOf m; control = stateOf (drop 32 m); list = scanned scanStart (listOf m); ended = false }

@@ -36,11 +36,10 @@ use Rattle.par1_read.proofs.HeaderLaws.{header-alone}
 use Rattle.par1_read.proofs.RangeLaws.{from-within}
 use Rattle.list_scan.specs.declared.Scan.{Scan}
 use Rattle.list_scan.specs.Found.{faultAt, foundOf}
-use Rattle.running_read.proofs.Order.{order}
 use Rattle.list_scan.proofs.WalkLaws.{found-walk, scan-set-hash}
 use Rattle.running_read.specs.declared.RunningRead.{RunningRead}
 use Rattle.running_read.specs.Running.{cap, readingOf}
-use Rattle.running_read.proofs.PartLaws.{headerOf, header-full}
+use Rattle.running_read.proofs.PartLaws.{order, headerOf, header-full}
 use Rattle.running_read.proofs.AfterLaws.{jobAfter, length-list, cap-small}
 
 -- ---- after any bytes

@@ -2,7 +2,6 @@ pub mod AfterLaws
 pub mod Chunks
 pub mod EndLaws
 pub mod OpenLaws
-mod Order
 mod PartLaws
 pub mod PushLaws
 mod Witness

@@ -1,16 +1,21 @@
 -- Parts of two lists in a row, and the header of a file whose bytes come in chunks.
 --
+--   order                 a number is below another, or not
 --   take-row, drop-row    the first elements of two lists in a row, and those after them
 --   headerOf m            the header after the bytes m: zeros where it has not come
 --   header-full           that of a file with a header is its first 96 bytes
 --   header-more           the header after some bytes more
 --   header-size           it says the size of the list
 -- Assumes nothing.
-use mathlib.Core.Path.{_≡_, sym, ap, _∙_}
+use mathlib.Core.Path.{_≡_, refl, sym, ap, _∙_}
+use mathlib.Core.Bool.{Bool, true, false}
+use mathlib.Core.Logic.{_⊎_, inl, inr}
 use mathlib.Core.List.{List, [], _∷_, _++_, append-nil}
-use Prim.Native.Nat.{ℕ, zero, suc, _-_, _≤_}
+use Prim.Native.Nat.{ℕ, zero, suc, _-_, _≤_, _<_}
 use native.Mathlib.Nat.{zero-add, sub-zero, zero-sub, suc-sub-suc}
 use native.Mathlib.Omega.{arith}
+use borrow.Author.Tests.{ltb-true, ltb-false}
+use lib.Dec.{ltb}
 use lib.ListN.{length, take, drop, replicate, drop-of-length-le, length-replicate}
 use lib.Seq.{sets, length-take-le}
 use Rattle.little_endian.specs.Bytes.{fromLe, leAt}
@@ -18,6 +23,13 @@ use Rattle.little_endian.proofs.Stores.{sets-append}
 use Rattle.lent_bytes.proofs.PartLaws.{part-take}
 use Rattle.lent_bytes.proofs.StoreLaws.{sets-over, sets-fitting}
 use Rattle.par1_rules.specs.Layout.{listSizeOf}
+
+pub order : (m n : ℕ) → (m < n) ⊎ (n ≤ m)
+order m n = by (ltb m n) refl
+  where
+    by : (t : Bool) → ltb m n ≡ t → (m < n) ⊎ (n ≤ m)
+    by true e = inl (ltb-true m n e)
+    by false e = inr (ltb-false m n e)
 
 pub take-row : (n : ℕ) (m r : List ℕ) → take n (m ++ r) ≡ take n m ++ take (n - length m) r
 take-row zero m r = sym (ap (λ (k : ℕ). take k r) (zero-sub (length m)))
