@@ -1,7 +1,8 @@
 -- The bytes of a running read, as the code works them out.
 --
 --   copied                       a part of bytes, stored over zeros
---   Sized, length-read           how many bytes a job has
+--   length-words, length-md5, length-scan, length-read   how many bytes four words, a hash, a scan and a job have
+--   Sized                        the arrays of a job have their lengths
 --   words-stored, md5-stored, scan-stored, read-stored   the parts of each, stored one after another
 --   read-of, read-none           392 bytes are the job in them, others one that is over
 --   stored-accepted, stored-refused   what is stored of a job
@@ -54,15 +55,15 @@ stored-on {t = t} {u = u} {ps = ps} k j size e is r = stored k size is (subst (�
 
 -- ---- lengths
 
-length-words : (w : Words) → length (wordsBytes w) ≡ 16
+pub length-words : (w : Words) → length (wordsBytes w) ≡ 16
 unfolding wordsBytes flatten
 length-words w = simp (length-append, length-toLe)
 
-length-md5 : (h : Md5) → length (h .tail) ≡ 64 → length (md5Bytes h) ≡ 88
+pub length-md5 : (h : Md5) → length (h .tail) ≡ 64 → length (md5Bytes h) ≡ 88
 unfolding md5Bytes flatten
 length-md5 h tail = simp (length-append, length-toLe, length-words, tail)
 
-length-scan : (sc : Scan) → length (sc .head) ≡ 56 → length (sc .hash .tail) ≡ 64 → length (scanBytes sc) ≡ 192
+pub length-scan : (sc : Scan) → length (sc .head) ≡ 56 → length (sc .hash .tail) ≡ 64 → length (scanBytes sc) ≡ 192
 unfolding scanBytes flatten
 length-scan sc head tail = simp (length-append, length-numbers, head, length-md5 (sc .hash) tail)
 
@@ -179,7 +180,7 @@ module _ (b : List ℕ) where
 -- ---- the calls
 
 -- what an end gives, from the answer of the job
-abbrev endedInto : Ended → List ℕ → List ℕ → Refusal × List ℕ × List ℕ
+abbrev pub endedInto : Ended → List ℕ → List ℕ → Refusal × List ℕ × List ℕ
 endedInto e b out =
     let answer = readInto (e .reading) out in (answer .0, readStored (jobNumber (answer .0 .number)) (e .next) b .1, answer .1)
 

@@ -6,11 +6,12 @@
 --   open-set      where all but the last hold, the last decides
 --   is-open       where they hold, the test passes
 --   tested        the test, as the code makes it
---   open-short    a job that goes on has at most the cap of bytes
+--   open-short, open-few    a job that goes on has at most the cap of bytes, and of entries
 -- Assumes nothing.
 use mathlib.Core.Path.{_≡_, refl, sym, ap, _∙_}
 use mathlib.Core.Bool.{Bool, true, false, not}
 use Prim.Native.Nat.{_+_, _-_, _*_, _≤_}
+use native.Mathlib.Omega.{arith}
 use lib.Dec.{leb, eqb}
 use borrow.Author.Tests.{not-true, leb-true, eqb-true, eq-eqb, le-leb}
 use Rattle.computed_tests.proofs.Tests.{and-both}
@@ -65,3 +66,7 @@ tested j e f = sym (f ∙ ap isOpen e)
 pub open-short : (j : RunningRead) → isOpen (countsOf j) ≡ true → j .total ≤ cap
 unfolding countsOf
 open-short j e = open-tells (countsOf j) e .short
+
+pub open-few : (j : RunningRead) → isOpen (countsOf j) ≡ true → j .list .totals .entries ≤ cap
+unfolding countsOf
+open-few j e = let o = open-tells (countsOf j) e in omega (arith, o .within, o .short)
