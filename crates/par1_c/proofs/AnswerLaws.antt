@@ -2,9 +2,9 @@
 --
 --   Answerable, answerable    a refusal of a list whose length is a u64, in numbers
 --   read-within               which refusals reading gives
---   read-answerable, volume-answerable    those of reading and of writing a volume
---   read-asked, volume-asked  the same, as what `answer` requires
---   read-told, volume-told    the claims
+--   read-answerable, volume-answerable, read-end-answerable    those of reading, of writing a volume and of the end of a running read
+--   read-asked, volume-asked, read-end-asked  the same, as what `answer` requires
+--   read-told, volume-told, read-end-told     the claims
 -- Assumes nothing.
 use mathlib.Core.Path.{_≡_, refl, sym, ap}
 use mathlib.Core.List.{List}
@@ -17,13 +17,15 @@ use Rattle.refusals.proofs.RangeLaws.{Within, bare-within}
 use Rattle.lent_bytes.specs.Writing.{withRefusal, writtenUnless}
 use Rattle.lent_bytes.proofs.WritingLaws.{unless-within}
 use Rattle.answer_bytes.specs.Results.{partsBytes, readInto}
+use Rattle.job_bytes.specs.Reads.{readEnded}
+use Rattle.job_bytes.proofs.ReadChunks.{ended-within}
 use Rattle.par1_read.specs.Reading.{readOf}
 use Rattle.par1_read.proofs.RangeLaws.{refusal-within}
 use Rattle.par1_read.proofs.ReadingLaws.{refusalOf, partsOf, read-accepted, read-refused}
 use Rattle.par1_write.specs.VolumeWriting.{writeVolumeOf}
 use Rattle.par1_write.proofs.VolumeWritingLaws.{volume-within}
 use Rattle.par1_c.specs.Answers.{Told}
-use Rattle.par1_c.specs.Claim.{ReadTold, VolumeTold}
+use Rattle.par1_c.specs.Claim.{ReadTold, VolumeTold, ReadEndTold}
 
 pub record Answerable (r : Refusal) : Type 0 where
   pub number-most : r .number < 32
@@ -58,6 +60,9 @@ pub volume-answerable : (program number : ℕ) (list area out : List ℕ) → le
     → Answerable (withRefusal (writeVolumeOf program number list area out) .0)
 volume-answerable program number list area out h = answerable (length list) _ h (volume-within program number list area out)
 
+read-end-answerable : (b out : List ℕ) → Answerable (readEnded b out .0)
+read-end-answerable b out = let w = ended-within b out in record { number-most = w .0; place-most = w .1 }
+
 asked : {r q : Refusal} → r ≡ q → Answerable q → (r .number < 32) × (r .place < 2 ^ 59)
 asked e a = rw e (a .number-most, a .place-most)
 
@@ -70,8 +75,14 @@ pub volume-asked : (program number : ℕ) (list area out : List ℕ) {r : Refusa
 volume-asked program number list area out h e =
     asked (ap (λ (p : Refusal × List ℕ). p .0) e) (volume-answerable program number list area out h)
 
+pub read-end-asked : (b out : List ℕ) {r : Refusal} {s t : List ℕ} → (r, s, t) ≡ readEnded b out → (r .number < 32) × (r .place < 2 ^ 59)
+read-end-asked b out e = asked (ap (λ (p : Refusal × List ℕ × List ℕ). p .0) e) (read-end-answerable b out)
+
 pub read-told : ReadTold
 read-told f out h = told _ (read-answerable f out h)
 
 pub volume-told : VolumeTold
 volume-told program number list area out h = told _ (volume-answerable program number list area out h)
+
+pub read-end-told : ReadEndTold
+read-end-told b out = told _ (read-end-answerable b out)

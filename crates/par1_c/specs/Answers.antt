@@ -2,6 +2,7 @@
 --
 --   answerOf r      the number of the refusal r, and 32 times its place
 --   answered w      what a call gives that answers so
+--   answeredEnd w   the same, where it is lent the bytes of a job too
 --   Told r          the number and the place are read off the answer, which 64 bits hold
 -- Assumes nothing.
 use mathlib.Core.Path.{_≡_}
@@ -14,6 +15,9 @@ answerOf r = r .number + 32 * r .place
 
 abbrev pub answered : Refusal × List ℕ → ℕ × List ℕ
 answered w = (answerOf (w .0), w .1)
+
+abbrev pub answeredEnd : Refusal × List ℕ × List ℕ → ℕ × List ℕ × List ℕ
+answeredEnd w = (answerOf (w .0), w .1, w .2)
 
 -- as PAR1_NUMBER and PAR1_VALUE do
 pub record Told (r : Refusal) : Type 0 where

@@ -3,6 +3,7 @@
 --
 --   ReadTold             the refusal of a file that is read is told by its answer
 --   VolumeTold           so is that of a volume that is written
+--   ReadEndTold          so is that of the end of a running read, whatever its bytes are
 --   OnBytes step s k     a call that changes s: its number, and the bytes of the inventory that it hands back, which bytes can hold again
 --   OpenedOnBytes        an opening with the bytes of the sizes is one with the sizes, and bytes can hold what it gives
 --   ChangedOnBytes       so are the calls that add and remove
@@ -16,6 +17,7 @@ use mathlib.Core.List.{List}
 use Prim.Native.Nat.{ℕ, _^_, _<_}
 use lib.ListN.{length, getD}
 use Rattle.answer_bytes.specs.Results.{readInto}
+use Rattle.job_bytes.specs.Reads.{readEnded}
 use Rattle.lent_bytes.specs.Writing.{withRefusal}
 use Rattle.parity.specs.Coefficient.{coefficient}
 use Rattle.par1_read.specs.Reading.{readOf}
@@ -40,6 +42,10 @@ ReadTold = (f out : List ℕ) → length f < 2 ^ 64 → Told (readInto (readOf f
 abbrev pub VolumeTold : Type 0
 VolumeTold =
     (program number : ℕ) (list area out : List ℕ) → length list < 2 ^ 64 → Told (withRefusal (writeVolumeOf program number list area out) .0)
+
+-- proved: proofs/AnswerLaws.antt, `read-end-told`
+abbrev pub ReadEndTold : Type 0
+ReadEndTold = (b out : List ℕ) → Told (readEnded b out .0)
 
 pub record OnBytes (step : Inventory → ℕ → Outcome) (s : Inventory) (k : ℕ) : Type 0 where
   pub gives : changedBy step k (inventoryBytes s) ≡ (step s k .number, inventoryBytes (step s k .next))

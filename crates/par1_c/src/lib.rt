@@ -18,6 +18,7 @@ ghost use Rattle.par1_c.specs.Answers.{answerOf, answered};
 mod hash;
 mod inventories;
 mod mul_adds;
+mod reads;
 
 use answer_bytes::put_answer;
 use answer_bytes::put_entry;
