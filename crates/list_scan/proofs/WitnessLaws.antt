@@ -11,7 +11,6 @@ use native.Mathlib.Nat.{zero-mul, suc-mul}
 use native.Mathlib.Omega.{arith}
 use lib.ListN.{length, getD, replicate, length-append, length-replicate}
 use Rattle.little_endian.specs.Bytes.{Bytes, fromLe, leAt}
-use Rattle.little_endian.proofs.Numbers.{bytes-append}
 use Rattle.little_endian.proofs.Reading.{leAt-suc}
 use Rattle.md5.specs.declared.Md5.{Md5}
 use Rattle.entries.specs.Entry.{savedCount, unitsOf, lengthOf}
@@ -132,11 +131,16 @@ list-counts a n s h =
 
 -- ---- they are bytes
 
+bytes-append : (l m : List ℕ) → Bytes l → Bytes m → Bytes (l ++ m)
+bytes-append [] m h k i = k i
+bytes-append (a ∷ l) m h k zero = h 0
+bytes-append (a ∷ l) m h k (suc i) = bytes-append l m (λ p. h (suc p)) k i
+
 bytes-cons : (a : ℕ) (s : List ℕ) → a < 256 → Bytes s → Bytes (a ∷ s)
 bytes-cons a s h b zero = h
 bytes-cons a s h b (suc i) = b i
 
-pub bytes-zeros : (n : ℕ) → Bytes (replicate n 0)
+bytes-zeros : (n : ℕ) → Bytes (replicate n 0)
 bytes-zeros n i = omega (arith, zeros-at n i)
 
 bytes-entry : (status : ℕ) → status < 256 → Bytes (plainEntry status)
