@@ -9,8 +9,8 @@
  * bytes of `out` past those written stay as they were. The pointer is not NULL, also where the length is 0: lend the address of any byte. Bytes
  * that a call writes must not overlap others that it is lent. Numbers in lent bytes are 64 bits wide, lowest byte first.
  *
- * Stack: par1_query takes 66 KiB; par1_md5, par1_read, par1_write_entry, par1_write_volume, par1_check and par1_open less than 3 KiB; the
- * others less than 1 KiB (measured, docs/BENCHMARKS.md).
+ * Stack: par1_query takes 66 KiB; par1_md5, par1_read, par1_write_entry, par1_write_volume, par1_check, par1_open, par1_hash_push, par1_hash_end
+ * and the calls on a reading in chunks less than 4 KiB; the others less than 1 KiB (measured, docs/BENCHMARKS.md).
  */
 #ifndef PAR1_H
 #define PAR1_H
@@ -133,11 +133,11 @@ par1_answer par1_write_volume(uint32_t program, uint64_t number, const uint8_t *
 uint32_t par1_check(const uint8_t *entry, size_t entry_len, const uint8_t *contents, size_t contents_len);
 
 /* Jobs: hashing, mul_add and reading of what is too long to hold. A job is started, pushed to any number of times, with chunks of any length, 0
- * too, and ended; however the input is cut, the end gives what par1_md5, par1_mul_add or par1_read gives for the whole of it. The caller owns
+ * too, and ended; however the input is cut, after the end there is what par1_md5, par1_mul_add or par1_read gives for the whole of it. The caller owns
  * the job: it may be copied or moved between calls, and started again at any time, running or over.
  *
  * A push or an end refuses with 20, first of all, a job that is over, that has another length, or whose counts no run of pushes gives; then
- * nothing changes. Any other refusal comes at the end only, so a push answers 0 or 20. An end that is not refused with 20 ends the job, also
+ * nothing changes. Any other refusal of theirs comes at the end only, so a push answers 0 or 20. An end that is not refused with 20 ends the job, also
  * where it is refused with another number. */
 
 /* A running hash, 96 bytes. `words` are MD5's A, B, C, D after the whole blocks so far; `tail` has the total % 64 bytes that wait for the
