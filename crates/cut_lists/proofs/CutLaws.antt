@@ -1,5 +1,6 @@
 -- What cutting a list gives, said without the bound in its definition.
 --
+--   ifZero-pos     ifZero, where the number is not 0
 --   cut-none, cut-stop, cut-more     cut, as equations: the empty list, no first piece, a first piece and what follows it
 --   cut-induct     what holds in these three cases holds of every list
 --   cut-joins      the pieces and the rest, joined, are the list
@@ -20,7 +21,7 @@ use Rattle.cut_lists.specs.Pieces.{Cut, none, before, ifZero, cutIn, cut
 -- ---- cut, as equations
 
 module _ {A : Type 0} where
-  ifZero-pos : (n : ℕ) (a b : A) → 0 < n → ifZero n a b ≡ b
+  pub ifZero-pos : (n : ℕ) (a b : A) → 0 < n → ifZero n a b ≡ b
   ifZero-pos zero a b h = absurd (omega arith)
   ifZero-pos (suc n) a b h = refl
 

@@ -1,11 +1,11 @@
 -- What a scan found, as the code works it out.
 --
---   if-not-zero      the other case of ifZero
 --   found-refused    amid an entry the list is refused
 -- Assumes nothing.
-use mathlib.Core.Path.{_≡_, refl, sym, ap, ap₂, _∙_}
-use Prim.Native.Nat.{ℕ, zero, suc, _+_, _%_, _^_}
-use Rattle.cut_lists.specs.Pieces.{ifZero}
+use mathlib.Core.Path.{_≡_, sym, ap, ap₂, _∙_}
+use Prim.Native.Nat.{ℕ, _+_, _%_, _^_}
+use native.Mathlib.Nat.{pos-of-ne-zero}
+use Rattle.cut_lists.proofs.CutLaws.{ifZero-pos}
 use Rattle.refusals.specs.declared.Refusal.{Refusal}
 use Rattle.entries.specs.Walk.{refusalAt}
 use Rattle.entries.specs.declared.Fault.{Fault}
@@ -13,12 +13,8 @@ use Rattle.entries.specs.declared.Walked.the-variants as walked
 use Rattle.list_scan.specs.declared.Scan.{Scan}
 use Rattle.list_scan.specs.Found.{faultAt, foundOf}
 
-pub if-not-zero : {A : Type 0} (n : ℕ) (a b : A) → (n ≡ 0 → ⊥) → ifZero n a b ≡ b
-if-not-zero zero a b h = absurd (h refl)
-if-not-zero (suc n) a b h = refl
-
 pub found-refused : (sc : Scan) {f : Fault} {n : ℕ} {r : Refusal} → (sc .at ≡ 0 → ⊥) → f ≡ faultAt (sc .head) (sc .at)
     → n ≡ (sc .totals .entries + 1) % 2 ^ 64 → r ≡ refusalAt f n → walked.Refused r ≡ foundOf sc
 unfolding foundOf
 found-refused sc h e g i =
-    ap walked.Refused i ∙ ap₂ (λ (f : Fault) (n : ℕ). walked.Refused (refusalAt f n)) e g ∙ sym (if-not-zero (sc .at) _ _ h)
+    ap walked.Refused i ∙ ap₂ (λ (f : Fault) (n : ℕ). walked.Refused (refusalAt f n)) e g ∙ sym (ifZero-pos (sc .at) _ _ (pos-of-ne-zero h))

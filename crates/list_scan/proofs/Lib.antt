@@ -6,4 +6,5 @@ pub mod RoomLaws
 pub mod RunLaws
 pub mod StepLaws
 pub mod WalkLaws
+pub mod Witness
 pub mod WitnessLaws

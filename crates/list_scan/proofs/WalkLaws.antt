@@ -1,8 +1,10 @@
 -- The scan over a list is the walk over it.
 --
 --   scanned-append     bytes that come in two parts
+--   scanned-join       the first n bytes, and the others
 --   runs               bytes that end no entry leave the scan amid one
 --   entry-scan         the bytes of an entry
+--   start-amid         before any byte
 --   found-walk         the scan over a list finds what the walk over it finds
 --   scan-set-hash      its hash ends in the set hash
 -- Assumes nothing.
@@ -15,7 +17,7 @@ use native.Mathlib.Omega.{arith}
 use lib.ListN.{length, take, drop, getD, length-append, length-drop, take-append-drop}
 use lib.Seq.{take-suc, length-take-le}
 use Rattle.cut_lists.specs.Pieces.{Cut}
-use Rattle.cut_lists.proofs.CutLaws.{cut-none, cut-stop}
+use Rattle.cut_lists.proofs.CutLaws.{ifZero-pos, cut-none, cut-stop}
 use Rattle.md5.specs.declared.Md5.{Md5}
 use Rattle.md5.specs.Running.{stateOf, finished}
 use Rattle.entries.specs.Entry.{statusOf, fileSizeOf, md5Of, unitsAllowed, unitsOf, lengthOf}
@@ -34,7 +36,6 @@ use Rattle.list_scan.specs.declared.Scan.{Scan}
 use Rattle.list_scan.specs.Scan.{stepOf, scanned, scanStart}
 use Rattle.list_scan.specs.Found.{foundOf}
 use Rattle.list_scan.proofs.Amid.{whole, whole-keeps, keeps-whole, Amid, step-more, step-whole, fault-is}
-use Rattle.list_scan.proofs.FoundLaws.{if-not-zero}
 
 pub scanned-append : (sc : Scan) (l m : List ℕ) → scanned sc (l ++ m) ≡ scanned (scanned sc l) m
 unfolding scanned
@@ -102,7 +103,7 @@ unfolding foundOf
 found-amid {t} {h} {p} {sc} m some fits =
     let place : (sc .totals .entries + 1) % 2 ^ 64 ≡ t .entries + 1 =
     ap (λ (u : Totals). (u .entries + 1) % 2 ^ 64) (m .totals-is) ∙ omega arith in
-    if-not-zero (sc .at) _ _ (λ e. omega (arith, m .at-is))
+    ifZero-pos (sc .at) _ _ (omega (arith, m .at-is))
     ∙ ap₂ (λ (f : Fault) (n : ℕ). walked.Refused (refusalAt f n)) (fault-is m) place
 
 -- ---- the whole list

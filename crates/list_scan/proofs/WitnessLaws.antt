@@ -1,8 +1,9 @@
 -- The counts that a scan may have, each with a list that gives them.
 --
 --   length-list                the list has so many bytes
---   bytes-list                 they are bytes
 --   ListCounts, list-counts    the scan over it has these counts
+--   bytes-zeros                zeros are bytes
+--   bytes-list                 those of the list are
 -- Assumes nothing.
 use mathlib.Core.Path.{_≡_, refl, sym, ap, _∙_, subst}
 use mathlib.Core.List.{List, [], _∷_, _++_, append-nil}
@@ -11,6 +12,7 @@ use native.Mathlib.Nat.{zero-mul, suc-mul}
 use native.Mathlib.Omega.{arith}
 use lib.ListN.{length, getD, replicate, length-append, length-replicate}
 use Rattle.little_endian.specs.Bytes.{Bytes, fromLe, leAt}
+use Rattle.little_endian.proofs.Numbers.{bytes-append}
 use Rattle.little_endian.proofs.Reading.{leAt-suc}
 use Rattle.md5.specs.declared.Md5.{Md5}
 use Rattle.entries.specs.Entry.{savedCount, unitsOf, lengthOf}
@@ -20,8 +22,8 @@ use Rattle.entries.specs.declared.Totals.{Totals}
 use Rattle.entries.proofs.EntryLaws.{IsEntry, is-entry}
 use Rattle.list_scan.specs.declared.Scan.{Scan}
 use Rattle.list_scan.specs.Scan.{scanned, scanStart}
-use Rattle.list_scan.specs.Witness.{plainEntry, many, listWith}
 use Rattle.list_scan.proofs.Amid.{Amid}
+use Rattle.list_scan.proofs.Witness.{plainEntry, many, listWith}
 use Rattle.list_scan.proofs.WalkLaws.{runs, entry-scan, start-amid, scanned-append}
 
 -- ---- entries
@@ -131,16 +133,11 @@ list-counts a n s h =
 
 -- ---- they are bytes
 
-bytes-append : (l m : List ℕ) → Bytes l → Bytes m → Bytes (l ++ m)
-bytes-append [] m h k i = k i
-bytes-append (a ∷ l) m h k zero = h 0
-bytes-append (a ∷ l) m h k (suc i) = bytes-append l m (λ p. h (suc p)) k i
-
 bytes-cons : (a : ℕ) (s : List ℕ) → a < 256 → Bytes s → Bytes (a ∷ s)
 bytes-cons a s h b zero = h
 bytes-cons a s h b (suc i) = b i
 
-bytes-zeros : (n : ℕ) → Bytes (replicate n 0)
+pub bytes-zeros : (n : ℕ) → Bytes (replicate n 0)
 bytes-zeros n i = omega (arith, zeros-at n i)
 
 bytes-entry : (status : ℕ) → status < 256 → Bytes (plainEntry status)

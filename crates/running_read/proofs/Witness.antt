@@ -7,8 +7,8 @@
 use mathlib.Core.Path.{_≡_, refl, sym, ap, ap₂, _∙_}
 use mathlib.Core.Logic.{_⊎_, inl, inr}
 use mathlib.Core.List.{List, [], _++_, append-assoc}
-use Prim.Native.Nat.{ℕ, zero, suc, _+_, _-_, _*_, _^_, _≤_, _<_}
-use native.Mathlib.Nat.{mod-eq-of-lt, zero-lt-suc}
+use Prim.Native.Nat.{ℕ, _+_, _-_, _*_, _^_, _≤_, _<_}
+use native.Mathlib.Nat.{mod-eq-of-lt}
 use native.Mathlib.Omega.{arith}
 use lib.ListN.{length, take, drop, replicate, length-append, length-replicate, drop-of-length-le}
 use lib.Seq.{take-nil, take-at, drop-at}
@@ -17,17 +17,12 @@ use Rattle.little_endian.proofs.Numbers.{length-toLe, from-to, bytes-append, by
 use Rattle.par1_rules.specs.Layout.{listSizeOf, listOf}
 use Rattle.list_scan.specs.declared.Scan.{Scan}
 use Rattle.list_scan.specs.Scan.{scanned, scanStart}
-use Rattle.list_scan.specs.Witness.{many, listWith}
-use Rattle.list_scan.proofs.WitnessLaws.{ListCounts, length-list, list-counts, bytes-list}
+use Rattle.list_scan.proofs.Witness.{many, listWith}
+use Rattle.list_scan.proofs.WitnessLaws.{ListCounts, length-list, list-counts, bytes-zeros, bytes-list}
 use Rattle.running_read.specs.declared.Counts.{Counts}
 use Rattle.running_read.proofs.AfterLaws.{cap-small}
 use Rattle.running_read.proofs.OpenLaws.{Open}
 use Rattle.running_read.proofs.PartLaws.{order}
-
-bytes-zeros : (n : ℕ) → Bytes (replicate n 0)
-bytes-zeros zero i = zero-lt-suc 255
-bytes-zeros (suc n) zero = zero-lt-suc 255
-bytes-zeros (suc n) (suc i) = bytes-zeros n i
 
 abbrev headerWith : ℕ → List ℕ
 headerWith n = replicate 72 0 ++ (toLe 8 n ++ replicate 16 0)
