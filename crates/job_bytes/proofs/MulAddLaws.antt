@@ -3,7 +3,6 @@
 --   is-mul-add, others, heavy, marked   which bytes are a job that is not over
 --   Tests, tests                        what is known of bytes that are
 --   loaded-going, loaded-over           what is loaded then, and else
---   length-mul-add                      the bytes of a job are 24
 --   loaded-back, loaded-ended           the bytes of a job are that job; where it is over, they are none
 --   stored-back                         bytes that are a job are its bytes
 --   stored-accepted, stored-refused     what an outcome stores
@@ -72,7 +71,7 @@ module _ (b : List ℕ) where
 
 -- ---- there and back
 
-pub length-mul-add : (s : RunningMulAdd) → length (mulAddBytes s) ≡ 24
+length-mul-add : (s : RunningMulAdd) → length (mulAddBytes s) ≡ 24
 unfolding mulAddBytes
 length-mul-add s = length-numbers (s .weight ∷ s .position ∷ cond (s .ended) 1 0 ∷ [])
 

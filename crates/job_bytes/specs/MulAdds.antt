@@ -9,9 +9,8 @@
 --   mulAddPushed b fragment buffer   the number of a push on the job in the bytes b, and what b and the buffer then hold
 --   mulAddEnded b            the number of an end, and what the bytes b then hold
 -- Assumes nothing.
-use mathlib.Core.Bool.{Bool, cond, _&&_}
+use mathlib.Core.Bool.{Bool, true, cond, _&&_}
 use mathlib.Core.List.{List, [], _∷_}
-use mathlib.Core.Bool.{true}
 use Prim.Native.Nat.{ℕ}
 use lib.Dec.{leb, eqb}
 use lib.ListN.{length}

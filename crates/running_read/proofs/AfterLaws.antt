@@ -2,6 +2,8 @@
 --
 --   jobAfter m       the job after the bytes m
 --   after-start      before any byte
+--   length-list      the list in the bytes m is no longer than what they have past the header
+--   cap-small        the cap is far below what 64 bits can hold
 --   after-push       after a push
 -- Assumes nothing.
 use mathlib.Core.Path.{_≡_, refl, sym, ap, ap₂, _∙_}
