@@ -5,21 +5,21 @@
 --   mul-add-bytes-one-buffer     pushes into one buffer
 -- Assumes nothing.
 use mathlib.Core.Path.{_≡_, refl, sym, ap, _∙_}
-use mathlib.Core.Bool.{Bool, true, false}
+use mathlib.Core.Bool.{true, false}
 use mathlib.Core.List.{List, [], _∷_, _++_, map, flatten}
 use Prim.Native.Nat.{ℕ, _^_, _<_}
 use native.Mathlib.Omega.{arith}
 use lib.ListN.{length, replicate}
 use Rattle.jobs.specs.Job.{afterPushes}
-use Rattle.jobs.specs.Claim.{Given}
-use Rattle.jobs.proofs.JobLaws.{Follows, pushes-follow, chunked, exactly-20}
+use Rattle.jobs.specs.Claim.{lendLimit, Given}
+use Rattle.jobs.proofs.JobLaws.{Follows, pushes-follow, chunked, exactly-20, ones-lendable, length-ones}
 use Rattle.little_endian.specs.Bytes.{Bytes, leAt}
 use Rattle.little_endian.proofs.Reading.{leAt-below}
 use Rattle.running_mul_add.specs.Running.{mulAddAt, mulAddFrom, startMulAdd, positionAfter, accepted, pushOf, endOf}
 use Rattle.running_mul_add.specs.Claim.{Push, pushedInto}
 use Rattle.running_mul_add.specs.declared.RunningMulAdd.{RunningMulAdd}
 use Rattle.running_mul_add.specs.declared.Outcome.{Outcome}
-use Rattle.running_mul_add.proofs.Chunks.{positionOf, goes-on, one, all-lendable, length-ones, one-buffer}
+use Rattle.running_mul_add.proofs.Chunks.{positionOf, goes-on, one, one-buffer}
 use Rattle.running_mul_add.proofs.PushLaws.{push-over, push-going, end-over, end-going}
 use Rattle.job_bytes.specs.MulAdds.{mulAddBytes, isMulAdd, overMulAdd, mulAddOf, mulAddStored, mulAddStarted, mulAddPushed, mulAddEnded}
 use Rattle.job_bytes.specs.Claim.{MulAddStart, mulAddByteSteps, mulAddByteWhole, MulAddBytesChunked, MulAddBytes20}
@@ -55,16 +55,13 @@ module _ (b : List ℕ) (none : isMulAdd b ≡ false) where
 abbrev Goes : MulAddStart → List ℕ → List ℕ → Type 0
 Goes a m b = b ≡ mulAddBytes (mulAddFrom (a .weight) (positionOf (length m)))
 
-abbrev Over : List ℕ → Type 0
-Over b = isMulAdd b ≡ false
-
 -- the bytes of a job that goes on are that job
 going : (a : MulAddStart) (m b : List ℕ) → Goes a m b → (isMulAdd b ≡ true) × (mulAddOf b ≡ mulAddFrom (a .weight) (positionOf (length m)))
 going a m b g =
     let back = loaded-back (a .weight) (positionOf (length m)) (a .byte) (omega arith) in
     (ap isMulAdd g ∙ back .0, ap mulAddOf g ∙ back .1)
 
-pushed-going : (a : MulAddStart) (m b fragment buffer : List ℕ) → length buffer < 2 ^ 63 → Goes a m b
+pushed-going : (a : MulAddStart) (m b fragment buffer : List ℕ) → length buffer < lendLimit → Goes a m b
     → mulAddPushed b fragment buffer
     ≡ (0, mulAddBytes (mulAddFrom (a .weight) (positionOf (length (m ++ fragment)))), mulAddAt (a .weight) (length m) fragment buffer)
 pushed-going a m b fragment buffer h g =
@@ -78,7 +75,24 @@ ended-going a m b g = let job = going a m b g in ended-on-job b (job .0) (job .1
 started-whole : (a : MulAddStart) → mulAddStarted (a .weight) (a .room) ≡ (0, mulAddBytes (startMulAdd (a .weight)))
 started-whole a = stored-accepted (startMulAdd (a .weight)) (a .room) (a .whole)
 
-follows : Follows mulAddByteSteps mulAddByteWhole Goes Over
+-- ---- 20 where bytes are no job, and nowhere else
+
+push-taken : (b : List ℕ) (p : Push) → isMulAdd b ≡ true → mulAddByteSteps .pushes b p .0 .0 ≡ 20 → ⊥
+push-taken b p is e =
+    let s = mulAddFrom (leAt 8 b 0) (leAt 8 b 8) in
+    let taken = ap (λ (r : ℕ × List ℕ × List ℕ). r .0)
+    (pushed-on-job b is (loaded-going b is) (p .fragment) (p .buffer) (push-going s (p .fragment) (p .buffer) refl refl refl)) in
+    omega arith
+
+end-taken : (b : List ℕ) (u : Unit {0}) → isMulAdd b ≡ true → mulAddEnded b .0 ≡ 20 → ⊥
+end-taken b u is e =
+    let s = mulAddFrom (leAt 8 b 0) (leAt 8 b 8) in
+    let taken = ap (λ (r : ℕ × List ℕ). r .0) (ended-on-job b is (loaded-going b is) (end-going s refl)) in
+    omega arith
+
+-- ---- over lists
+
+follows : Follows mulAddByteSteps mulAddByteWhole Goes isMulAdd
 follows =
     record {
       started = λ a. let e = started-whole a in (ap (λ (r : ℕ × List ℕ). (r .0, [])) e, ap (λ (r : ℕ × List ℕ). r .1) e);
@@ -90,61 +104,35 @@ follows =
             ap (λ (r : ℕ × List ℕ). (r .0, [])) e,
             ap (λ (r : ℕ × List ℕ). isMulAdd (r .1)) e ∙ loaded-ended (a .weight) (positionOf (length m)) (a .byte) (omega arith),
           );
-      pushed-over = λ b p o.
-          let e = pushed-on-others b o (p .fragment) (p .buffer) in
-          (ap (λ (r : ℕ × List ℕ × List ℕ). (r .0, r .2)) e, ap (λ (r : ℕ × List ℕ × List ℕ). isMulAdd (r .1)) e ∙ o);
-      ended-over = λ b u o.
-          let e = ended-on-others b o in
-          (ap (λ (r : ℕ × List ℕ). (r .0, [])) e, ap (λ (r : ℕ × List ℕ). isMulAdd (r .1)) e ∙ o);
+      push-taken = push-taken;
+      end-taken = end-taken;
+      push-refused = λ b p o. ap (λ (r : ℕ × List ℕ × List ℕ). ((r .0, r .2), r .1)) (pushed-on-others b o (p .fragment) (p .buffer));
+      end-refused = λ b u o. ap (λ (r : ℕ × List ℕ). ((r .0, []), r .1)) (ended-on-others b o);
+      push-20 = λ p. refl;
+      end-20 = λ u. refl;
     }
 
--- ---- 20, and nothing else, changes nothing
-
-push-taken : (b : List ℕ) (p : Push) → isMulAdd b ≡ true → mulAddByteSteps .pushes b p .0 ≡ (20, p .buffer) → ⊥
-push-taken b p is e =
-    let s = mulAddFrom (leAt 8 b 0) (leAt 8 b 8) in
-    let taken = ap (λ (r : ℕ × List ℕ × List ℕ). r .0)
-    (pushed-on-job b is (loaded-going b is) (p .fragment) (p .buffer) (push-going s (p .fragment) (p .buffer) refl refl refl)) in
-    let twenty = ap (λ (r : ℕ × List ℕ). r .0) e in
-    omega arith
-
-end-taken : (b : List ℕ) (u : Unit {0}) → isMulAdd b ≡ true → mulAddByteSteps .ends b u .0 ≡ (20, []) → ⊥
-end-taken b u is e =
-    let s = mulAddFrom (leAt 8 b 0) (leAt 8 b 8) in
-    let taken = ap (λ (r : ℕ × List ℕ). r .0) (ended-on-job b is (loaded-going b is) (end-going s refl)) in
-    let twenty = ap (λ (r : ℕ × List ℕ). r .0) e in
-    omega arith
-
 pub mul-add-bytes-chunked : MulAddBytesChunked
-mul-add-bytes-chunked =
-    chunked mulAddByteSteps mulAddByteWhole Goes Over follows (λ b p. by-push b p (isMulAdd b) refl) (λ b u. by-end b u (isMulAdd b) refl)
-  where
-    by-push : (b : List ℕ) (p : Push) (t : Bool) → isMulAdd b ≡ t → mulAddByteSteps .pushes b p .0 ≡ (20, p .buffer)
-        → mulAddByteSteps .pushes b p .1 ≡ b
-    by-push b p true is e = absurd (push-taken b p is e)
-    by-push b p false none e = ap (λ (r : ℕ × List ℕ × List ℕ). r .1) (pushed-on-others b none (p .fragment) (p .buffer))
-
-    by-end : (b : List ℕ) (u : Unit {0}) (t : Bool) → isMulAdd b ≡ t → mulAddByteSteps .ends b u .0 ≡ (20, []) → mulAddByteSteps .ends b u .1 ≡ b
-    by-end b u true is e = absurd (end-taken b u is e)
-    by-end b u false none e = ap (λ (r : ℕ × List ℕ). r .1) (ended-on-others b none)
+mul-add-bytes-chunked = chunked mulAddByteSteps mulAddByteWhole Goes isMulAdd follows
 
 -- ---- the bytes that pushes give
 
 after-pushes : (a : MulAddStart) (ps : List Push)
     → afterPushes mulAddByteSteps (mulAddByteSteps .starts a .1) ps
     ≡ mulAddBytes (mulAddFrom (a .weight) (positionOf (length (flatten (map (mulAddByteWhole .chunk) ps)))))
-after-pushes a ps = pushes-follow mulAddByteSteps mulAddByteWhole Goes Over follows a [] (mulAddByteSteps .starts a .1) ps (follows .started a .1)
+after-pushes a ps = pushes-follow mulAddByteSteps mulAddByteWhole Goes isMulAdd follows a [] (mulAddByteSteps .starts a .1) ps (follows .started a .1)
 
 given : (b : List ℕ) → Bytes b → isMulAdd b ≡ true → Given mulAddByteSteps mulAddByteWhole (λ b. b) b
 given b h is =
     let t = tests b is in
     let n : ℕ = leAt 8 b 8 in
     let a : MulAddStart = record { weight = leAt 8 b 0; byte = omega (arith, t .light); room = b; whole = t .size } in
-    let at : positionOf (length (flatten (map (mulAddByteWhole .chunk) (replicate n one)))) ≡ n = omega (arith, length-ones n, leAt-below 8 b 8 h) in
+    let at : positionOf (length (flatten (map (mulAddByteWhole .chunk) (replicate n one)))) ≡ n =
+    omega (arith, length-ones (mulAddByteWhole .chunk) one refl n, leAt-below 8 b 8 h) in
     record {
       by = a;
       pushed = replicate n one;
-      lendable = all-lendable n;
+      lendable = ones-lendable (mulAddByteWhole .chunk) one refl n;
       same = after-pushes a (replicate n one) ∙ ap (λ (p : ℕ). mulAddBytes (mulAddFrom (leAt 8 b 0) p)) at ∙ stored-back b h is;
     }
 
@@ -152,11 +140,7 @@ opened : (b : List ℕ) → Bytes b → Given mulAddByteSteps mulAddByteWhole (�
 opened b h g = going (g .by) (flatten (map (mulAddByteWhole .chunk) (g .pushed))) b (sym (g .same) ∙ after-pushes (g .by) (g .pushed)) .0
 
 pub mul-add-bytes-20 : MulAddBytes20
-mul-add-bytes-20 =
-    exactly-20 mulAddByteSteps mulAddByteWhole Bytes (λ b. b) isMulAdd given opened push-taken
-    (λ b p none. ap (λ (r : ℕ × List ℕ × List ℕ). (r .0, r .2)) (pushed-on-others b none (p .fragment) (p .buffer)))
-    end-taken
-    (λ b u none. ap (λ (r : ℕ × List ℕ). (r .0, [])) (ended-on-others b none))
+mul-add-bytes-20 = exactly-20 mulAddByteSteps mulAddByteWhole Goes isMulAdd follows Bytes (λ b. b) given opened
 
 -- ---- one buffer
 

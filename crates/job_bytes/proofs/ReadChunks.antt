@@ -17,7 +17,7 @@ use lib.Seq.{take-nil, take-all}
 use Rattle.answer_bytes.specs.Results.{partsBytes, readInto}
 use Rattle.cut_lists.specs.All.{all-none, all-more}
 use Rattle.jobs.specs.Job.{afterPushes}
-use Rattle.jobs.specs.Claim.{Given}
+use Rattle.jobs.specs.Claim.{lendLimit, Given}
 use Rattle.jobs.proofs.JobLaws.{Follows, pushes-follow, chunked, exactly-20}
 use Rattle.lent_bytes.specs.Writing.{writtenUnless}
 use Rattle.lent_bytes.proofs.WritingLaws.{unless-within}
@@ -29,12 +29,13 @@ use Rattle.par1_read.specs.declared.reading.Reading.the-variants.{Accepted, Ref
 use Rattle.refusals.specs.Tests.{bare}
 use Rattle.refusals.specs.declared.Refusal.{Refusal}
 use Rattle.refusals.proofs.RangeLaws.{Within, bare-within}
+use Rattle.running_read.specs.Claim.{counts}
 use Rattle.running_read.specs.declared.RunningRead.{RunningRead}
 use Rattle.running_read.specs.declared.Pushed.{Pushed}
 use Rattle.running_read.specs.declared.Ended.{Ended}
 use Rattle.running_read.specs.Running.{cap, pushOf, readingOf, overOf, countsOf, isOpen, pushAnswer, endAnswer}
 use Rattle.running_read.proofs.AfterLaws.{jobAfter, after-start, cap-small}
-use Rattle.running_read.proofs.Chunks.{take-most, after-open, over-shut, over-over, pushed-more, ended-whole, open-reached}
+use Rattle.running_read.proofs.Chunks.{take-most, after-open, over-shut, pushed-more, ended-whole, counts-tell, open-reached}
 use Rattle.running_read.proofs.EndLaws.{end-within, after-end, read-cap}
 use Rattle.running_read.proofs.OpenLaws.{open-few}
 use Rattle.running_read.proofs.PushLaws.{push-open, push-refused, end-open, end-refused}
@@ -85,11 +86,11 @@ module _ (b : List ℕ) (goes : opened b ≡ true) where
       sym (ap (λ (p : Pushed). readStored (p .number) (p .next) b .0) (push-open (readJobOf b) bs goes)) ∙ e in
       omega (arith, stored-most (pushOf (readJobOf b) bs) b)
 
-  end-taken : (out : List ℕ) → readEnded b out .0 ≡ bare 20 → ⊥
+  end-taken : (out : List ℕ) → readEnded b out .0 .number ≡ 20 → ⊥
   end-taken out e =
-      let given : readInto (readingOf (readJobOf b)) out .0 ≡ bare 20 =
-      sym (ap (λ (q : Ended). readInto (q .reading) out .0) (end-open (readJobOf b) goes)) ∙ e in
-      omega (arith, ap (λ (r : Refusal). r .number) given, reading-within (readJobOf b) out .number-most)
+      let given : readInto (readingOf (readJobOf b)) out .0 .number ≡ 20 =
+      sym (ap (λ (q : Ended). readInto (q .reading) out .0 .number) (end-open (readJobOf b) goes)) ∙ e in
+      omega (arith, reading-within (readJobOf b) out .number-most)
 
 -- whatever the bytes of the job are; so a number of 64 bits tells the refusal and its place
 pub ended-within : (b out : List ℕ) → (readEnded b out .0 .number < 32) × (readEnded b out .0 .place < 2 ^ 59)
@@ -147,7 +148,7 @@ module _ (m : List ℕ) (are : Bytes m) where
   over-after : opened (readJobBytes (overOf (jobAfter (take cap m)))) ≡ false
   over-after =
       let j : RunningRead = jobAfter (take cap m) in
-      ap (λ (k : RunningRead). isOpen (countsOf k)) (read-loaded-back (overOf j) over-held) ∙ over-shut (overOf j) (over-over j)
+      ap (λ (k : RunningRead). isOpen (countsOf k)) (read-loaded-back (overOf j) over-held) ∙ over-shut j
 
 pushed-after : (m bs : List ℕ) → Bytes m → Bytes bs → readPushed (bytesAfter m) bs ≡ (0, bytesAfter (m ++ bs))
 pushed-after m bs h k =
@@ -168,10 +169,7 @@ started-after a =
 abbrev Goes : ReadStart → List ℕ → List ℕ → Type 0
 Goes a m b = (b ≡ bytesAfter m) × Bytes m
 
-abbrev Over : List ℕ → Type 0
-Over b = opened b ≡ false
-
-follows : Follows readByteSteps readByteWhole Goes Over
+follows : Follows readByteSteps readByteWhole Goes opened
 follows =
     record {
       started = λ a. let e = started-after a in (ap (λ (r : ℕ × List ℕ). (bare (r .0), [])) e, (ap (λ (r : ℕ × List ℕ). r .1) e, none));
@@ -185,47 +183,31 @@ follows =
             ap (λ (r : Refusal × List ℕ × List ℕ). (r .0, r .2)) e,
             ap (λ (r : Refusal × List ℕ × List ℕ). opened (r .1)) e ∙ over-after m (g .1),
           );
-      pushed-over = λ b p o.
-          let e = pushed-shut b o (p .bytes) in
-          (ap (λ (r : ℕ × List ℕ). (bare (r .0), [])) e, ap (λ (r : ℕ × List ℕ). opened (r .1)) e ∙ o);
-      ended-over = λ b out o.
-          let e = ended-shut b o out in
-          (ap (λ (r : Refusal × List ℕ × List ℕ). (r .0, r .2)) e, ap (λ (r : Refusal × List ℕ × List ℕ). opened (r .1)) e ∙ o);
+      push-taken = λ b p o. push-taken b o (p .bytes);
+      end-taken = λ b out o. end-taken b o out;
+      push-refused = λ b p o. ap (λ (r : ℕ × List ℕ). ((bare (r .0), []), r .1)) (pushed-shut b o (p .bytes));
+      end-refused = λ b out o. ap (λ (r : Refusal × List ℕ × List ℕ). ((r .0, r .2), r .1)) (ended-shut b o out);
+      push-20 = λ p. refl;
+      end-20 = λ out. refl;
     }
 
--- ---- 20, and nothing else, changes nothing
-
-push-not-20 : (b : List ℕ) (p : Chunk) → opened b ≡ true → readByteSteps .pushes b p .0 ≡ (bare 20, []) → ⊥
-push-not-20 b p o e = push-taken b o (p .bytes) (ap (λ (r : Refusal × List ℕ). r .0 .number) e)
-
-end-not-20 : (b out : List ℕ) → opened b ≡ true → readByteSteps .ends b out .0 ≡ (bare 20, out) → ⊥
-end-not-20 b out o e = end-taken b o out (ap (λ (r : Refusal × List ℕ). r .0) e)
-
 pub read-bytes-chunked : ReadBytesChunked
-read-bytes-chunked = chunked readByteSteps readByteWhole Goes Over follows (λ b p. by-push b p (opened b) refl) (λ b out. by-end b out (opened b) refl)
-  where
-    by-push : (b : List ℕ) (p : Chunk) (t : Bool) → opened b ≡ t → readByteSteps .pushes b p .0 ≡ (bare 20, []) → readByteSteps .pushes b p .1 ≡ b
-    by-push b p true o e = absurd (push-not-20 b p o e)
-    by-push b p false o e = ap (λ (r : ℕ × List ℕ). r .1) (pushed-shut b o (p .bytes))
-
-    by-end : (b out : List ℕ) (t : Bool) → opened b ≡ t → readByteSteps .ends b out .0 ≡ (bare 20, out) → readByteSteps .ends b out .1 ≡ b
-    by-end b out true o e = absurd (end-not-20 b out o e)
-    by-end b out false o e = ap (λ (r : Refusal × List ℕ × List ℕ). r .1) (ended-shut b o out)
+read-bytes-chunked = chunked readByteSteps readByteWhole Goes opened follows
 
 -- ---- the counts that pushes give
 
 after-pushes : (a : ReadStart) (ps : List Chunk)
     → readJobOf (afterPushes readByteSteps (readByteSteps .starts a .1) ps) ≡ jobAfter (take cap (flatten (map (readByteWhole .chunk) ps)))
 after-pushes a ps =
-    let g = pushes-follow readByteSteps readByteWhole Goes Over follows a [] (readByteSteps .starts a .1) ps (follows .started a .1) in
+    let g = pushes-follow readByteSteps readByteWhole Goes opened follows a [] (readByteSteps .starts a .1) ps (follows .started a .1) in
     ap readJobOf (g .0) ∙ loaded-after (flatten (map (readByteWhole .chunk) ps)) (g .1)
 
-given : (b : List ℕ) → opened b ≡ true → Given readByteSteps readByteWhole (λ b. countsOf (readJobOf b)) b
+given : (b : List ℕ) → opened b ≡ true → Given readByteSteps readByteWhole (λ b. counts (readJobOf b)) b
 unfolding flatten
 given b o =
     let g = open-reached (readJobOf b) o in
     let m : List ℕ = g .0 in
-    let few : length m < 2 ^ 63 = omega (arith, g .1 .short, cap-small) in
+    let few : length m < lendLimit = omega (arith, g .1 .short, cap-small) in
     let a : ReadStart = record { room = replicate 392 0; whole = length-replicate {A = ℕ} 392 0 } in
     let p : Chunk = record { bytes = m; lendable = (g .1 .are-bytes, few) } in
     let all : take cap (m ++ []) ≡ m = ap (take cap) (append-nil m) ∙ take-all cap m (g .1 .short) in
@@ -233,17 +215,15 @@ given b o =
       by = a;
       pushed = p ∷ [];
       lendable = all-more (p .lendable) all-none;
-      same = ap countsOf (after-pushes a (p ∷ []) ∙ ap jobAfter all) ∙ g .1 .same;
+      same = ap counts (after-pushes a (p ∷ []) ∙ ap jobAfter all) ∙ g .1 .same;
     }
 
-given-opened : (b : List ℕ) → Given readByteSteps readByteWhole (λ b. countsOf (readJobOf b)) b → opened b ≡ true
+given-opened : (b : List ℕ) → Given readByteSteps readByteWhole (λ b. counts (readJobOf b)) b → opened b ≡ true
 given-opened b g =
-    sym (ap isOpen (g .same)) ∙ ap (λ (j : RunningRead). isOpen (countsOf j)) (after-pushes (g .by) (g .pushed))
+    sym (counts-tell (readJobOf (afterPushes readByteSteps (readByteSteps .starts (g .by) .1) (g .pushed))) (readJobOf b) (g .same))
+    ∙ ap (λ (j : RunningRead). isOpen (countsOf j)) (after-pushes (g .by) (g .pushed))
     ∙ after-open (flatten (map (readByteWhole .chunk) (g .pushed)))
 
 pub read-bytes-20 : ReadBytes20
 read-bytes-20 =
-    exactly-20 readByteSteps readByteWhole Bytes (λ b. countsOf (readJobOf b)) opened (λ b h. given b) (λ b h. given-opened b) push-not-20
-    (λ b p o. ap (λ (r : ℕ × List ℕ). (bare (r .0), [])) (pushed-shut b o (p .bytes)))
-    end-not-20
-    (λ b out o. ap (λ (r : Refusal × List ℕ × List ℕ). (r .0, r .2)) (ended-shut b o out))
+    exactly-20 readByteSteps readByteWhole Goes opened follows Bytes (λ b. counts (readJobOf b)) (λ b h. given b) (λ b h. given-opened b)

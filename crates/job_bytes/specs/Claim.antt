@@ -15,13 +15,17 @@
 --   readByteWhole           what they are to answer: the end what one call on the whole file answers
 --   ReadBytesChunked        they do, over all lists of chunks and all lists of calls
 --   ReadBytes20             a call is refused with 20 exactly where no start and pushes give the counts of the job in the bytes
+-- What excludes an empty reading: 20 is claimed of every list of bytes, every one that can be lent is a chunk, and what is to be answered is told
+-- by `mulAdd`, and by what `read` promises of the whole file. Of bytes of a job's length some are refused and some are not. A start in a list of
+-- calls is lent exactly the job's length: that it is refused with 14 where it is lent less, and leaves the bytes past the job where it is lent
+-- more, its contract alone says.
 -- Assumes nothing.
 use mathlib.Core.Path.{_≡_}
 use mathlib.Core.List.{List, [], _∷_, flatten}
 use Prim.Native.Nat.{ℕ, _^_, _<_}
 use lib.ListN.{length}
 use Rattle.jobs.specs.Job.{Steps, Whole}
-use Rattle.jobs.specs.Claim.{Chunked, Lendable, Exactly20}
+use Rattle.jobs.specs.Claim.{Chunked, lendLimit, Lendable, Exactly20}
 use Rattle.answer_bytes.specs.Results.{readInto}
 use Rattle.list_scan.specs.declared.Scan.{Scan}
 use Rattle.little_endian.specs.Bytes.{Bytes}
@@ -31,8 +35,8 @@ use Rattle.par1_read.specs.Reading.{readOf}
 use Rattle.refusals.specs.Tests.{bare}
 use Rattle.refusals.specs.declared.Refusal.{Refusal}
 use Rattle.running_mul_add.specs.Claim.{Push, mulAddWhole}
+use Rattle.running_read.specs.Claim.{counts}
 use Rattle.running_read.specs.declared.RunningRead.{RunningRead}
-use Rattle.running_read.specs.Running.{countsOf}
 use Rattle.job_bytes.specs.MulAdds.{mulAddStarted, mulAddPushed, mulAddEnded}
 use Rattle.job_bytes.specs.Reads.{readJobBytes, readJobOf, readStarted, readPushed, readEnded}
 
@@ -54,6 +58,7 @@ mulAddByteSteps =
 abbrev pub mulAddByteWhole : Whole MulAddStart Push (Unit {0}) (ℕ × List ℕ)
 mulAddByteWhole =
     record {
+      number = mulAddWhole .number;
       begun = λ a. mulAddWhole .begun (a .weight);
       chunk = mulAddWhole .chunk;
       taken = λ a. mulAddWhole .taken (a .weight);
@@ -75,11 +80,11 @@ abbrev pub mulAddPushedInto : List ℕ → List (List ℕ) → List ℕ → List
 mulAddPushedInto b [] buffer = buffer
 mulAddPushedInto b (c ∷ cs) buffer = let r = mulAddPushed b c buffer in mulAddPushedInto (r .1) cs (r .2)
 
--- "For every way of cutting, the final answer is the one the whole input gets in one call."; no slice that can be lent has 2^63 bytes; proved:
--- proofs/MulAddChunks.antt, `mul-add-bytes-one-buffer`
+-- "For every way of cutting, the final answer is the one the whole input gets in one call."; proved: proofs/MulAddChunks.antt,
+-- `mul-add-bytes-one-buffer`
 abbrev pub MulAddBytesOneBuffer : Type 0
 MulAddBytesOneBuffer =
-    (a : MulAddStart) (cs : List (List ℕ)) (buffer : List ℕ) → length buffer < 2 ^ 63
+    (a : MulAddStart) (cs : List (List ℕ)) (buffer : List ℕ) → length buffer < lendLimit
     → mulAddPushedInto (mulAddStarted (a .weight) (a .room) .1) cs buffer ≡ mulAdd (a .weight) (flatten cs) buffer
 
 -- ---- reading
@@ -132,6 +137,7 @@ readByteSteps =
 abbrev pub readByteWhole : Whole ReadStart Chunk (List ℕ) (Refusal × List ℕ)
 readByteWhole =
     record {
+      number = λ r. r .0 .number;
       begun = λ a. (bare 0, []);
       chunk = λ p. p .bytes;
       taken = λ a m p. (bare 0, []);
@@ -144,6 +150,6 @@ readByteWhole =
 abbrev pub ReadBytesChunked : Type 0
 ReadBytesChunked = Chunked readByteSteps readByteWhole
 
--- of bytes of any length; proved: proofs/ReadChunks.antt, `read-bytes-20`
+-- of bytes of any length, and the counts of the job that they are; proved: proofs/ReadChunks.antt, `read-bytes-20`
 abbrev pub ReadBytes20 : Type 0
-ReadBytes20 = Exactly20 readByteSteps readByteWhole Bytes (λ b. countsOf (readJobOf b))
+ReadBytes20 = Exactly20 readByteSteps readByteWhole Bytes (λ b. counts (readJobOf b))

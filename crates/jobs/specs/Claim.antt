@@ -1,7 +1,9 @@
 -- What is claimed of a job that takes its input in chunks (document 02, 2026-03). Each job has these claims, over the definitions that the
--- contracts of its calls cite; so its list of calls may hold anything, calls after an end and jobs of any bytes too.
+-- contracts of its calls cite. A list of calls begins with a start, and may then hold anything, calls after an end too; what is claimed of a
+-- call that is refused with 20 is claimed of jobs that no calls give too.
 --
 --   Chunked k w           the calls k on a job answer what w says, over all lists of chunks and all lists of calls
+--   lendLimit             no slice that can be lent has so many bytes
 --   Lendable c            the bytes c can be lent to one push
 --   Given k w counts s    a start and pushes give a job with the counts of s
 --   Exactly20 k w Held counts    a call on a job is refused with 20 exactly where no start and pushes give its counts
@@ -21,12 +23,15 @@ pub record Chunked {S A P E R : Type 0} (k : Steps S A P E R) (w : Whole A P E R
       → k .ends (afterPushes k (k .starts a .1) ps) e .0 ≡ w .whole a (flatten (map (w .chunk) ps)) e
   -- each answer and each lent byte, over every list of calls from a start on; starts and ends may come anywhere
   pub every-call : (s : S) (a : A) (cs : List (Call A P E)) → answers k s (start a ∷ cs) ≡ answers (modelled w) over (start a ∷ cs)
-  -- "nothing changed", whatever the job
-  pub kept-by-push : (s : S) (p : P) → k .pushes s p .0 ≡ w .refused-push p → k .pushes s p .1 ≡ s
-  pub kept-by-end : (s : S) (e : E) → k .ends s e .0 ≡ w .refused-end e → k .ends s e .1 ≡ s
+  -- "nothing changed", whatever the job: no byte that is lent, nor the job
+  pub kept-by-push : (s : S) (p : P) → w .number (k .pushes s p .0) ≡ 20 → k .pushes s p ≡ (w .refused-push p, s)
+  pub kept-by-end : (s : S) (e : E) → w .number (k .ends s e .0) ≡ 20 → k .ends s e ≡ (w .refused-end e, s)
+
+abbrev pub lendLimit : ℕ
+lendLimit = 2 ^ 63
 
 abbrev pub Lendable : List ℕ → Type 0
-Lendable c = Bytes c × (length c < 2 ^ 63)
+Lendable c = Bytes c × (length c < lendLimit)
 
 pub record Given {S A P E R C : Type 0} (k : Steps S A P E R) (w : Whole A P E R) (counts : S → C) (s : S) : Type 0 where
   pub by : A
@@ -37,5 +42,5 @@ pub record Given {S A P E R C : Type 0} (k : Steps S A P E R) (w : Whole A P E R
 -- "a job whose counts no run of pushes gives", both ways, of jobs whose numbers their types can hold; the mark that a job is over is one of
 -- its counts
 pub record Exactly20 {S A P E R C : Type 0} (k : Steps S A P E R) (w : Whole A P E R) (Held : S → Type 0) (counts : S → C) : Type 0 where
-  pub pushed : (s : S) → Held s → (p : P) → (k .pushes s p .0 ≡ w .refused-push p) ↔ (Given k w counts s → ⊥)
-  pub ended : (s : S) → Held s → (e : E) → (k .ends s e .0 ≡ w .refused-end e) ↔ (Given k w counts s → ⊥)
+  pub pushed : (s : S) → Held s → (p : P) → (w .number (k .pushes s p .0) ≡ 20) ↔ (Given k w counts s → ⊥)
+  pub ended : (s : S) → Held s → (e : E) → (w .number (k .ends s e .0) ≡ 20) ↔ (Given k w counts s → ⊥)

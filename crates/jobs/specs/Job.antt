@@ -8,6 +8,8 @@
 --   afterPushes k s ps  the job that the pushes ps leave
 --   Whole A P E R       what is to be answered, told by the bytes pushed since the start
 --   Model A             what a job is to know: how it was started and the bytes pushed since; or that it is over
+--   modelPushes w x p   the answer to a push on the model x, and the model that it leaves
+--   modelEnds w x e     that to an end
 --   modelled w          the calls on the model
 -- Assumes nothing.
 use mathlib.Core.List.{List, [], _∷_, _++_}
@@ -37,6 +39,8 @@ afterPushes k s [] = s
 afterPushes k s (p ∷ ps) = afterPushes k (k .pushes s p .1) ps
 
 pub record Whole (A P E R : Type 0) : Type 0 where
+  -- the number that an answer says
+  pub number : R → ℕ
   pub begun : A → R
   -- the bytes that a push brings
   pub chunk : P → List ℕ

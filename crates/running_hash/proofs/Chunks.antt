@@ -7,19 +7,16 @@
 use mathlib.Core.Path.{_≡_, refl, sym, ap, ap₂, _∙_}
 use mathlib.Core.Bool.{Bool, true, false, cond}
 use mathlib.Core.List.{List, [], _∷_, _++_, map, flatten}
-use Prim.Native.Nat.{ℕ, zero, suc, _%_, _^_}
-use native.Mathlib.Decide.{ℕ-discrete}
+use Prim.Native.Nat.{ℕ, _%_, _^_}
 use native.Mathlib.Nat.{mod-eq-of-lt}
 use native.Mathlib.Omega.{arith}
 use borrow.Author.Tests.{eqb-true, eqb-false, eq-eqb}
 use lib.Dec.{leb}
 use lib.ListN.{length, replicate}
-use Rattle.cut_lists.specs.All.{All, all-none, all-more}
-use Rattle.jobs.specs.Claim.{Lendable, Given}
+use Rattle.jobs.specs.Claim.{Given}
 use Rattle.jobs.specs.Job.{afterPushes}
-use Rattle.jobs.proofs.JobLaws.{Follows, pushes-follow, chunked, exactly-20}
+use Rattle.jobs.proofs.JobLaws.{Follows, pushes-follow, chunked, exactly-20, ones-lendable, length-ones}
 use Rattle.lent_bytes.specs.Writing.{refused, accepted, written, withNumber}
-use Rattle.little_endian.specs.Bytes.{Bytes}
 use Rattle.md5.specs.Digest.{digestInto}
 use Rattle.md5.specs.Running.{stateOf, finished}
 use Rattle.md5.specs.declared.Md5.{Md5}
@@ -37,9 +34,6 @@ use Rattle.running_hash.proofs.HashLaws.{push-open, push-over, end-open
 abbrev Runs : Unit {0} → List ℕ → RunningHash → Type 0
 Runs a m h = h ≡ running (stateOf m)
 
-abbrev Over : RunningHash → Type 0
-Over h = h .ended ≡ 0 → ⊥
-
 push-runs : (m bs : List ℕ) (h : RunningHash) → Runs tt m h → pushOf h bs ≡ outcome 0 (running (stateOf (m ++ bs)))
 push-runs m bs h e =
     ap (λ (h : RunningHash). pushOf h bs) e
@@ -52,35 +46,11 @@ end-runs m out h e =
     ∙ end-open (running (stateOf m)) out refl
     ∙ ap (λ (d : List ℕ). endedBy (stateOf m) (withNumber (written d out))) (finish-state m)
 
-hash-follows : Follows hashSteps hashWhole Runs Over
-unfolding startHash
-hash-follows =
-    record {
-      started = λ a. (refl, refl);
-      pushed = λ a m h bs g. let e = push-runs m bs h g in
-          (ap (λ (r : Outcome). (r .number, [])) e, ap (λ (r : Outcome). r .next) e);
-      ended = λ a m h out g. let e = end-runs m out h g in (
-        ap (λ (r : Outcome × List ℕ). (r .0 .number, r .1)) e,
-        λ z. let one : endOf h out .0 .next .ended ≡ 1 = ap (λ (r : Outcome × List ℕ). r .0 .next .ended) e in omega arith,
-      );
-      pushed-over = λ h bs o. let e = push-over h bs o in
-          (ap (λ (r : Outcome). (r .number, [])) e, λ z. o (sym (ap (λ (r : Outcome). r .next .ended) e) ∙ z));
-      ended-over = λ h out o. let e = end-over h out o in
-          (ap (λ (r : Outcome × List ℕ). (r .0 .number, r .1)) e, λ z. o (sym (ap (λ (r : Outcome × List ℕ). r .0 .next .ended) e) ∙ z));
-    }
+-- ---- 20 where the mark is set, and nowhere else
 
--- ---- 20, and what is kept
-
-by-mark : {P : Type 0} (h : RunningHash) → (h .ended ≡ 0 → P) → (Over h → P) → P
-by-mark h goes over = elim (ℕ-discrete (h .ended) 0) [
-  | yes e ↦ goes e
-  | no o ↦ over o
-]
-
-push-taken : (h : RunningHash) (bs : List ℕ) → h .ended ≡ 0 → hashSteps .pushes h bs .0 ≡ hashWhole .refused-push bs → ⊥
+push-taken : (h : RunningHash) (bs : List ℕ) → isOpen h ≡ true → pushOf h bs .number ≡ 20 → ⊥
 push-taken h bs o e =
-    let zero-is : pushOf h bs .number ≡ 0 = ap (λ (r : Outcome). r .number) (push-open h bs o) in
-    let twenty : pushOf h bs .number ≡ 20 = ap (λ (r : ℕ × List ℕ). r .0) e in
+    let zero-is : pushOf h bs .number ≡ 0 = ap (λ (r : Outcome). r .number) (push-open h bs (eqb-true (h .ended) 0 o)) in
     omega arith
 
 -- a digest is refused with 14 at the most
@@ -92,48 +62,48 @@ digest-number d out = by (leb (length d) (length out))
     by true e = omega arith
     by false e = omega arith
 
-end-taken : (h : RunningHash) (out : List ℕ) → h .ended ≡ 0 → hashSteps .ends h out .0 ≡ hashWhole .refused-end out → ⊥
+end-taken : (h : RunningHash) (out : List ℕ) → isOpen h ≡ true → endOf h out .0 .number ≡ 20 → ⊥
 end-taken h out o e =
     digest-number (finished (h .hash)) out
-    (sym (ap (λ (r : Outcome × List ℕ). r .0 .number) (end-open h out o)) ∙ ap (λ (r : ℕ × List ℕ). r .0) e)
+    (sym (ap (λ (r : Outcome × List ℕ). r .0 .number) (end-open h out (eqb-true (h .ended) 0 o))) ∙ e)
+
+-- ---- over lists
+
+hash-follows : Follows hashSteps hashWhole Runs isOpen
+unfolding startHash
+hash-follows =
+    record {
+      started = λ a. (refl, refl);
+      pushed = λ a m h bs g. let e = push-runs m bs h g in
+          (ap (λ (r : Outcome). (r .number, [])) e, ap (λ (r : Outcome). r .next) e);
+      ended = λ a m h out g. let e = end-runs m out h g in
+          (ap (λ (r : Outcome × List ℕ). (r .0 .number, r .1)) e, ap (λ (r : Outcome × List ℕ). isOpen (r .0 .next)) e);
+      push-taken = push-taken;
+      end-taken = end-taken;
+      push-refused = λ h bs o. ap (λ (r : Outcome). ((r .number, []), r .next)) (push-over h bs (eqb-false (h .ended) 0 o));
+      end-refused = λ h out o. ap (λ (r : Outcome × List ℕ). ((r .0 .number, r .1), r .0 .next)) (end-over h out (eqb-false (h .ended) 0 o));
+      push-20 = λ bs. refl;
+      end-20 = λ out. refl;
+    }
 
 pub hash-chunked : HashChunked
-hash-chunked =
-    chunked hashSteps hashWhole Runs Over hash-follows
-    (λ h bs e. by-mark h (λ o. absurd (push-taken h bs o e)) (λ o. ap (λ (r : Outcome). r .next) (push-over h bs o)))
-    (λ h out e. by-mark h (λ o. absurd (end-taken h out o e)) (λ o. ap (λ (r : Outcome × List ℕ). r .0 .next) (end-over h out o)))
+hash-chunked = chunked hashSteps hashWhole Runs isOpen hash-follows
 
 -- ---- every total is one that pushes give
 
 after-pushes : (ps : List (List ℕ)) → afterPushes hashSteps startHash ps ≡ running (stateOf (flatten (map (λ (bs : List ℕ). bs) ps)))
-after-pushes ps = pushes-follow hashSteps hashWhole Runs Over hash-follows tt [] startHash ps (hash-follows .started tt .1)
-
-length-ones : (n : ℕ) → length (flatten (map (λ (bs : List ℕ). bs) (replicate n (0 ∷ [])))) ≡ n
-unfolding flatten
-length-ones zero = refl
-length-ones (suc n) = ap suc (length-ones n)
-
-one-lendable : Lendable (0 ∷ [])
-one-lendable = (byte, omega arith)
-  where
-    byte : Bytes (0 ∷ [])
-    byte zero = omega arith
-    byte (suc i) = omega arith
-
-ones-lendable : (n : ℕ) → All Lendable (replicate n (0 ∷ []))
-ones-lendable zero = all-none
-ones-lendable (suc n) = all-more one-lendable (ones-lendable n)
+after-pushes ps = pushes-follow hashSteps hashWhole Runs isOpen hash-follows tt [] startHash ps (hash-follows .started tt .1)
 
 given : (h : RunningHash) → Held h → isOpen h ≡ true → Given hashSteps hashWhole counts h
 unfolding stateOf
 given h held o =
     let n : ℕ = h .hash .total in
     let ones : List (List ℕ) = replicate n (0 ∷ []) in
-    let total = ap (λ (k : ℕ). k % 2 ^ 64) (length-ones n) ∙ mod-eq-of-lt held in
+    let total = ap (λ (k : ℕ). k % 2 ^ 64) (length-ones (hashWhole .chunk) (0 ∷ []) refl n) ∙ mod-eq-of-lt held in
     record {
       by = tt;
       pushed = ones;
-      lendable = ones-lendable n;
+      lendable = ones-lendable (hashWhole .chunk) (0 ∷ []) refl n;
       same = ap counts (after-pushes ones) ∙ ap₂ (λ (k e : ℕ). (k, e)) total (sym (eqb-true (h .ended) 0 o));
     }
 
@@ -142,9 +112,4 @@ given-open h held g =
     eq-eqb (h .ended) 0 (ap (λ (p : ℕ × ℕ). p .1) (sym (g .same) ∙ ap counts (after-pushes (g .pushed))))
 
 pub hash-20 : Hash20
-hash-20 =
-    exactly-20 hashSteps hashWhole Held counts isOpen given given-open
-    (λ h bs o. push-taken h bs (eqb-true (h .ended) 0 o))
-    (λ h bs o. hash-follows .pushed-over h bs (eqb-false (h .ended) 0 o) .0)
-    (λ h out o. end-taken h out (eqb-true (h .ended) 0 o))
-    (λ h out o. hash-follows .ended-over h out (eqb-false (h .ended) 0 o) .0)
+hash-20 = exactly-20 hashSteps hashWhole Runs isOpen hash-follows Held counts given given-open

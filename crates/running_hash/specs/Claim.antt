@@ -31,6 +31,7 @@ hashSteps =
 abbrev pub hashWhole : Whole (Unit {0}) (List ℕ) (List ℕ) (ℕ × List ℕ)
 hashWhole =
     record {
+      number = λ r. r .0;
       begun = λ a. (0, []);
       chunk = λ bs. bs;
       taken = λ a m bs. (0, []);

@@ -4,26 +4,28 @@
 --   mulAddSteps         the calls on a running mul_add: each answers a number, with what the buffer then holds
 --   mulAddWhole         what they are to answer, told by the bytes pushed since the start
 --   MulAddChunked       they do, over all lists of chunks and all lists of calls
---   Held s              the fields of the job s can hold its numbers
+--   Held s              the position of the job s is one that 64 bits can hold
 --   MulAdd20            a call is refused with 20 exactly where no start and pushes give the job
 --   pushedInto s cs b   what the buffer b holds after the fragments cs are pushed into it one after another
 --   OneBuffer           for every way of cutting, the buffer is the one that the whole fragment gives in one call
+-- What excludes an empty reading: every list of bytes is a fragment, every list that can be lent a buffer, every job of the struct is held, and
+-- what a push is to answer is told by `mulAdd`, which determines each byte of the buffer. Of jobs that are held some are refused and some are not:
+-- the mark decides, whatever the weight and the position.
 -- Assumes nothing.
 use mathlib.Core.Path.{_≡_}
 use mathlib.Core.List.{List, [], _∷_, flatten}
 use Prim.Native.Nat.{ℕ, _^_, _<_}
 use lib.ListN.{length}
 use Rattle.jobs.specs.Job.{Steps, Whole}
-use Rattle.jobs.specs.Claim.{Chunked, Exactly20}
+use Rattle.jobs.specs.Claim.{Chunked, lendLimit, Exactly20}
 use Rattle.mul_add.specs.MulAdd.{mulAdd}
 use Rattle.running_mul_add.specs.Running.{mulAddAt, startMulAdd, pushOf, endOf}
 use Rattle.running_mul_add.specs.declared.RunningMulAdd.{RunningMulAdd}
 
--- no slice that can be lent has 2^63 bytes
 pub record Push : Type 0 where
   pub fragment : List ℕ
   pub buffer : List ℕ
-  pub short : length buffer < 2 ^ 63
+  pub short : length buffer < lendLimit
 
 -- a start and an end are lent nothing
 abbrev pub mulAddSteps : Steps RunningMulAdd ℕ Push (Unit {0}) (ℕ × List ℕ)
@@ -38,6 +40,7 @@ mulAddSteps =
 abbrev pub mulAddWhole : Whole ℕ Push (Unit {0}) (ℕ × List ℕ)
 mulAddWhole =
     record {
+      number = λ r. r .0;
       begun = λ w. (0, []);
       chunk = λ p. p .fragment;
       taken = λ w m p. (0, mulAddAt w (length m) (p .fragment) (p .buffer));
@@ -50,9 +53,8 @@ mulAddWhole =
 abbrev pub MulAddChunked : Type 0
 MulAddChunked = Chunked mulAddSteps mulAddWhole
 
-pub record Held (s : RunningMulAdd) : Type 0 where
-  pub weight-small : s .weight < 256
-  pub position-small : s .position < 2 ^ 64
+abbrev pub Held : RunningMulAdd → Type 0
+Held s = s .position < 2 ^ 64
 
 -- the job is nothing but its weight, its position and the mark that it is over: all of it is given; proved: proofs/Chunks.antt, `mul-add-20`
 abbrev pub MulAdd20 : Type 0
@@ -66,5 +68,5 @@ pushedInto s (c ∷ cs) buffer = pushedInto (pushOf s c buffer .0 .next) cs (pus
 -- "For every way of cutting, the final answer is the one the whole input gets in one call."; proved: proofs/Chunks.antt, `one-buffer`
 abbrev pub OneBuffer : Type 0
 OneBuffer =
-    (w : ℕ) (cs : List (List ℕ)) (buffer : List ℕ) → length buffer < 2 ^ 63
+    (w : ℕ) (cs : List (List ℕ)) (buffer : List ℕ) → length buffer < lendLimit
     → pushedInto (startMulAdd w) cs buffer ≡ mulAdd w (flatten cs) buffer

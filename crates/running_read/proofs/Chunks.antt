@@ -3,36 +3,35 @@
 --   after-open       a job that pushes gave goes on
 --   pushed-more      a push after the bytes m
 --   ended-whole      the end after the bytes m
---   Goes, Over       the job after the bytes m, and a job that is over
---   read-follows     one by one the calls answer what they are to answer
+--   over-shut        a job that is over does not go on
 --   read-chunked     the claim over lists of chunks and of calls
+--   counts-tell      the counts tell whether a job goes on
 --   open-reached     the counts of a job that goes on are those of one push of bytes
 --   read-20          the claim on 20
 -- Assumes nothing.
 use mathlib.Core.Path.{_≡_, refl, sym, ap, _∙_}
 use mathlib.Core.Bool.{Bool, true, false}
 use mathlib.Core.List.{List, [], _∷_, _++_, append-nil, map, flatten}
-use Prim.Native.Nat.{ℕ, _+_, _-_, _*_, _^_, _≤_, _<_}
+use Prim.Native.Nat.{ℕ, _-_, _*_, _≤_, _<_}
 use native.Mathlib.Omega.{arith}
 use lib.ListN.{length, take, length-take, length-drop}
 use lib.Seq.{take-nil, take-all}
 use Rattle.cut_lists.specs.All.{all-none, all-more}
-use Rattle.jobs.specs.Claim.{Given}
+use Rattle.jobs.specs.Claim.{lendLimit, Given}
+use Rattle.jobs.specs.Job.{afterPushes}
 use Rattle.jobs.proofs.JobLaws.{Follows, pushes-follow, chunked, exactly-20}
 use Rattle.little_endian.specs.Bytes.{Bytes}
-use Rattle.refusals.specs.Tests.{bare}
 use Rattle.md5.specs.Running.{stateOf}
 use Rattle.par1_rules.specs.Layout.{listOf}
-use Rattle.par1_read.specs.Reading.{readOf}
+use Rattle.par1_read.specs.Reading.{readOf, readingRefusal}
 use Rattle.par1_read.specs.declared.reading.Reading.{Reading}
-use Rattle.par1_read.specs.declared.reading.Reading.the-variants.{Refused}
 use Rattle.list_scan.proofs.CountLaws.{counted}
 use Rattle.running_read.specs.declared.RunningRead.{RunningRead}
 use Rattle.running_read.specs.declared.Counts.{Counts}
 use Rattle.running_read.specs.declared.Pushed.{Pushed}
 use Rattle.running_read.specs.declared.Ended.{Ended}
-use Rattle.running_read.specs.Running.{cap, startRead, countsOf, isOpen, overOf, readingOf, pushAnswer, endAnswer}
-use Rattle.running_read.specs.Claim.{number, reading, readSteps, readWhole, ReadChunked, Read20}
+use Rattle.running_read.specs.Running.{cap, startRead, countsOf, isOpen, overOf, pushAnswer, endAnswer}
+use Rattle.running_read.specs.Claim.{number, reading, readSteps, readWhole, ReadChunked, counts, Read20}
 use Rattle.running_read.proofs.AfterLaws.{jobAfter, length-list, cap-small, after-start, after-push}
 use Rattle.running_read.proofs.EndLaws.{after-end, read-cap, end-not-20}
 use Rattle.running_read.proofs.OpenLaws.{Open, open-tells, is-open}
@@ -65,15 +64,11 @@ after-open m = is-open _ (after-counts (take cap m) (take-most cap m))
 
 -- ---- one by one
 
-abbrev pub Goes : Unit {0} → List ℕ → RunningRead → Type 0
+abbrev Goes : Unit {0} → List ℕ → RunningRead → Type 0
 Goes a m j = j ≡ jobAfter (take cap m)
 
-abbrev pub Over : RunningRead → Type 0
-Over j = j .ended ≡ true
-
-pub over-shut : (j : RunningRead) → Over j → isOpen (countsOf j) ≡ false
-unfolding isOpen countsOf
-over-shut j e = simp e
+abbrev goesOn : RunningRead → Bool
+goesOn j = isOpen (countsOf j)
 
 row-more : (n : ℕ) (m bs : List ℕ) → take n m ++ take (n - length (take n m)) bs ≡ take n (m ++ bs)
 row-more n m bs =
@@ -92,11 +87,19 @@ ended-whole m =
     ∙ ap (λ (r : Reading). record { reading = r; next = overOf (jobAfter (take cap m)) })
     (after-end (take cap m) (take-most cap m) ∙ read-cap m)
 
-pub over-over : (j : RunningRead) → Over (overOf j)
-unfolding overOf
-over-over j = refl
+pub over-shut : (j : RunningRead) → isOpen (countsOf (overOf j)) ≡ false
+unfolding isOpen countsOf overOf
+over-shut j = refl
 
-pub read-follows : Follows readSteps readWhole Goes Over
+push-taken : (j : RunningRead) (bs : List ℕ) → goesOn j ≡ true → pushAnswer j bs .number ≡ 20 → ⊥
+push-taken j bs o e =
+    let zero-is : pushAnswer j bs .number ≡ 0 = ap (λ (q : Pushed). q .number) (push-open j bs o) in
+    omega arith
+
+end-taken : (j : RunningRead) → goesOn j ≡ true → readingRefusal (endAnswer j .reading) .number ≡ 20 → ⊥
+end-taken j o e = end-not-20 j (sym (ap (λ (q : Ended). readingRefusal (q .reading) .number) (end-open j o)) ∙ e)
+
+read-follows : Follows readSteps readWhole Goes goesOn
 read-follows =
     record {
       started = λ a. (refl, after-start ∙ ap jobAfter (sym (take-nil cap)));
@@ -108,45 +111,17 @@ read-follows =
       ended =
           λ a m j e g.
           let p : endAnswer j ≡ record { reading = readOf m; next = overOf (jobAfter (take cap m)) } = ap endAnswer g ∙ ended-whole m in
-          (ap (λ (q : Ended). reading (q .reading)) p, ap (λ (q : Ended). q .next .ended) p ∙ over-over (jobAfter (take cap m)));
-      pushed-over =
-          λ j bs o.
-          let p = push-refused j bs (over-shut j o) in
-          (ap (λ (q : Pushed). number (q .number)) p, ap (λ (q : Pushed). q .next .ended) p ∙ o);
-      ended-over =
-          λ j e o.
-          let p = end-refused j (over-shut j o) in
-          (ap (λ (q : Ended). reading (q .reading)) p, ap (λ (q : Ended). q .next .ended) p ∙ o);
+          (ap (λ (q : Ended). reading (q .reading)) p, ap (λ (q : Ended). goesOn (q .next)) p ∙ over-shut (jobAfter (take cap m)));
+      push-taken = push-taken;
+      end-taken = λ j e. end-taken j;
+      push-refused = λ j bs o. ap (λ (q : Pushed). (number (q .number), q .next)) (push-refused j bs o);
+      end-refused = λ j e o. ap (λ (q : Ended). (reading (q .reading), q .next)) (end-refused j o);
+      push-20 = λ bs. refl;
+      end-20 = λ e. refl;
     }
 
--- ---- refused
-
-push-taken : (j : RunningRead) (bs : List ℕ) → isOpen (countsOf j) ≡ true → number (pushAnswer j bs .number) ≡ number 20 → ⊥
-push-taken j bs o e =
-    let p = ap (λ (q : Pushed). number (q .number)) (push-open j bs o) in
-    let z : _≡_ {A = ℕ} 0 20 = cc in omega arith
-
-end-taken : (j : RunningRead) → isOpen (countsOf j) ≡ true → reading (endAnswer j .reading) ≡ reading (Refused (bare 20)) → ⊥
-end-taken j o e =
-    let p : endAnswer j .reading ≡ readingOf j = ap (λ (q : Ended). q .reading) (end-open j o) in
-    end-not-20 j (cc)
-
-kept-by-push : (j : RunningRead) (bs : List ℕ) → number (pushAnswer j bs .number) ≡ number 20 → pushAnswer j bs .next ≡ j
-kept-by-push j bs e = by (isOpen (countsOf j)) refl
-  where
-    by : (b : Bool) → isOpen (countsOf j) ≡ b → pushAnswer j bs .next ≡ j
-    by true o = absurd (push-taken j bs o e)
-    by false o = ap (λ (q : Pushed). q .next) (push-refused j bs o)
-
-kept-by-end : (j : RunningRead) → reading (endAnswer j .reading) ≡ reading (Refused (bare 20)) → endAnswer j .next ≡ j
-kept-by-end j e = by (isOpen (countsOf j)) refl
-  where
-    by : (b : Bool) → isOpen (countsOf j) ≡ b → endAnswer j .next ≡ j
-    by true o = absurd (end-taken j o e)
-    by false o = ap (λ (q : Ended). q .next) (end-refused j o)
-
 pub read-chunked : ReadChunked
-read-chunked = chunked readSteps readWhole Goes Over read-follows kept-by-push (λ j e. kept-by-end j)
+read-chunked = chunked readSteps readWhole Goes goesOn read-follows
 
 -- ---- the counts that pushes give
 
@@ -167,42 +142,51 @@ gives-counts c o m g =
     same-counts (after-counts m (omega (arith, g .length-is, o .short))) o (g .length-is) (g .list-is .at-is) (g .list-is .entries-is)
     (g .list-is .saved-is)
 
+-- the counts of the claim, and those that the calls test
+claimed : (j k : RunningRead) → countsOf j ≡ countsOf k → counts j ≡ counts k
+unfolding countsOf
+claimed j k e = ap (λ (c : Counts). (c .total, c .control, c .at, c .entries, c .saved, c .set, c .ended)) e
+
+pub counts-tell : (j k : RunningRead) → counts j ≡ counts k → isOpen (countsOf j) ≡ isOpen (countsOf k)
+unfolding countsOf
+counts-tell j k e =
+    ap (λ (c : ℕ × ℕ × ℕ × ℕ × ℕ × ℕ × Bool).
+    isOpen (record { total = c .0; control = c .1; at = c .2; entries = c .3; saved = c .4; set = c .5; ended = c .6 })) e
+
 -- one push of the bytes m gives the counts of the job j
 pub record Reached (j : RunningRead) (m : List ℕ) : Type 0 where
   pub are-bytes : Bytes m
   pub short : length m ≤ cap
-  pub same : countsOf (jobAfter m) ≡ countsOf j
+  pub same : counts (jobAfter m) ≡ counts j
 
 pub open-reached : (j : RunningRead) → isOpen (countsOf j) ≡ true → (m : List ℕ) × Reached j m
 open-reached j e =
     let o = open-tells (countsOf j) e in
     let g = given (countsOf j) o in
-    (g .0, record { are-bytes = g .1 .are-bytes; short = omega (arith, g .1 .length-is, o .short); same = gives-counts (countsOf j) o (g .0) (g .1) })
+    let same = claimed (jobAfter (g .0)) j (gives-counts (countsOf j) o (g .0) (g .1)) in
+    (g .0, record { are-bytes = g .1 .are-bytes; short = omega (arith, g .1 .length-is, o .short); same = same })
 
-open-given : (j : RunningRead) → isOpen (countsOf j) ≡ true → Given readSteps readWhole countsOf j
+open-given : (j : RunningRead) → isOpen (countsOf j) ≡ true → Given readSteps readWhole counts j
 unfolding flatten
 open-given j e =
     let g = open-reached j e in
     let m : List ℕ = g .0 in
     let all : take cap (m ++ []) ≡ m = ap (take cap) (append-nil m) ∙ take-all cap m (g .1 .short) in
-    let few : length m < 2 ^ 63 = omega (arith, g .1 .short, cap-small) in
-    let after = pushes-follow readSteps readWhole Goes Over read-follows tt [] startRead (m ∷ []) (read-follows .started tt .1) in
+    let few : length m < lendLimit = omega (arith, g .1 .short, cap-small) in
+    let after = pushes-follow readSteps readWhole Goes goesOn read-follows tt [] startRead (m ∷ []) (read-follows .started tt .1) in
     record {
       by = tt;
       pushed = m ∷ [];
       lendable = all-more (g .1 .are-bytes, few) all-none;
-      same = ap countsOf (after ∙ ap jobAfter all) ∙ g .1 .same;
+      same = ap counts (after ∙ ap jobAfter all) ∙ g .1 .same;
     }
 
-given-open : (j : RunningRead) → Given readSteps readWhole countsOf j → isOpen (countsOf j) ≡ true
+given-open : (j : RunningRead) → Given readSteps readWhole counts j → isOpen (countsOf j) ≡ true
 given-open j g =
-    sym (ap isOpen (g .same))
-    ∙ ap (λ (k : RunningRead). isOpen (countsOf k))
-    (pushes-follow readSteps readWhole Goes Over read-follows (g .by) [] startRead (g .pushed) (read-follows .started (g .by) .1))
+    sym (counts-tell (afterPushes readSteps startRead (g .pushed)) j (g .same))
+    ∙ ap goesOn
+    (pushes-follow readSteps readWhole Goes goesOn read-follows (g .by) [] startRead (g .pushed) (read-follows .started (g .by) .1))
     ∙ after-open (flatten (map (λ (bs : List ℕ). bs) (g .pushed)))
 
 pub read-20 : Read20
-read-20 =
-    exactly-20 readSteps readWhole (λ j. Unit {0}) countsOf (λ j. isOpen (countsOf j)) (λ j h. open-given j) (λ j h. given-open j)
-    push-taken (λ j bs o. ap (λ (q : Pushed). number (q .number)) (push-refused j bs o)) (λ j e. end-taken j)
-    (λ j e o. ap (λ (q : Ended). reading (q .reading)) (end-refused j o))
+read-20 = exactly-20 readSteps readWhole Goes goesOn read-follows (λ j. Unit {0}) counts (λ j h. open-given j) (λ j h. given-open j)

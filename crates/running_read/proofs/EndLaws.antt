@@ -5,7 +5,7 @@
 --   end-within     which refusals it gives
 --   end-not-20     20 is none of them
 -- Assumes nothing.
-use mathlib.Core.Path.{_≡_, sym, ap, _∙_, subst}
+use mathlib.Core.Path.{_≡_, refl, sym, ap, _∙_, subst}
 use mathlib.Core.Logic.{_⊎_, inl, inr}
 use mathlib.Core.Bool.{false}
 use mathlib.Core.List.{List}
@@ -30,7 +30,8 @@ use Rattle.par1_rules.specs.Layout.{listOf}
 use Rattle.par1_rules.specs.Hashes.{setHash, controlHash}
 use Rattle.par1_rules.specs.Rules.{lengthAllowed}
 use Rattle.par1_rules.proofs.RuleLaws.{too-long}
-use Rattle.par1_read.specs.Reading.{headerRefusal, refusalFrom, savedIn, partsFrom, readFrom, entriesIn, readOf}
+use Rattle.par1_read.specs.Reading.{headerRefusal, refusalFrom, savedIn, partsFrom, readFrom, entriesIn, readOf, readingRefusal}
+use Rattle.par1_read.specs.declared.reading.Reading.{Reading}
 use Rattle.par1_read.specs.declared.reading.Reading.the-variants.{Accepted, Refused}
 use Rattle.par1_read.proofs.HeaderLaws.{header-alone}
 use Rattle.par1_read.proofs.RangeLaws.{from-within}
@@ -128,5 +129,9 @@ end-within j n h r e =
     (from-within (n + 1) (j .header) (j .total) (finished (j .control)) (finished (j .list .hash)) (foundOf (j .list)) (found-within (j .list) n h))
 
 -- 20 is said of the job, and never of the file
-pub end-not-20 : (j : RunningRead) → readingOf j ≡ Refused (bare 20) → ⊥
-end-not-20 j e = omega (arith, end-within j (j .list .totals .entries) (omega arith) (bare 20) e .number-most)
+pub end-not-20 : (j : RunningRead) → readingRefusal (readingOf j) .number ≡ 20 → ⊥
+end-not-20 j = by (readingOf j) refl
+  where
+    by : (r : Reading) → readingOf j ≡ r → readingRefusal r .number ≡ 20 → ⊥
+    by (Accepted p) is e = omega arith
+    by (Refused r) is e = omega (arith, end-within j (j .list .totals .entries) (omega arith) r is .number-most)
