@@ -1,12 +1,13 @@
 -- A file that is read in chunks: the claims.
 --
+--   take-most        no more than n bytes are taken
 --   after-open       a job that pushes gave goes on
 --   pushed-more      a push after the bytes m
 --   ended-whole      the end after the bytes m
 --   over-shut        a job that is over does not go on
 --   read-chunked     the claim over lists of chunks and of calls
 --   counts-tell      the counts tell whether a job goes on
---   open-reached     the counts of a job that goes on are those of one push of bytes
+--   Reached, open-reached    the counts of a job that goes on are those of one push of bytes
 --   read-20          the claim on 20
 -- Assumes nothing.
 use mathlib.Core.Path.{_≡_, refl, sym, ap, _∙_}
