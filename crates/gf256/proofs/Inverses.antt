@@ -6,6 +6,7 @@
 --   inverse-right,
 --   inverse-left     the product of a byte other than 0 and its inverse is 1
 --   one-inverse      each byte other than 0 has one inverse
+--   product-positive, power-positive     products and powers of bytes other than 0 are not 0
 -- Assumes nothing.
 use mathlib.Core.Path.{_≡_, sym, ap, _∙_, subst}
 use mathlib.Core.Bool.{Bool, true, false, cond}
@@ -13,10 +14,11 @@ use mathlib.Core.Logic.{⊎-elim}
 use Prim.Native.Nat.{ℕ, zero, suc, _<_, _≤_}
 use native.Mathlib.Nat.{le-of-suc-le-suc, not-suc-le-zero, eq-or-lt-of-le}
 use native.Mathlib.Omega.{arith}
-use lib.Dec.{T, eqb, eqb→eq}
+use native.Mathlib.Decide.{ℕ-discrete}
+use lib.Dec.{T, eqb, eqb→eq, lit<}
 use Rattle.gf256.specs.Field.{product, power, inverse, inverseBelow}
 use Rattle.gf256.specs.Claim.{OneInverse}
-use Rattle.gf256.proofs.Products.{product-comm, product-assoc, product-one-l, product-one-r}
+use Rattle.gf256.proofs.Products.{product-comm, product-assoc, product-zero-r, product-one-l, product-one-r}
 use Rattle.gf256.proofs.Powers.{power-byte, power-one, power-add}
 use Rattle.gf256.proofs.Squares.{power-255}
 
@@ -76,3 +78,17 @@ inverse-left a h pos = product-comm (inverse a) a (inverse-byte a) h ∙ inverse
 
 pub one-inverse : OneInverse
 one-inverse a h pos = (inverse-byte a, inverse-right a h pos, λ b hb e. sym (inverse-unique a b h hb e))
+
+-- ---- products and powers of bytes other than 0
+
+pub product-positive : (a b : ℕ) → a < 256 → b < 256 → 0 < a → 0 < b → 0 < product a b
+product-positive a b ha hb pa pb =
+    elim (ℕ-discrete (product a b) 0) [
+      | yes z ↦ let back : b ≡ 0 = sym (product-one-l b hb) ∙ ap (λ (x : ℕ). product x b) (sym (inverse-left a ha pa)) ∙ product-assoc (inverse a) a b (inverse-byte a) ha hb ∙ ap (product (inverse a)) z ∙ product-zero-r (inverse a) in absurd (omega arith)
+      | no q ↦ omega (arith, q)
+    ]
+
+pub power-positive : (a n : ℕ) → a < 256 → 0 < a → 0 < power a n
+unfolding power
+power-positive a zero h pos = lit< tt
+power-positive a (suc n) h pos = product-positive a (power a n) h (power-byte a n h) pos (power-positive a n h pos)

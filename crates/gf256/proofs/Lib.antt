@@ -7,3 +7,4 @@ pub mod Shifts
 pub mod Powers
 mod Squares
 pub mod Inverses
+pub mod TableLaws

@@ -1,12 +1,11 @@
 -- The laws of powers of bytes.
 --
 --   power-byte                    a power of a byte is a byte
---   power-one, power-two          the first power, and the square
---   power-of-zero                 powers of 0
+--   power-none, power-one, power-two     the exponents 0, 1 and 2
+--   power-of-zero, power-of-one   powers of 0 and of 1
 --   power-add, power-mul          powers of one byte: their product, and a power of a power
---   power-odd, power-even         a power by squares, one bit of the exponent further
 -- Assumes nothing.
-use mathlib.Core.Path.{_≡_, sym, ap, _∙_}
+use mathlib.Core.Path.{_≡_, refl, sym, ap, _∙_}
 use Prim.Native.Nat.{ℕ, zero, suc, _+_, _*_, _/_, _%_, _<_}
 use native.Mathlib.Nat.{zero-add, suc-add, mul-zero, mul-suc, add-comm, mul-comm, div-add-mod', not-suc-le-zero}
 use lib.Dec.{lit<}
@@ -18,7 +17,11 @@ unfolding power
 power-byte a zero h = lit< tt
 power-byte a (suc n) h = product-byte a (power a n) h (power-byte a n h)
 
--- ---- small exponents, and powers of 0
+-- ---- small exponents, and powers of 0 and 1
+
+pub power-none : (a : ℕ) → power a 0 ≡ 1
+unfolding power
+power-none a = refl
 
 pub power-one : (a : ℕ) → a < 256 → power a 1 ≡ a
 unfolding power
@@ -32,6 +35,11 @@ pub power-of-zero : (n : ℕ) → 0 < n → power 0 n ≡ 0
 unfolding power
 power-of-zero zero h = absurd (not-suc-le-zero h)
 power-of-zero (suc n) h = product-zero-l (power 0 n)
+
+pub power-of-one : (n : ℕ) → power 1 n ≡ 1
+unfolding power
+power-of-one zero = refl
+power-of-one (suc n) = product-one-l (power 1 n) (power-byte 1 n (lit< tt)) ∙ power-of-one n
 
 -- ---- products of powers, and powers of powers
 
@@ -48,29 +56,3 @@ power-mul a m zero h = ap (power a) (sym (mul-zero m))
 power-mul a m (suc n) h =
     ap (product (power a m)) (power-mul a m n h) ∙ sym (power-add a m (m * n) h)
     ∙ ap (power a) (add-comm m (m * n) ∙ sym (mul-suc m n))
-
--- ---- a power by squares
-
-power-step : (a n : ℕ) → a < 256 → power a n ≡ product (power a (n % 2)) (power (product a a) (n / 2))
-power-step a n h =
-    ap (power a) (sym (div-add-mod' n 2) ∙ add-comm (n / 2 * 2) (n % 2)) ∙ power-add a (n % 2) (n / 2 * 2) h
-    ∙ ap (product (power a (n % 2)))
-    (ap (power a) (mul-comm (n / 2) 2) ∙ sym (power-mul a 2 (n / 2) h)
-    ∙ ap (λ (x : ℕ). power x (n / 2)) (power-two a h))
-
--- the product r gains the factor a where n is odd, and none where n is even
-pub power-odd : (r a n : ℕ) → r < 256 → a < 256 → n % 2 ≡ 1
-    → product (product r a) (power (product a a) (n / 2)) ≡ product r (power a n)
-power-odd r a n hr ha odd =
-    let rest = power (product a a) (n / 2) in
-    product-assoc r a rest hr ha (power-byte (product a a) (n / 2) (product-byte a a ha ha))
-    ∙ ap (product r)
-    (sym (power-step a n ha ∙ ap (λ (x : ℕ). product x rest) (ap (power a) odd ∙ power-one a ha)))
-
-pub power-even : (r a n : ℕ) → a < 256 → n % 2 ≡ 0 → product r (power (product a a) (n / 2)) ≡ product r (power a n)
-unfolding power
-power-even r a n ha even =
-    let rest = power (product a a) (n / 2) in
-    ap (product r)
-    (sym (power-step a n ha ∙ ap (λ (x : ℕ). product x rest) (ap (power a) even)
-    ∙ product-one-l rest (power-byte (product a a) (n / 2) (product-byte a a ha ha))))
