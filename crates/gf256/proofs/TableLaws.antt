@@ -5,12 +5,12 @@
 --   power-table-at               an entry of it
 --   counts es, exponents-are     the test of the table of exponents
 --   power-reduced                the powers of 2 come again after 255
---   product-by-tables, power-by-tables             the product and the power by the tables
+--   product-by-tables, power-by-tables, multiples-by-tables     the product, the power and the multiples by the tables
 -- Assumes nothing.
 use mathlib.Core.Path.{_≡_, refl, sym, ap, ap₂, _∙_}
 use mathlib.Core.Bool.{Bool, true, false, cond, _&&_}
 use mathlib.Core.List.{List}
-use Prim.Native.Nat.{ℕ, zero, suc, _+_, _-_, _*_, _/_, _%_, _<_, _≤_}
+use Prim.Native.Nat.{ℕ, zero, suc, _+_, _-_, _*_, _/_, _%_, _^_, _<_, _≤_}
 use native.Mathlib.Nat.{not-suc-le-zero, add-comm, mul-comm, div-add-mod'}
 use native.Mathlib.Omega.{arith}
 use lib.Dec.{eqb, leb, ltb, lit<}
@@ -18,10 +18,11 @@ use lib.ListN.{length, getD}
 use borrow.Author.Tests.{eqb-true, ltb-true, leb-true, ne-eqb}
 use Rattle.computed_tests.specs.Numbers.{allBelow}
 use Rattle.computed_tests.specs.Lists.{listBelow}
-use Rattle.computed_tests.proofs.Tests.{all-at, and-both}
+use Rattle.computed_tests.proofs.Tests.{all-at, and-both, equal-below}
 use Rattle.computed_tests.proofs.Lists.{listBelow-is, listBelow-at}
+use Rattle.gf256.specs.Polynomial.{coeff, sumBelow, polyProduct, remainder}
 use Rattle.gf256.specs.Field.{product, power}
-use Rattle.gf256.specs.Tables.{powersOf2, IsExponents, productBy, powerBy}
+use Rattle.gf256.specs.Tables.{powersOf2, IsExponents, productBy, powerBy, multiplesBy}
 use Rattle.gf256.proofs.Products.{product-byte, product-assoc, product-comm, product-zero-l, product-zero-r, product-one-l, product-one-r}
 use Rattle.gf256.proofs.Powers.{power-byte, power-none, power-of-zero, power-of-one, power-add, power-mul}
 use Rattle.gf256.proofs.Squares.{power-255}
@@ -34,23 +35,23 @@ unfoldable pub doublesAt : List ℕ → ℕ → Bool
 doublesAt ps i = eqb (getD ps (suc i) 0) (product 2 (getD ps i 0))
 
 abbrev pub doubles : List ℕ → Bool
-doubles ps = eqb (getD ps 0 0) 1 && allBelow 261 (doublesAt ps)
+doubles ps = eqb (getD ps 0 0) 1 && allBelow 262 (doublesAt ps)
 
-powers-at : (ps : List ℕ) → doubles ps ≡ true → (i : ℕ) → i < 262 → getD ps i 0 ≡ power 2 i
+powers-at : (ps : List ℕ) → doubles ps ≡ true → (i : ℕ) → i < 263 → getD ps i 0 ≡ power 2 i
 unfolding power doublesAt
-powers-at ps t zero h = eqb-true (getD ps 0 0) 1 (and-both (eqb (getD ps 0 0) 1) (allBelow 261 (doublesAt ps)) t .0)
+powers-at ps t zero h = eqb-true (getD ps 0 0) 1 (and-both (eqb (getD ps 0 0) 1) (allBelow 262 (doublesAt ps)) t .0)
 powers-at ps t (suc i) h =
-    let all = and-both (eqb (getD ps 0 0) 1) (allBelow 261 (doublesAt ps)) t .1 in
-    eqb-true (getD ps (suc i) 0) (product 2 (getD ps i 0)) (all-at 261 (doublesAt ps) all i (omega arith))
+    let all = and-both (eqb (getD ps 0 0) 1) (allBelow 262 (doublesAt ps)) t .1 in
+    eqb-true (getD ps (suc i) 0) (product 2 (getD ps i 0)) (all-at 262 (doublesAt ps) all i (omega arith))
     ∙ ap (product 2) (powers-at ps t i (omega arith))
 
-pub powers-are : (ps : List ℕ) → length ps ≡ 262 → doubles ps ≡ true → ps ≡ powersOf2
+pub powers-are : (ps : List ℕ) → length ps ≡ 263 → doubles ps ≡ true → ps ≡ powersOf2
 unfolding powersOf2
-powers-are ps e t = listBelow-is 262 (λ i. power 2 i) ps e (powers-at ps t)
+powers-are ps e t = listBelow-is 263 (λ i. power 2 i) ps e (powers-at ps t)
 
-pub power-table-at : (i : ℕ) → i < 262 → getD powersOf2 i 0 ≡ power 2 i
+pub power-table-at : (i : ℕ) → i < 263 → getD powersOf2 i 0 ≡ power 2 i
 unfolding powersOf2
-power-table-at i h = listBelow-at 262 (λ i. power 2 i) i h
+power-table-at i h = listBelow-at 263 (λ i. power 2 i) i h
 
 -- ---- the table of the exponents
 
@@ -164,3 +165,19 @@ power-by-tables es t (suc a) (suc n) ha =
     simp (not-zero a, not-zero n)
     (at-reduced (getD es (suc a) 0 * suc n) ∙ sym (power-mul 2 (getD es (suc a) 0) (suc n) (lit< tt))
     ∙ ap (λ (x : ℕ). power x (suc n)) (t .gives (suc a) (omega arith) ha))
+
+-- below 8 the powers of 2 in the field are those of numbers
+low-powers : (i : ℕ) → i < 8 → power 2 i ≡ 2 ^ i
+unfolding power product polyProduct sumBelow coeff remainder
+low-powers = equal-below 8 1 (λ i. power 2 i) (λ i. 2 ^ i) refl
+
+pub multiples-by-tables : (es : List ℕ) → IsExponents es → (a : ℕ) → a < 256 → (i : ℕ) → i < 8
+    → getD (multiplesBy powersOf2 es a) i 0 ≡ product a (2 ^ i)
+unfolding multiplesBy
+multiples-by-tables es t zero h i l = listBelow-at 8 _ i l ∙ sym (product-zero-l (2 ^ i))
+multiples-by-tables es t (suc a) h i l =
+    let e = getD es (suc a) 0 in
+    let below = t .below (suc a) (omega arith) h in
+    listBelow-at 8 _ i l
+    ∙ simp (not-zero a)
+    (power-table-at (e + i) (omega arith) ∙ power-add 2 e i (lit< tt) ∙ ap₂ product (t .gives (suc a) (omega arith) h) (low-powers i l))

@@ -3,6 +3,7 @@
 --   powersOf2          the table of the powers of 2
 --   IsExponents es     es is the table of the exponents
 --   productBy ps es a b, powerBy ps es a n     the product of a and b, and a to the power n, by a table ps of powers and a table es of exponents
+--   multiplesBy ps es a        the products of a and 1, 2, 4, .., 128 by them
 -- Assumes nothing.
 use mathlib.Core.Path.{_≡_}
 use Prim.Native.Nat.{ℕ, _+_, _*_, _%_, _<_}
@@ -13,9 +14,9 @@ use lib.ListN.{length, getD}
 use Rattle.computed_tests.specs.Lists.{listBelow}
 use Rattle.gf256.specs.Field.{power}
 
--- "the powers of 2 in one": 255 that differ, and seven of them again, so that eight in a row stand from each on
+-- "the powers of 2 in one": 255 that differ, and eight of them again, so that eight in a row stand from each on
 unfoldable pub powersOf2 : List ℕ
-powersOf2 = listBelow 262 (λ i. power 2 i)
+powersOf2 = listBelow 263 (λ i. power 2 i)
 
 -- "in the other, for each non-zero byte, the exponent that gives it"; there is one such table (specs/Claim, `OneTable`)
 pub record IsExponents (es : List ℕ) : Type 0 where
@@ -32,3 +33,7 @@ productBy ps es a b = cond (eqb a 0 || eqb b 0) 0 (getD ps ((getD es a 0 + getD 
 -- that of a power is multiplied
 unfoldable pub powerBy : List ℕ → List ℕ → ℕ → ℕ → ℕ
 powerBy ps es a n = cond (eqb n 0) 1 (cond (eqb a 0) 0 (getD ps (getD es a 0 * n % 255) 0))
+
+-- 1, 2, 4, .., 128 are the powers 0 to 7 of 2, so the products are powers in a row
+unfoldable pub multiplesBy : List ℕ → List ℕ → ℕ → List ℕ
+multiplesBy ps es a = listBelow 8 (λ i. cond (eqb a 0) 0 (getD ps (getD es a 0 + i) 0))

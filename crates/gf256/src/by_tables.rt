@@ -3,10 +3,10 @@
 ghost use mathlib.Core.Path.{_≡_};
 ghost use Prim.Native.Nat.{_<_, _%_};
 ghost use lib.ListN.{getD};
-ghost use Rattle.gf256.specs.Tables.{productBy, powerBy};
+ghost use Rattle.gf256.specs.Tables.{productBy, powerBy, multiplesBy};
 
 // The product of a and b by the tables that are lent.
-pub fn product_by(powers: &[u8; 262], exponents: &[u8; 256], a: u8, b: u8) -> u8
+pub fn product_by(powers: &[u8; 263], exponents: &[u8; 256], a: u8, b: u8) -> u8
     ensures { λ r. ⌜ r ≡ productBy (now (powers .entry)) (now (exponents .entry)) a b ⌝ }
 {
     if a == 0 {
@@ -19,7 +19,7 @@ pub fn product_by(powers: &[u8; 262], exponents: &[u8; 256], a: u8, b: u8) -> u8
 }
 
 // a to the power n by the tables that are lent.
-pub fn power_by(powers: &[u8; 262], exponents: &[u8; 256], a: u8, n: u8) -> u8
+pub fn power_by(powers: &[u8; 263], exponents: &[u8; 256], a: u8, n: u8) -> u8
     ensures { λ r. ⌜ r ≡ powerBy (now (powers .entry)) (now (exponents .entry)) a n ⌝ }
 {
     if n == 0 {
@@ -29,6 +29,23 @@ pub fn power_by(powers: &[u8; 262], exponents: &[u8; 256], a: u8, n: u8) -> u8
         return 0;
     }
     powers[reduced(exponent(exponents, a) * place(n))]
+}
+
+// The products of a and 1, 2, 4, .., 128 by the tables that are lent.
+pub fn multiples_by(powers: &[u8; 263], exponents: &[u8; 256], a: u8) -> [u8; 8]
+    ensures { λ r. ⌜ r ≡ multiplesBy (now (powers .entry)) (now (exponents .entry)) a ⌝ }
+{
+    let mut multiples = [0u8; 8];
+    if a == 0 {
+        return multiples;
+    }
+    let from = exponent(exponents, a);
+    let mut i: usize = 0;
+    while i < 8 {
+        multiples[i] = powers[from + i];
+        i += 1;
+    }
+    multiples
 }
 
 // The exponent of a in its table.

@@ -3,8 +3,8 @@
 ghost use mathlib.Core.Path.{_≡_};
 ghost use Rattle.gf256.specs.Tables.{powersOf2, IsExponents};
 
-// 2 to the power i, at i, so far that eight from any exponent below 255 on are there.
-const POWERS: [u8; 262] = [
+// 2 to the power i, at i, so far that eight in a row stand from any byte on.
+const POWERS: [u8; 263] = [
     1,
     2,
     4,
@@ -267,6 +267,7 @@ const POWERS: [u8; 262] = [
     16,
     32,
     64,
+    128,
 ];
 
 // The exponent below 255 of each byte other than 0; 255 for 0, which is no power of 2.
@@ -530,7 +531,7 @@ const EXPONENTS: [u8; 256] = [
 ];
 
 // The table of the powers of 2.
-pub fn power_table() -> [u8; 262]
+pub fn power_table() -> [u8; 263]
     ensures { λ r. ⌜ r ≡ powersOf2 ⌝ }
 {
     POWERS

@@ -30,15 +30,9 @@ fn least(a: usize, b: usize) -> usize
 fn multiples(weight: u8) -> [u8; 8]
     ensures { λ r. ⌜ ((i : ℕ) → i < 8 → getD r i 0 ≡ product weight (2 ^ i)) ⌝ }
 {
-    let mut multiples = [0u8; 8];
-    let mut x = weight;
-    let mut i: usize = 0;
-    while i < 8 {
-        multiples[i] = x;
-        x = gf256::double(x);
-        i += 1;
-    }
-    multiples
+    let powers = gf256::power_table();
+    let exponents = gf256::exponent_table();
+    gf256::multiples_by(&powers, &exponents, weight)
 }
 
 // The sum of the multiples at the places of the bits of x: eight choices, with no table and no branch between them. In this
