@@ -100,11 +100,13 @@ fn sweep(matrix: &mut [u8], y: &[u8; 256], k: usize, scale: u8)
     requires { ⌜ (length (now matrix) ≡ 65536) × (k < 256) ⌝ }
     ensures { λ _. ⌜ now (matrix .exit) ≡ swept (λ j. getD (now (y .entry)) j 0) k scale (now (matrix .entry)) ⌝ }
 {
+    let powers = gf256::power_table();
+    let exponents = gf256::exponent_table();
     let mut r: usize = 0;
     while r < 256 {
         let from = r * 256;
         let to = from + 256;
-        let weight = gf256::product(scale, matrix[from + k]);
+        let weight = gf256::product_by(&powers, &exponents, scale, matrix[from + k]);
         add_multiple(weight, y, &mut matrix[from..to]);
         r += 1;
     }

@@ -1,22 +1,30 @@
 -- Document 01's coefficients, and when a call for one is answered.
 --
 --   coefficient-byte                     the coefficient of a file is a byte
+--   coefficient-by-tables                it is what the tables give
 --   answer-in-range                      numbers in range are answered
 --   answer-file-zero, answer-volume-zero,
 --   answer-sum-above                     other numbers are refused
 -- Assumes nothing.
 use mathlib.Core.Path.{_≡_}
 use mathlib.Core.Bool.{or-true}
+use mathlib.Core.List.{List}
 use Prim.Native.Nat.{ℕ, _+_, _-_, _<_, _≤_}
 use native.Mathlib.Omega.{arith}
 use borrow.Author.Tests.{eq-eqb, ne-eqb, lt-ltb, le-ltb}
 use Rattle.gf256.specs.declared.ByteAnswer.the-variants.{Byte, Refused}
 use Rattle.gf256.proofs.Powers.{power-byte}
-use Rattle.parity.specs.Coefficient.{coefficient, coefficientAnswer}
+use Rattle.gf256.specs.Tables.{powersOf2, IsExponents}
+use Rattle.gf256.proofs.TableLaws.{power-by-tables}
+use Rattle.parity.specs.Coefficient.{coefficient, coefficientBy, coefficientAnswer}
 
 pub coefficient-byte : (f v : ℕ) → f < 256 → coefficient f v < 256
 unfolding coefficient
 coefficient-byte f v h = power-byte f (v - 1) h
+
+pub coefficient-by-tables : (es : List ℕ) → IsExponents es → (f v : ℕ) → f < 256 → coefficientBy powersOf2 es f v ≡ coefficient f v
+unfolding coefficientBy coefficient
+coefficient-by-tables es t f v h = power-by-tables es t f (v - 1) h
 
 module _ (f v : ℕ) where
   pub answer-in-range : 0 < f → 0 < v → f + v ≤ 255 → coefficientAnswer f v ≡ Byte (coefficient f v)

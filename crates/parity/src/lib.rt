@@ -1,6 +1,6 @@
 // Coefficients of files in volumes (document 01, "The parity bytes"). The parity that they make is defined in specs/.
 ghost use mathlib.Core.Path.{_≡_};
-ghost use Rattle.parity.specs.Coefficient.{coefficient, coefficientAnswer};
+ghost use Rattle.parity.specs.Coefficient.{coefficient, coefficientBy, coefficientAnswer};
 use gf256::ByteAnswer;
 use refusals::OUT_OF_RANGE;
 
@@ -27,8 +27,17 @@ pub fn coefficient(file: u64, volume: u64) -> ByteAnswer
 pub fn coefficient_of(file: u8, volume: u8) -> u8
     ensures { λ r. ⌜ r ≡ coefficient file volume ⌝ }
 {
+    let powers = gf256::power_table();
+    let exponents = gf256::exponent_table();
+    coefficient_by(&powers, &exponents, file, volume)
+}
+
+// The same by the tables that are lent: one look-up.
+pub fn coefficient_by(powers: &[u8; 263], exponents: &[u8; 256], file: u8, volume: u8) -> u8
+    ensures { λ r. ⌜ r ≡ coefficientBy (now (powers .entry)) (now (exponents .entry)) file volume ⌝ }
+{
     if volume == 0 {
         return 1;
     }
-    gf256::power(file, volume - 1)
+    gf256::power_by(powers, exponents, file, volume - 1)
 }

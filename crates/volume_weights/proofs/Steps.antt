@@ -4,33 +4,34 @@
 --   volumes-reduced             the elimination after the rows of the volumes present
 --   solved-by, unsolved-by      what it answers
 --   weight-below                the weight of a volume
---   weightedSum rule ws f present m   the weight of file f by the first m volumes
---   weight-absent, weight-more        of a file that is not present; by one volume more
+--   Weighted rule present ws m sums   the sums are the weights of the files by the first m volumes
+--   weighted-none, weighted-more      by no volume, and by one volume more
 -- Assumes nothing.
 use mathlib.Core.Path.{_≡_, refl, sym, ap, ap₂, _∙_, subst}
-use mathlib.Core.Bool.{Bool, true, false, cond}
+use mathlib.Core.Bool.{Bool, true, false, not, cond, _&&_, and-true}
 use mathlib.Core.List.{List}
 use Prim.Native.Nat.{ℕ, zero, suc, _<_, _+_}
 use native.Mathlib.Numerals.{add-one}
 use native.Mathlib.Omega.{arith}
 use native.Mathlib.Decide.{decLt}
 use lib.Bits.{bitXor}
-use lib.ListN.{getD, replicate}
+use lib.ListN.{length, getD, replicate, length-replicate, getD-replicate}
 use borrow.Author.Tests.{le-leb, lt-leb}
 use Rattle.computed_tests.specs.Lists.{listBelow}
 use Rattle.computed_tests.proofs.Lists.{listBelow-at}
 use Rattle.gf256.specs.Polynomial.{sumBelow}
 use Rattle.gf256.specs.Field.{product}
-use Rattle.gf256.proofs.Polynomials.{sumBelow-same, sumBelow-none}
-use Rattle.gf256.proofs.Products.{product-zero-r}
+use Rattle.mul_add.specs.MulAdd.{mulAdd}
+use Rattle.mul_add.proofs.MulAdds.{length-mulAdd, mulAdd-at}
 use Rattle.elimination.specs.Reduction.{withDiagonal, rowAdded, isSolvable, weightOf}
 use Rattle.elimination.proofs.Reductions.{entries, ownerOf, ReducedBytes, ReducedPair, start-reduced, skip-reduced, add-reduced}
 use Rattle.elimination.proofs.Reductions.{weight-value, weight-late, weight-none, solvable-solution, unsolvable-kernel}
 use Rattle.elimination.proofs.Elimination.{rowWeight}
 use Rattle.elimination.specs.ByteField.{Byte, byteField}
 use Rattle.number_sets.specs.Sets.{member}
-use Rattle.volume_weights.specs.Weights.{tableOf, rowOf, volumeAdded, volumesAdded, weightAt, Solved, solved, unsolved}
-use Rattle.volume_weights.proofs.CoefficientRows.{table-row, table-absent}
+use Rattle.number_sets.proofs.Words.{member-none}
+use Rattle.volume_weights.specs.Weights.{tableOf, rowOf, volumeAdded, volumesAdded, weightAt, Solved, solved, unsolved, fileWeight}
+use Rattle.volume_weights.proofs.CoefficientRows.{column-below, table-row, table-absent}
 
 -- one volume more
 pub volumes-more : (rule : ℕ → ℕ → ℕ) (nonempty present volumes : List ℕ) (v : ℕ) (start s s′ : List ℕ × List ℕ)
@@ -109,16 +110,34 @@ weight-below rows w v l = ap (λ (b : Bool). cond b (w v .0) 0) (le-leb (suc v) 
 
 -- ---- the weights of the files
 
-module _ (rule : ℕ → ℕ → ℕ) (ws : List ℕ) (f : ℕ) where
-  -- the sum over the first m volumes, for a file that is present or not
-  abbrev pub weightedSum : Bool → ℕ → ℕ
-  weightedSum present m = sumBelow m (λ v. product (getD ws (suc v) 0) (cond present (rule f (suc v)) 0))
+module _ (rule : ℕ → ℕ → ℕ) (present ws : List ℕ) where
+  -- the sums have the terms of the first m volumes
+  pub record Weighted (m : ℕ) (sums : List ℕ) : Type 0 where
+    pub full : length sums ≡ 255
+    pub each : (i : ℕ) → i < 255 → getD sums i 0 ≡ fileWeight rule present ws m i
 
-  pub weight-absent : (m : ℕ) → 0 ≡ weightedSum false m
-  weight-absent m = sym (sumBelow-same m _ (λ v. 0) (λ v l. product-zero-r (getD ws (suc v) 0)) ∙ sumBelow-none m)
+  pub weighted-none : Weighted 0 (replicate 255 0)
+  unfolding fileWeight sumBelow
+  weighted-none = record { full = length-replicate {A = ℕ} 255 0; each = λ i l. getD-replicate 255 i 0 0 l }
 
-  pub weight-more : (v sum term : ℕ) → sum ≡ weightedSum true v → term ≡ product (getD ws (v + 1) 0) (rule f (v + 1))
-      → bitXor sum term ≡ weightedSum true (v + 1)
-  unfolding sumBelow
-  weight-more v sum term e t =
-      ap₂ bitXor e (t ∙ ap (λ (k : ℕ). product (getD ws k 0) (rule f k)) (add-one v)) ∙ ap (weightedSum true) (sym (add-one v))
+  -- a file's entry in the row of the files present
+  present-entry : (v i : ℕ) → i < 255
+      → getD (rowOf rule present (replicate 4 0) v) i 0 ≡ cond (member present (suc i)) (rule (suc i) v) 0
+  unfolding rowOf
+  present-entry v i l =
+      listBelow-at 256 _ i (omega arith) ∙ sym (column-below rule present (replicate 4 0) v i l)
+      ∙ ap (λ (b : Bool). cond b (rule (suc i) v) 0) (ap (λ (b : Bool). member present (suc i) && not b) (member-none (suc i)) ∙ and-true (member present (suc i)))
+
+  pub weighted-more : (v : ℕ) (sums sums′ : List ℕ) → Weighted v sums
+      → sums′ ≡ mulAdd (getD ws (v + 1) 0) (rowOf rule present (replicate 4 0) (v + 1)) sums → Weighted (v + 1) sums′
+  unfolding fileWeight sumBelow
+  weighted-more v sums sums′ w e =
+      let k = add-one v in
+      record {
+        full = ap length e ∙ length-mulAdd _ _ sums ∙ w .full;
+        each = λ i l.
+            ap (λ (s : List ℕ). getD s i 0) e ∙ mulAdd-at _ _ sums i (subst (λ (n : ℕ). i < n) (sym (w .full)) l)
+            ∙ ap₂ (λ (a b : ℕ). bitXor a (product (getD ws (v + 1) 0) b)) (w .each i l) (present-entry (v + 1) i l)
+            ∙ ap (λ (n : ℕ). bitXor (fileWeight rule present ws v i) (product (getD ws n 0) (cond (member present (suc i)) (rule (suc i) n) 0))) k
+            ∙ ap (λ (n : ℕ). fileWeight rule present ws n i) (sym k);
+      }

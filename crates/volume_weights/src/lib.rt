@@ -2,15 +2,13 @@
 // then weigh. The rule of the coefficients is `parity::coefficient_of`.
 ghost use mathlib.Core.Path.{_≡_};
 ghost use mathlib.Core.Bool.{not, cond, _&&_};
-ghost use Prim.Native.Nat.{suc};
-ghost use lib.ListN.{getD};
+ghost use lib.ListN.{replicate};
 ghost use Rattle.computed_tests.specs.Lists.{listBelow};
-ghost use Rattle.gf256.specs.Polynomial.{sumBelow};
-ghost use Rattle.gf256.specs.Field.{product};
-ghost use Rattle.parity.specs.Coefficient.{coefficient};
+ghost use Rattle.mul_add.specs.MulAdd.{mulAdd};
+ghost use Rattle.parity.specs.Coefficient.{coefficient, coefficientBy};
 ghost use Rattle.volume_weights.specs.Weights.{rowOf, volumeAdded, volumesAdded, Solved, fileWeight};
 use number_sets::has;
-use parity::coefficient_of;
+use parity::coefficient_by;
 
 // Whether weights bring a missing file back, and these weights by volume number; zeros where none do.
 pub struct Solution {
@@ -86,25 +84,35 @@ fn add_volume(
 fn row(nonempty: [u64; 4], present: [u64; 4], volume: u8) -> [u8; 256]
     ensures { λ r. ⌜ r ≡ rowOf coefficient nonempty present volume ⌝ }
 {
+    let powers = gf256::power_table();
+    let exponents = gf256::exponent_table();
     let mut row = [0u8; 256];
     let mut i: usize = 0;
     while i < 255 {
         let file = i as u64 + 1;
-        row[i] = entry(has(nonempty, file), has(present, file), file as u8, volume);
+        let column = is_column(has(nonempty, file), has(present, file));
+        row[i] = entry(&powers, &exponents, column, file as u8, volume);
         i += 1;
     }
     row
 }
 
-// The coefficient of a file in a volume, if the file is a column, else 0.
-fn entry(nonempty: bool, present: bool, file: u8, volume: u8) -> u8
-    ensures { λ r. ⌜ r ≡ cond (nonempty && not present) (coefficient file volume) 0 ⌝ }
+// Whether a file is a column: of size 1 or more, and not present.
+fn is_column(nonempty: bool, present: bool) -> bool
+    ensures { λ r. ⌜ r ≡ nonempty && not present ⌝ }
 {
     if present {
-        return 0;
+        return false;
     }
-    if nonempty {
-        coefficient_of(file, volume)
+    nonempty
+}
+
+// The coefficient of a file in a volume by the tables that are lent, if the file is a column, else 0.
+fn entry(powers: &[u8; 263], exponents: &[u8; 256], column: bool, file: u8, volume: u8) -> u8
+    ensures { λ r. ⌜ r ≡ cond column (coefficientBy (now (powers .entry)) (now (exponents .entry)) file volume) 0 ⌝ }
+{
+    if column {
+        coefficient_by(powers, exponents, file, volume)
     } else {
         0
     }
@@ -116,37 +124,20 @@ pub fn file_weights(present: [u64; 4], rows: u8, weights: &[u8; 256]) -> [u8; 25
     ensures { λ r. ⌜ r ≡ listBelow 255 (fileWeight coefficient present (now (weights .entry)) rows) ⌝ }
 {
     let mut sums = [0u8; 255];
-    let mut i: usize = 0;
-    while i < 255 {
-        let file = i as u64 + 1;
-        sums[i] = file_weight(has(present, file), file as u8, rows, weights);
-        i += 1;
+    let mut v: u8 = 0;
+    while v < rows {
+        add_terms(present, weights[v as usize + 1], v + 1, &mut sums);
+        v += 1;
     }
     sums
 }
 
-// The weight of a file.
-fn file_weight(present: bool, file: u8, rows: u8, weights: &[u8; 256]) -> u8
-    ensures { λ r. ⌜ r ≡ sumBelow rows (λ v. product (getD (now (weights .entry)) (suc v) 0) (cond present (coefficient file (suc v)) 0)) ⌝ }
+// Adds a weight times the coefficient in a volume of each file present. A weight of 0 takes no time.
+fn add_terms(present: [u64; 4], weight: u8, volume: u8, sums: &mut [u8; 255])
+    ensures { λ _. ⌜ now (sums .exit) ≡ mulAdd weight (rowOf coefficient present (replicate 4 0) volume) (now (sums .entry)) ⌝ }
 {
-    if !present {
-        return 0;
+    if weight != 0 {
+        let row = row(present, [0u64; 4], volume);
+        mul_add::mul_add(weight, &row, sums);
     }
-    let mut sum: u8 = 0;
-    let mut v: u8 = 0;
-    while v < rows {
-        sum = sum ^ term(weights[v as usize + 1], file, v + 1);
-        v += 1;
-    }
-    sum
-}
-
-// A weight times the coefficient of a file in a volume. A weight of 0 takes no time.
-fn term(weight: u8, file: u8, volume: u8) -> u8
-    ensures { λ r. ⌜ r ≡ product weight (coefficient file volume) ⌝ }
-{
-    if weight == 0 {
-        return 0;
-    }
-    gf256::product(weight, coefficient_of(file, volume))
 }
