@@ -4,11 +4,11 @@
 --   listBelow-is                     a list of that length with these entries is the list by the rule
 --   listBelow-same                   two rules that agree below the length
 --   IsFirst m t k                    k is the first number below m at which t passes, or m
---   first-is                         so is what the search finds
+--   first-is, first-only             so is what the search finds, and nothing else
 --   firstBelow-same                  two tests that agree below the bound
 -- Assumes nothing.
 use mathlib.Core.Path.{_≡_, refl, sym, ap, ap₂, _∙_, subst}
-use mathlib.Core.Bool.{Bool, true, false, cond}
+use mathlib.Core.Bool.{Bool, true, false, cond, true≢false}
 use mathlib.Core.List.{List, _∷_}
 use Prim.Native.Nat.{ℕ, zero, suc, _<_, _≤_}
 use native.Mathlib.Nat.{le-of-suc-le-suc, not-suc-le-zero}
@@ -63,6 +63,13 @@ first-is (suc m) t = go (first-is m (λ k. t (suc k))) (t 0) refl
         none : (j : ℕ) → j < next → t j ≡ false
         none zero l = e
         none (suc j) l = rest .before j (le-of-suc-le-suc l)
+
+module _ (m : ℕ) (t : ℕ → Bool) where
+  not-before : (k l : ℕ) → IsFirst m t k → IsFirst m t l → k < l → ⊥
+  not-before k l P Q b = let h = Q .within in true≢false (sym (P .found (omega arith)) ∙ Q .before k b)
+
+  pub first-only : (k : ℕ) → IsFirst m t k → k ≡ firstBelow m t
+  first-only k P = omega (arith, not-before k (firstBelow m t) P (first-is m t), not-before (firstBelow m t) k (first-is m t) P)
 
 pub firstBelow-same : (m : ℕ) (s t : ℕ → Bool) → ((k : ℕ) → k < m → s k ≡ t k) → firstBelow m s ≡ firstBelow m t
 unfolding firstBelow

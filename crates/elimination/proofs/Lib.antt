@@ -6,3 +6,4 @@ mod Steps
 mod AddedRow
 pub mod ByteField
 pub mod Reductions
+pub mod Within

@@ -2,6 +2,7 @@
 -- elimination of A has them, and answer for it.
 --
 --   entries m i j, ownerOf owners k     entry (i, j) of the matrix m as a field element, and the owner of column k
+--   identity-at                   the entries of the matrix at first
 --   zeros-at                      a list of zeros is 0 everywhere
 --   ReducedBytes A m owners t     m and owners after the first t rows of A
 --   ReducedPair A s t             the same of the pair s of a matrix and owners
@@ -32,7 +33,7 @@ use Rattle.gf256.proofs.Polynomials.{sumBelow-same, sumBelow-none}
 use Rattle.elimination.specs.Field.{δ}
 use Rattle.elimination.specs.Matrix.{IsSolution, IsKernelVector}
 use Rattle.elimination.specs.Reduction.{entry, withDiagonal, rowProduct, pivotOf, sweptEntry, swept, columnTaken, rowAdded, isSolvable, weightOf}
-use Rattle.elimination.proofs.Pivots.{IsPivot, pivot-is, pivot-none, pivot-some}
+use Rattle.elimination.proofs.Pivots.{IsPivot, pivot-is, pivot-whole, pivot-none, pivot-some}
 use Rattle.elimination.proofs.AddedRow.{row-left, row-taken}
 use Rattle.elimination.proofs.Sums as S
 use Rattle.elimination.proofs.Elimination.{rowTimes, Reduced, rowWeight, reduced-start, reduced-dependent, reduced-independent}
@@ -94,7 +95,7 @@ zeros-at zero p = refl
 zeros-at (suc n) zero = refl
 zeros-at (suc n) (suc p) = zeros-at n p
 
-identity-at : (i j : ℕ) → i < 256 → j < 256 → entry (withDiagonal 256 (replicate 65536 0)) i j ≡ cond (eqb i j) 1 0
+pub identity-at : (i j : ℕ) → i < 256 → j < 256 → entry (withDiagonal 256 (replicate 65536 0)) i j ≡ cond (eqb i j) 1 0
 identity-at i j li lj =
     elim (ℕ-discrete i j) [
       | yes e ↦
@@ -149,7 +150,7 @@ module _ (A : ℕ → ℕ → Byte) (m owners : List ℕ) (t : ℕ) (R : Reduced
         ∙ sumBelow-same 256 (λ i. product (A t i .0) (entries m i j .0)) (λ i. product (getD u i 0) (entry m i j))
         (λ i b. ap₂ product (row i b) (value i j b l))
 
-    module _ (k : ℕ) (lk : k < 256) (P : IsPivot (rowProduct u m) owners k) where
+    module _ (k : ℕ) (lk : k < 256) (P : IsPivot 256 (rowProduct u m) owners k) where
       sweptByte : ℕ → ℕ → Byte
       sweptByte i j =
           byteField .add (entries m i j)
@@ -182,7 +183,7 @@ module _ (A : ℕ → ℕ → Byte) (m owners : List ℕ) (t : ℕ) (R : Reduced
             (λ j l q. getD-set-other owners k j (suc t) 0 q);
       }
 
-    dependent-reduced : IsPivot (rowProduct u m) owners 256 → ReducedBytes A m owners (suc t)
+    dependent-reduced : IsPivot 256 (rowProduct u m) owners 256 → ReducedBytes A m owners (suc t)
     unfolding timesM
     dependent-reduced P = record {
       bytes = R .bytes;
@@ -198,14 +199,14 @@ module _ (A : ℕ → ℕ → Byte) (m owners : List ℕ) (t : ℕ) (R : Reduced
           | no q ↦
               let b = P .within in
               subst after (sym (row-left u (suc t) m owners (omega arith)))
-              (dependent-reduced (subst (IsPivot (rowProduct u m) owners) (omega arith) P))
+              (dependent-reduced (subst (IsPivot 256 (rowProduct u m) owners) (omega arith) P))
         ]
       where
         k : ℕ
         k = pivotOf (rowProduct u m) owners
 
-        P : IsPivot (rowProduct u m) owners k
-        P = pivot-is (rowProduct u m) owners
+        P : IsPivot 256 (rowProduct u m) owners k
+        P = subst (IsPivot 256 (rowProduct u m) owners) (sym (pivot-whole (rowProduct u m) owners)) (pivot-is 256 (rowProduct u m) owners)
 
         after : List ℕ × List ℕ → Type 0
         after s = ReducedPair A s (suc t)

@@ -8,12 +8,17 @@
 --   swept y k scale m              m with each row so swept
 --   columnTaken u number m owners k     the matrix and the owners after the row u took column k
 --   rowAdded u number m owners     the matrix and the owners after the row u was added
+--   inBlocks width                 a width in whole blocks of 16
+--   rowProductWithin w, pivotWithin w, sweptWithin w, columnTakenWithin w, rowAddedWithin w     the same within a width: of the first
+--                                  w rows and columns, and the others stay
+--   Apart w m                      m keeps to the width w, so that nothing is left out: proofs/Within, `added-within`
 --   isSolvable m owners f          whether row f of m is 0 in each column without an owner
 --   weightOf m owners f v          what stands in row f of m in the columns that v owns
 -- Assumes nothing.
+use mathlib.Core.Path.{_≡_}
 use mathlib.Core.Bool.{Bool, not, cond, _&&_}
 use mathlib.Core.List.{List}
-use Prim.Native.Nat.{ℕ, zero, suc, _+_, _*_, _/_, _%_}
+use Prim.Native.Nat.{ℕ, zero, suc, _+_, _*_, _/_, _%_, _<_, _≤_}
 use lib.Bits.{bitXor}
 use lib.Dec.{eqb, ltb}
 use lib.ListN.{getD, set}
@@ -52,6 +57,35 @@ unfoldable pub rowAdded : List ℕ → ℕ → List ℕ → List ℕ → List �
 rowAdded u number m owners =
     let k = pivotOf (rowProduct u m) owners in
     cond (ltb k 256) (columnTaken u number m owners k) (m, owners)
+
+-- ---- a row added within a width
+
+unfoldable pub inBlocks : ℕ → ℕ
+inBlocks width = (width + 15) / 16 * 16
+
+unfoldable pub rowProductWithin : ℕ → List ℕ → List ℕ → ℕ → ℕ
+rowProductWithin w u m j = sumBelow w (λ i. product (getD u i 0) (entry m i j))
+
+unfoldable pub pivotWithin : ℕ → (ℕ → ℕ) → List ℕ → ℕ
+pivotWithin w y owners = firstBelow w (λ k. eqb (getD owners k 0) 0 && not (eqb (y k) 0))
+
+unfoldable pub sweptWithin : ℕ → (ℕ → ℕ) → ℕ → ℕ → List ℕ → List ℕ
+sweptWithin w y k scale m =
+    listBelow 65536 (λ p. cond (ltb (p / 256) w && ltb (p % 256) w) (sweptEntry y k scale m (p / 256) (p % 256)) (getD m p 0))
+
+unfoldable pub columnTakenWithin : ℕ → List ℕ → ℕ → List ℕ → List ℕ → ℕ → List ℕ × List ℕ
+columnTakenWithin w u number m owners k =
+    (sweptWithin w (λ j. bitXor (rowProductWithin w u m j) (cond (eqb k j) 1 0)) k (inverse (rowProductWithin w u m k)) m, set owners k number)
+
+unfoldable pub rowAddedWithin : ℕ → List ℕ → ℕ → List ℕ → List ℕ → List ℕ × List ℕ
+rowAddedWithin w u number m owners =
+    let k = pivotWithin w (rowProductWithin w u m) owners in
+    cond (ltb k w) (columnTakenWithin w u number m owners k) (m, owners)
+
+-- each entry is 0 that joins a row below w and a column from w on, or the other way
+pub record Apart (w : ℕ) (m : List ℕ) : Type 0 where
+  pub right : (i j : ℕ) → i < w → w ≤ j → j < 256 → entry m i j ≡ 0
+  pub below : (i j : ℕ) → w ≤ i → i < 256 → j < w → entry m i j ≡ 0
 
 -- ---- what is read off
 

@@ -5,7 +5,7 @@
 --   power-table-at               an entry of it
 --   counts es, exponents-are     the test of the table of exponents
 --   power-reduced                the powers of 2 come again after 255
---   product-by-tables, power-by-tables, multiples-by-tables     the product, the power and the multiples by the tables
+--   product-by-tables, power-by-tables, eight-by-tables     the product, the power and eight products by the tables
 -- Assumes nothing.
 use mathlib.Core.Path.{_≡_, refl, sym, ap, ap₂, _∙_}
 use mathlib.Core.Bool.{Bool, true, false, cond, _&&_}
@@ -22,7 +22,7 @@ use Rattle.computed_tests.proofs.Tests.{all-at, and-both, equal-below}
 use Rattle.computed_tests.proofs.Lists.{listBelow-is, listBelow-at}
 use Rattle.gf256.specs.Polynomial.{coeff, sumBelow, polyProduct, remainder}
 use Rattle.gf256.specs.Field.{product, power}
-use Rattle.gf256.specs.Tables.{powersOf2, IsExponents, productBy, powerBy, multiplesBy}
+use Rattle.gf256.specs.Tables.{powersOf2, IsExponents, productBy, powerBy, eightFrom}
 use Rattle.gf256.proofs.Products.{product-byte, product-assoc, product-comm, product-zero-l, product-zero-r, product-one-l, product-one-r}
 use Rattle.gf256.proofs.Powers.{power-byte, power-none, power-of-zero, power-of-one, power-add, power-mul}
 use Rattle.gf256.proofs.Squares.{power-255}
@@ -141,43 +141,43 @@ power-reduced n =
     (sym (power-mul 2 255 (n / 255) two) ∙ ap (λ (x : ℕ). power x (n / 255)) (power-255 2 two (lit< tt)) ∙ power-of-one (n / 255))
     ∙ product-one-l (power 2 (n % 255)) rest)
 
--- what the table of powers has at a reduced exponent
-at-reduced : (n : ℕ) → getD powersOf2 (n % 255) 0 ≡ power 2 n
-at-reduced n = power-table-at (n % 255) (omega arith) ∙ power-reduced n
-
 not-zero : (n : ℕ) → eqb (suc n) 0 ≡ false
 not-zero n = ne-eqb (suc n) 0 (λ e. omega arith)
-
-pub product-by-tables : (es : List ℕ) → IsExponents es → (a b : ℕ) → a < 256 → b < 256 → productBy powersOf2 es a b ≡ product a b
-unfolding productBy
-product-by-tables es t zero b ha hb = sym (product-zero-l b)
-product-by-tables es t (suc a) zero ha hb = simp (not-zero a) (sym (product-zero-r (suc a)))
-product-by-tables es t (suc a) (suc b) ha hb =
-    simp (not-zero a, not-zero b)
-    (at-reduced (getD es (suc a) 0 + getD es (suc b) 0) ∙ power-add 2 (getD es (suc a) 0) (getD es (suc b) 0) (lit< tt)
-    ∙ ap₂ product (t .gives (suc a) (omega arith) ha) (t .gives (suc b) (omega arith) hb))
-
-pub power-by-tables : (es : List ℕ) → IsExponents es → (a n : ℕ) → a < 256 → powerBy powersOf2 es a n ≡ power a n
-unfolding powerBy
-power-by-tables es t a zero ha = sym (power-none a)
-power-by-tables es t zero (suc n) ha = simp (not-zero n) (sym (power-of-zero (suc n) (omega arith)))
-power-by-tables es t (suc a) (suc n) ha =
-    simp (not-zero a, not-zero n)
-    (at-reduced (getD es (suc a) 0 * suc n) ∙ sym (power-mul 2 (getD es (suc a) 0) (suc n) (lit< tt))
-    ∙ ap (λ (x : ℕ). power x (suc n)) (t .gives (suc a) (omega arith) ha))
 
 -- below 8 the powers of 2 in the field are those of numbers
 low-powers : (i : ℕ) → i < 8 → power 2 i ≡ 2 ^ i
 unfolding power product polyProduct sumBelow coeff remainder
 low-powers = equal-below 8 1 (λ i. power 2 i) (λ i. 2 ^ i) refl
 
-pub multiples-by-tables : (es : List ℕ) → IsExponents es → (a : ℕ) → a < 256 → (i : ℕ) → i < 8
-    → getD (multiplesBy powersOf2 es a) i 0 ≡ product a (2 ^ i)
-unfolding multiplesBy
-multiples-by-tables es t zero h i l = listBelow-at 8 _ i l ∙ sym (product-zero-l (2 ^ i))
-multiples-by-tables es t (suc a) h i l =
-    let e = getD es (suc a) 0 in
-    let below = t .below (suc a) (omega arith) h in
-    listBelow-at 8 _ i l
-    ∙ simp (not-zero a)
-    (power-table-at (e + i) (omega arith) ∙ power-add 2 e i (lit< tt) ∙ ap₂ product (t .gives (suc a) (omega arith) h) (low-powers i l))
+module _ (ps es : List ℕ) (p : ps ≡ powersOf2) (t : IsExponents es) where
+  power-at : (i : ℕ) → i < 263 → getD ps i 0 ≡ power 2 i
+  power-at i h = ap (λ (qs : List ℕ). getD qs i 0) p ∙ power-table-at i h
+
+  -- what stands at a reduced exponent
+  at-reduced : (n : ℕ) → getD ps (n % 255) 0 ≡ power 2 n
+  at-reduced n = power-at (n % 255) (omega arith) ∙ power-reduced n
+
+  pub product-by-tables : (a b : ℕ) → a < 256 → b < 256 → productBy ps es a b ≡ product a b
+  unfolding productBy
+  product-by-tables zero b ha hb = sym (product-zero-l b)
+  product-by-tables (suc a) zero ha hb = simp (not-zero a) (sym (product-zero-r (suc a)))
+  product-by-tables (suc a) (suc b) ha hb =
+      simp (not-zero a, not-zero b)
+      (at-reduced (getD es (suc a) 0 + getD es (suc b) 0) ∙ power-add 2 (getD es (suc a) 0) (getD es (suc b) 0) (lit< tt)
+      ∙ ap₂ product (t .gives (suc a) (omega arith) ha) (t .gives (suc b) (omega arith) hb))
+
+  pub power-by-tables : (a n : ℕ) → a < 256 → powerBy ps es a n ≡ power a n
+  unfolding powerBy
+  power-by-tables a zero ha = sym (power-none a)
+  power-by-tables zero (suc n) ha = simp (not-zero n) (sym (power-of-zero (suc n) (omega arith)))
+  power-by-tables (suc a) (suc n) ha =
+      simp (not-zero a, not-zero n)
+      (at-reduced (getD es (suc a) 0 * suc n) ∙ sym (power-mul 2 (getD es (suc a) 0) (suc n) (lit< tt))
+      ∙ ap (λ (x : ℕ). power x (suc n)) (t .gives (suc a) (omega arith) ha))
+
+  pub eight-by-tables : (a : ℕ) → 0 < a → a < 256 → (i : ℕ) → i < 8 → getD (eightFrom ps (getD es a 0)) i 0 ≡ product a (2 ^ i)
+  unfolding eightFrom
+  eight-by-tables a pos h i l =
+      let e = getD es a 0 in
+      let below = t .below a pos h in
+      listBelow-at 8 _ i l ∙ power-at (e + i) (omega arith) ∙ power-add 2 e i (lit< tt) ∙ ap₂ product (t .gives a pos h) (low-powers i l)

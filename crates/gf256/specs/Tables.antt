@@ -3,7 +3,7 @@
 --   powersOf2          the table of the powers of 2
 --   IsExponents es     es is the table of the exponents
 --   productBy ps es a b, powerBy ps es a n     the product of a and b, and a to the power n, by a table ps of powers and a table es of exponents
---   multiplesBy ps es a        the products of a and 1, 2, 4, .., 128 by them
+--   eightFrom ps e     eight powers in a row: the products of 2^e and 1, 2, 4, .., 128
 -- Assumes nothing.
 use mathlib.Core.Path.{_≡_}
 use Prim.Native.Nat.{ℕ, _+_, _*_, _%_, _<_}
@@ -34,6 +34,6 @@ productBy ps es a b = cond (eqb a 0 || eqb b 0) 0 (getD ps ((getD es a 0 + getD 
 unfoldable pub powerBy : List ℕ → List ℕ → ℕ → ℕ → ℕ
 powerBy ps es a n = cond (eqb n 0) 1 (cond (eqb a 0) 0 (getD ps (getD es a 0 * n % 255) 0))
 
--- 1, 2, 4, .., 128 are the powers 0 to 7 of 2, so the products are powers in a row
-unfoldable pub multiplesBy : List ℕ → List ℕ → ℕ → List ℕ
-multiplesBy ps es a = listBelow 8 (λ i. cond (eqb a 0) 0 (getD ps (getD es a 0 + i) 0))
+-- 1, 2, 4, .., 128 are the powers 0 to 7 of 2, so the products of 2^e and them are powers in a row
+unfoldable pub eightFrom : List ℕ → ℕ → List ℕ
+eightFrom ps e = listBelow 8 (λ i. getD ps (e + i) 0)

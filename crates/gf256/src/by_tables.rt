@@ -3,7 +3,7 @@
 ghost use mathlib.Core.Path.{_≡_};
 ghost use Prim.Native.Nat.{_<_, _%_};
 ghost use lib.ListN.{getD};
-ghost use Rattle.gf256.specs.Tables.{productBy, powerBy, multiplesBy};
+ghost use Rattle.gf256.specs.Tables.{productBy, powerBy};
 
 // The product of a and b by the tables that are lent.
 pub fn product_by(powers: &[u8; 263], exponents: &[u8; 256], a: u8, b: u8) -> u8
@@ -29,23 +29,6 @@ pub fn power_by(powers: &[u8; 263], exponents: &[u8; 256], a: u8, n: u8) -> u8
         return 0;
     }
     powers[reduced(exponent(exponents, a) * place(n))]
-}
-
-// The products of a and 1, 2, 4, .., 128 by the tables that are lent.
-pub fn multiples_by(powers: &[u8; 263], exponents: &[u8; 256], a: u8) -> [u8; 8]
-    ensures { λ r. ⌜ r ≡ multiplesBy (now (powers .entry)) (now (exponents .entry)) a ⌝ }
-{
-    let mut multiples = [0u8; 8];
-    if a == 0 {
-        return multiples;
-    }
-    let from = exponent(exponents, a);
-    let mut i: usize = 0;
-    while i < 8 {
-        multiples[i] = powers[from + i];
-        i += 1;
-    }
-    multiples
 }
 
 // The exponent of a in its table.

@@ -7,7 +7,6 @@ ghost use Rattle.gf256.specs.Field.{product, power};
 mod by_tables;
 mod tables;
 
-pub use by_tables::multiples_by;
 pub use by_tables::power_by;
 pub use by_tables::product_by;
 pub use tables::exponent_table;

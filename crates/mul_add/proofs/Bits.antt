@@ -1,24 +1,19 @@
--- A product by the bits of a factor, as `mul_add` takes it: the multiples of the weight at the places of the bits.
+-- The bits of a byte, as `combine` takes them.
 --
 --   high-clear, high-set   the highest bit of a byte, times c
 --   coeff-shifted          a shift that brings bit i to the highest place
---   double-multiple        the next multiple
---   combine-product        the multiples at the places of the bits of x sum to the product by x
+--   eight-choices          what the eight choices of `combine` sum to
 -- Assumes nothing.
-use mathlib.Core.Path.{_≡_, sym, ap, _∙_}
-use mathlib.Core.List.{List}
+use mathlib.Core.Path.{_≡_, sym, ap, ap₂, _∙_}
+use mathlib.Core.List.{[], _∷_}
 use Prim.Native.Nat.{ℕ, _-_, _+_, _*_, _/_, _%_, _^_, _≤_, _<_}
 use native.Mathlib.Nat.{zero-mul, one-mul}
 use native.Mathlib.Omega.{arith}
+use lib.Bits.{bitXor}
+use lib.Dec.{lit<}
 use lib.ListN.{getD}
-use lib.Pow.{field, shl-shr, shr-shr, pow-add, pow-lt}
+use lib.Pow.{field, shl-shr, shr-shr}
 use Rattle.gf256.specs.Polynomial.{coeff, sumBelow}
-use Rattle.gf256.specs.Field.{product}
-use Rattle.gf256.proofs.Polynomials.{sumBelow-same}
-use Rattle.gf256.proofs.Products.{product-comm, product-assoc}
-use Rattle.gf256.proofs.Shifts.{double-low, product-bits}
-
--- ---- the bits of a byte
 
 pub high-clear : (x c : ℕ) → x < 128 → 0 ≡ coeff x 7 * c
 unfolding coeff
@@ -44,20 +39,20 @@ coeff-shifted x i h =
     let high = field (x * 2 ^ d) 1 7 in
     omega arith
 
--- ---- the multiples
+-- the multiples chosen by the bits of x, one after another
+pub eight-choices : (x a b c d e f g h : ℕ) {p q r s t u v w : ℕ}
+    → p ≡ coeff (x * 2 ^ 7 % 2 ^ 8) 7 * a → q ≡ coeff (x * 2 ^ 6 % 2 ^ 8) 7 * b → r ≡ coeff (x * 2 ^ 5 % 2 ^ 8) 7 * c
+    → s ≡ coeff (x * 2 ^ 4 % 2 ^ 8) 7 * d → t ≡ coeff (x * 2 ^ 3 % 2 ^ 8) 7 * e → u ≡ coeff (x * 2 ^ 2 % 2 ^ 8) 7 * f
+    → v ≡ coeff (x * 2 ^ 1 % 2 ^ 8) 7 * g → w ≡ coeff x 7 * h
+    → bitXor (bitXor (bitXor (bitXor (bitXor (bitXor (bitXor p q) r) s) t) u) v) w
+    ≡ sumBelow 8 (λ i. coeff x i * getD (a ∷ b ∷ c ∷ d ∷ e ∷ f ∷ g ∷ h ∷ []) i 0)
+unfolding sumBelow
+eight-choices x a b c d e f g h ep eq er es et eu ev ew =
+    more (more (more (more (more (more (more (bit 0 a (lit< tt) ep) (bit 1 b (lit< tt) eq)) (bit 2 c (lit< tt) er)) (bit 3 d (lit< tt) es))
+    (bit 4 e (lit< tt) et)) (bit 5 f (lit< tt) eu)) (bit 6 g (lit< tt) ev)) ew
+  where
+    more : {y z y′ z′ : ℕ} → y ≡ y′ → z ≡ z′ → bitXor y z ≡ bitXor y′ z′
+    more k l = ap₂ bitXor k l
 
-pub double-multiple : (w i : ℕ) → w < 256 → i < 7 → product 2 (product w (2 ^ i)) ≡ product w (2 ^ (i + 1))
-double-multiple w i hw h =
-    let low : 2 ^ i < 2 ^ 7 = pow-lt h in
-    let hi : 2 ^ i < 256 = omega arith in
-    let two : 2 < 256 = omega arith in
-    sym (product-assoc 2 w (2 ^ i) two hw hi)
-    ∙ ap (λ (z : ℕ). product z (2 ^ i)) (product-comm 2 w two hw) ∙ product-assoc w 2 (2 ^ i) hw two hi
-    ∙ ap (product w) (sym (double-low (2 ^ i) (omega arith)) ∙ sym (pow-add 2 i 1))
-
-pub combine-product : (multiples : List ℕ) (w x : ℕ) → ((i : ℕ) → i < 8 → getD multiples i 0 ≡ product w (2 ^ i))
-    → sumBelow 8 (λ i. coeff x i * getD multiples i 0) ≡ product w x
-combine-product multiples w x e =
-    sumBelow-same 8 (λ i. coeff x i * getD multiples i 0) (λ i. coeff x i * product w (2 ^ i))
-    (λ i l. ap (λ (y : ℕ). coeff x i * y) (e i l))
-    ∙ sym (product-bits w x)
+    bit : (i m : ℕ) {y : ℕ} → i < 8 → y ≡ coeff (x * 2 ^ (7 - i) % 2 ^ 8) 7 * m → y ≡ coeff x i * m
+    bit i m l k = k ∙ ap (λ (n : ℕ). n * m) (coeff-shifted x i l)

@@ -22,9 +22,9 @@ pub coefficient-byte : (f v : ℕ) → f < 256 → coefficient f v < 256
 unfolding coefficient
 coefficient-byte f v h = power-byte f (v - 1) h
 
-pub coefficient-by-tables : (es : List ℕ) → IsExponents es → (f v : ℕ) → f < 256 → coefficientBy powersOf2 es f v ≡ coefficient f v
+pub coefficient-by-tables : (ps es : List ℕ) → ps ≡ powersOf2 → IsExponents es → (f v : ℕ) → f < 256 → coefficientBy ps es f v ≡ coefficient f v
 unfolding coefficientBy coefficient
-coefficient-by-tables es t f v h = power-by-tables es t f (v - 1) h
+coefficient-by-tables ps es p t f v h = power-by-tables ps es p t f (v - 1) h
 
 module _ (f v : ℕ) where
   pub answer-in-range : 0 < f → 0 < v → f + v ≤ 255 → coefficientAnswer f v ≡ Byte (coefficient f v)

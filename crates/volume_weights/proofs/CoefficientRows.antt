@@ -1,18 +1,19 @@
 -- The rows of coefficients, and the table that they are rows of.
 --
 --   set-below                  one entry more of a list that is filled from the front
+--   entry-wanted               an entry by the tables
 --   row-filled                 the end of the loop of `row`
---   column-below               which files below 256 are columns
+--   column-is, present-entry   which files below 256 are columns, of all and of those present
 --   table-row, table-absent    the rows of the volumes present, and of the others
 -- Assumes nothing.
 use mathlib.Core.Path.{_≡_, refl, sym, ap, _∙_}
-use mathlib.Core.Bool.{Bool, true, false, not, cond, _&&_}
+use mathlib.Core.Bool.{Bool, true, false, not, cond, _&&_, and-true}
 use mathlib.Core.List.{List}
 use Prim.Native.Nat.{ℕ, suc, _<_, _+_}
 use native.Mathlib.Omega.{arith}
 use native.Mathlib.Decide.{ℕ-discrete}
 use lib.Dec.{leb}
-use lib.ListN.{length, getD, set}
+use lib.ListN.{length, getD, set, replicate}
 use lib.Seq.{getD-set-same, getD-set-other}
 use borrow.Author.Tests.{le-leb, leb-true}
 use Rattle.computed_tests.proofs.Tests.{and-both}
@@ -20,6 +21,10 @@ use Rattle.computed_tests.proofs.Lists.{listBelow-at, listBelow-is}
 use Rattle.elimination.specs.ByteField.{toByte, byteField}
 use Rattle.elimination.proofs.ByteField.{toByte-value, toByte-of-value}
 use Rattle.number_sets.specs.Sets.{member}
+use Rattle.number_sets.proofs.Words.{member-none}
+use Rattle.gf256.specs.Tables.{powersOf2, IsExponents}
+use Rattle.parity.specs.Coefficient.{coefficient, coefficientBy}
+use Rattle.parity.proofs.Coefficients.{coefficient-by-tables}
 use Rattle.volume_weights.specs.Weights.{columnIn, tableOf, rowOf}
 
 -- ---- a list, filled from the front
@@ -32,16 +37,25 @@ set-below f l j v b e h i m =
       | no q ↦ getD-set-other l j i v 0 q ∙ h i (omega arith)
     ]
 
+-- ---- an entry
+
+-- the coefficient that the tables give, where it is wanted
+pub entry-wanted : (ps es : List ℕ) → ps ≡ powersOf2 → IsExponents es → (wanted : Bool) (f v : ℕ) → f < 256 → wanted ≡ true
+    → coefficientBy ps es f v ≡ cond wanted (coefficient f v) 0
+entry-wanted ps es p t wanted f v l e =
+    coefficient-by-tables ps es p t f v l ∙ sym (ap (λ (b : Bool). cond b (coefficient f v) 0) e)
+
 -- ---- a row
+
+pub column-is : (nonempty present : List ℕ) (i : ℕ) → i < 255
+    → (member nonempty (suc i) && not (member present (suc i))) ≡ columnIn nonempty present (suc i)
+column-is nonempty present i l =
+    sym (ap (λ (b : Bool). b && (member nonempty (suc i) && not (member present (suc i)))) (le-leb (suc i) 255 (omega arith)))
 
 module _ (rule : ℕ → ℕ → ℕ) (nonempty present : List ℕ) where
   -- entry i of the row of volume v
   abbrev pub entryOf : ℕ → ℕ → ℕ
   entryOf v i = cond (columnIn nonempty present (suc i)) (rule (suc i) v) 0
-
-  pub column-below : (v i : ℕ) → i < 255 → cond (member nonempty (suc i) && not (member present (suc i))) (rule (suc i) v) 0 ≡ entryOf v i
-  column-below v i l =
-      sym (ap (λ (b : Bool). cond (b && (member nonempty (suc i) && not (member present (suc i)))) (rule (suc i) v) 0) (le-leb (suc i) 255 (omega arith)))
 
   pub row-filled : (v : ℕ) (row : List ℕ) → length row ≡ 256 → getD row 255 0 ≡ 0 → ((i : ℕ) → i < 255 → getD row i 0 ≡ entryOf v i)
       → row ≡ rowOf rule nonempty present v
@@ -53,6 +67,14 @@ module _ (rule : ℕ → ℕ → ℕ) (nonempty present : List ℕ) where
         | yes p ↦ ap (λ (k : ℕ). getD row k 0) p ∙ last ∙ ap (entryOf v) (sym p)
         | no q ↦ h i (omega arith)
       ])
+
+-- the files present, as columns
+pub present-entry : (rule : ℕ → ℕ → ℕ) (present : List ℕ) (v i : ℕ) → i < 255
+    → cond (member present (suc i)) (rule (suc i) v) 0 ≡ entryOf rule present (replicate 4 0) v i
+present-entry rule present v i l =
+    ap (λ (b : Bool). cond b (rule (suc i) v) 0)
+    (sym (ap (λ (b : Bool). member present (suc i) && not b) (member-none (suc i)) ∙ and-true (member present (suc i)))
+    ∙ column-is present (replicate 4 0) i l)
 
 -- ---- the table
 

@@ -1,3 +1,5 @@
+mod SideBySide
 mod CoefficientRows
+mod Renumbered
 pub mod Steps
 pub mod Determined

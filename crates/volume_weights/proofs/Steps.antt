@@ -3,6 +3,9 @@
 --   volumes-more                the rows of one volume more
 --   volumes-reduced             the elimination after the rows of the volumes present
 --   solved-by, unsolved-by      what it answers
+--   volume-taken, volume-left   a volume, of the columns side by side within their width
+--   Added .. v start s, added-none, added-more, packed-start     the loop of `add_volumes`
+--   column-solved, column-unsolved     what the elimination of the columns side by side answers
 --   weight-below                the weight of a volume
 --   Weighted rule present ws m sums   the sums are the weights of the files by the first m volumes
 --   weighted-none, weighted-more      by no volume, and by one volume more
@@ -10,28 +13,32 @@
 use mathlib.Core.Path.{_≡_, refl, sym, ap, ap₂, _∙_, subst}
 use mathlib.Core.Bool.{Bool, true, false, not, cond, _&&_, and-true}
 use mathlib.Core.List.{List}
-use Prim.Native.Nat.{ℕ, zero, suc, _<_, _+_}
+use Prim.Native.Nat.{ℕ, zero, suc, _<_, _≤_, _+_}
 use native.Mathlib.Numerals.{add-one}
 use native.Mathlib.Omega.{arith}
 use native.Mathlib.Decide.{decLt}
 use lib.Bits.{bitXor}
+use lib.Dec.{eqb}
 use lib.ListN.{length, getD, replicate, length-replicate, getD-replicate}
 use borrow.Author.Tests.{le-leb, lt-leb}
-use Rattle.computed_tests.specs.Lists.{listBelow}
+use Rattle.computed_tests.specs.Lists.{listBelow, firstBelow}
 use Rattle.computed_tests.proofs.Lists.{listBelow-at}
 use Rattle.gf256.specs.Polynomial.{sumBelow}
 use Rattle.gf256.specs.Field.{product}
 use Rattle.mul_add.specs.MulAdd.{mulAdd}
 use Rattle.mul_add.proofs.MulAdds.{length-mulAdd, mulAdd-at}
-use Rattle.elimination.specs.Reduction.{withDiagonal, rowAdded, isSolvable, weightOf}
+use Rattle.elimination.specs.Reduction.{withDiagonal, rowAdded, inBlocks, rowAddedWithin, Apart, isSolvable, weightOf}
 use Rattle.elimination.proofs.Reductions.{entries, ownerOf, ReducedBytes, ReducedPair, start-reduced, skip-reduced, add-reduced}
 use Rattle.elimination.proofs.Reductions.{weight-value, weight-late, weight-none, solvable-solution, unsolvable-kernel}
+use Rattle.elimination.proofs.Within.{KeepsTo, start-apart, added-within, added-apart}
 use Rattle.elimination.proofs.Elimination.{rowWeight}
 use Rattle.elimination.specs.ByteField.{Byte, byteField}
 use Rattle.number_sets.specs.Sets.{member}
 use Rattle.number_sets.proofs.Words.{member-none}
 use Rattle.volume_weights.specs.Weights.{tableOf, rowOf, volumeAdded, volumesAdded, weightAt, Solved, solved, unsolved, fileWeight}
-use Rattle.volume_weights.proofs.CoefficientRows.{column-below, table-row, table-absent}
+use Rattle.volume_weights.specs.Weights.{IsColumns, renumbered, numbersTo}
+use Rattle.volume_weights.proofs.CoefficientRows.{present-entry, table-row, table-absent}
+use Rattle.volume_weights.proofs.Renumbered.{row-past, columns-byte, renumbered-small, placed, renumbered-solved}
 
 -- one volume more
 pub volumes-more : (rule : ℕ → ℕ → ℕ) (nonempty present volumes : List ℕ) (v : ℕ) (start s s′ : List ℕ × List ℕ)
@@ -104,6 +111,98 @@ module _ (rule : ℕ → ℕ → ℕ) (small : (f v : ℕ) → f < 256 → rule 
         let kernel = unsolvable-kernel table m owners rows X i inside (sym e ∙ y) in
         subst (Solved rule nonempty present volumes rows i (replicate 256 0)) (sym y) (unsolved (kernel .0) (kernel .1) refl)
 
+-- ---- the columns side by side
+
+module _ (rule : ℕ → ℕ → ℕ) (files volumes : List ℕ) (width : ℕ) (small : width < 256) where
+  abbrev packed-row : ℕ → List ℕ
+  packed-row v = rowOf (renumbered rule files) (numbersTo width) (replicate 4 0) v
+
+  abbrev packed-added : ℕ → List ℕ × List ℕ → List ℕ × List ℕ
+  packed-added v s = volumeAdded (renumbered rule files) (numbersTo width) (replicate 4 0) volumes v s
+
+  keeps : (v : ℕ) → KeepsTo (inBlocks width) (packed-row v)
+  unfolding inBlocks
+  keeps v i l b = row-past rule files width v i small (omega arith) b
+
+  blocks : inBlocks width ≤ 256
+  unfolding inBlocks
+  blocks = omega arith
+
+  -- a volume whose row was added within the width, and one that is absent
+  pub volume-taken : (v : ℕ) (row m owners : List ℕ) (s′ : List ℕ × List ℕ) → Apart (inBlocks width) m → row ≡ packed-row v
+      → s′ ≡ rowAddedWithin (inBlocks width) row v m owners → member volumes v ≡ true → s′ ≡ packed-added v (m, owners)
+  unfolding volumeAdded
+  volume-taken v row m owners s′ A r e t =
+      e ∙ ap (λ (u : List ℕ). rowAddedWithin (inBlocks width) u v m owners) r
+      ∙ added-within (inBlocks width) blocks (packed-row v) m A (keeps v) owners v
+      ∙ sym (ap (λ (b : Bool). cond b (rowAdded (packed-row v) v m owners) (m, owners)) t)
+
+  pub volume-left : (v : ℕ) (m owners : List ℕ) → member volumes v ≡ false → (m, owners) ≡ packed-added v (m, owners)
+  unfolding volumeAdded
+  volume-left v m owners t = sym (ap (λ (b : Bool). cond b (rowAdded (packed-row v) v m owners) (m, owners)) t)
+
+  -- the elimination s after the rows of the first v volumes, from `start` on
+  pub record Added (v : ℕ) (start s : List ℕ × List ℕ) : Type 0 where
+    pub rows : s ≡ volumesAdded (renumbered rule files) (numbersTo width) (replicate 4 0) volumes v start
+    pub apart : Apart (inBlocks width) (s .0)
+
+  pub added-none : (s : List ℕ × List ℕ) → Apart (inBlocks width) (s .0) → Added 0 s s
+  unfolding volumesAdded
+  added-none s A = record { rows = refl; apart = A }
+
+  pub added-more : (v : ℕ) (start s s′ : List ℕ × List ℕ) → Added v start s → s′ ≡ packed-added (v + 1) s → Added (v + 1) start s′
+  unfolding volumeAdded
+  added-more v start s s′ H e = record {
+    rows = volumes-more (renumbered rule files) (numbersTo width) (replicate 4 0) volumes v start s s′ (H .rows) e;
+    apart = subst (λ (s : List ℕ × List ℕ). Apart (inBlocks width) (s .0)) (sym e) (after (member volumes (v + 1)));
+  }
+    where
+      after : (b : Bool) → Apart (inBlocks width) (cond b (rowAdded (packed-row (v + 1)) (v + 1) (s .0) (s .1)) s .0)
+      after true = added-apart (inBlocks width) blocks (packed-row (v + 1)) (s .0) (H .apart) (keeps (v + 1)) (s .1) (v + 1)
+      after false = H .apart
+
+pub packed-start : (nonempty present files : List ℕ) (width : ℕ) → IsColumns nonempty present files width
+    → (identity : List ℕ) → identity ≡ withDiagonal 256 (replicate 65536 0) → Apart (inBlocks width) identity
+unfolding inBlocks
+packed-start nonempty present files width C identity e =
+    let b = columns-byte nonempty present files width C in
+    subst (Apart (inBlocks width)) (sym e) (start-apart (inBlocks width) (omega arith))
+
+-- what the elimination of the columns side by side answers for a column that stands there
+module _ (rule : ℕ → ℕ → ℕ) (small : (f v : ℕ) → f < 256 → rule f v < 256) (nonempty present volumes files : List ℕ) (width : ℕ)
+    (C : IsColumns nonempty present files width) (column at : ℕ) (inside : column < 256)
+    (P : at ≡ firstBelow width (λ p. eqb (getD files p 0) (suc column))) (l : at < width) (rows : ℕ) (identity m owners : List ℕ)
+    (d : identity ≡ withDiagonal 256 (replicate 65536 0))
+    (e : (m, owners) ≡ volumesAdded (renumbered rule files) (numbersTo width) (replicate 4 0) volumes rows (identity, replicate 256 0)) where
+  width-byte : width < 256
+  width-byte = columns-byte nonempty present files width C
+
+  packed-small : (f v : ℕ) → f < 256 → renumbered rule files f v < 256
+  packed-small = renumbered-small rule files small (C .bytes)
+
+  R : ReducedBytes (tableOf (renumbered rule files) (numbersTo width) (replicate 4 0) volumes) m owners rows
+  R = volumes-reduced (renumbered rule files) packed-small (numbersTo width) (replicate 4 0) volumes rows identity m owners d e
+
+  back : (ws : List ℕ) (found : Bool) → Solved (renumbered rule files) (numbersTo width) (replicate 4 0) volumes rows at ws found
+      → Solved rule nonempty present volumes rows column ws found
+  back ws found S =
+      let (t, z) = placed nonempty present files width C column at P l in
+      renumbered-solved nonempty present files width C rule volumes rows column ws found inside t
+      (subst (λ (p : ℕ). Solved (renumbered rule files) (numbersTo width) (replicate 4 0) volumes rows p ws found) (sym z) S)
+
+  pub column-solved : (ws : List ℕ) → isSolvable m owners at ≡ true → ws ≡ listBelow 256 (weightOf m owners at)
+      → Solved rule nonempty present volumes rows column ws true
+  column-solved ws y h =
+      let b = width-byte in
+      back ws true (solved-by (renumbered rule files) packed-small (numbersTo width) (replicate 4 0) volumes rows at (omega arith) m owners R true ws
+      (sym y) refl h)
+
+  pub column-unsolved : isSolvable m owners at ≡ false → Solved rule nonempty present volumes rows column (replicate 256 0) false
+  column-unsolved y =
+      let b = width-byte in
+      back (replicate 256 0) false (unsolved-by (renumbered rule files) packed-small (numbersTo width) (replicate 4 0) volumes rows at (omega arith)
+      m owners R false (sym y) refl)
+
 pub weight-below : (rows : ℕ) (w : ℕ → Byte) (v : ℕ) → v < rows → weightAt rows w (suc v) ≡ w v .0
 unfolding weightAt
 weight-below rows w v l = ap (λ (b : Bool). cond b (w v .0) 0) (le-leb (suc v) rows l)
@@ -121,12 +220,10 @@ module _ (rule : ℕ → ℕ → ℕ) (present ws : List ℕ) where
   weighted-none = record { full = length-replicate {A = ℕ} 255 0; each = λ i l. getD-replicate 255 i 0 0 l }
 
   -- a file's entry in the row of the files present
-  present-entry : (v i : ℕ) → i < 255
+  present-at : (v i : ℕ) → i < 255
       → getD (rowOf rule present (replicate 4 0) v) i 0 ≡ cond (member present (suc i)) (rule (suc i) v) 0
   unfolding rowOf
-  present-entry v i l =
-      listBelow-at 256 _ i (omega arith) ∙ sym (column-below rule present (replicate 4 0) v i l)
-      ∙ ap (λ (b : Bool). cond b (rule (suc i) v) 0) (ap (λ (b : Bool). member present (suc i) && not b) (member-none (suc i)) ∙ and-true (member present (suc i)))
+  present-at v i l = listBelow-at 256 _ i (omega arith) ∙ sym (present-entry rule present v i l)
 
   pub weighted-more : (v : ℕ) (sums sums′ : List ℕ) → Weighted v sums
       → sums′ ≡ mulAdd (getD ws (v + 1) 0) (rowOf rule present (replicate 4 0) (v + 1)) sums → Weighted (v + 1) sums′
@@ -137,7 +234,7 @@ module _ (rule : ℕ → ℕ → ℕ) (present ws : List ℕ) where
         full = ap length e ∙ length-mulAdd _ _ sums ∙ w .full;
         each = λ i l.
             ap (λ (s : List ℕ). getD s i 0) e ∙ mulAdd-at _ _ sums i (subst (λ (n : ℕ). i < n) (sym (w .full)) l)
-            ∙ ap₂ (λ (a b : ℕ). bitXor a (product (getD ws (v + 1) 0) b)) (w .each i l) (present-entry (v + 1) i l)
+            ∙ ap₂ (λ (a b : ℕ). bitXor a (product (getD ws (v + 1) 0) b)) (w .each i l) (present-at (v + 1) i l)
             ∙ ap (λ (n : ℕ). bitXor (fileWeight rule present ws v i) (product (getD ws n 0) (cond (member present (suc i)) (rule (suc i) n) 0))) k
             ∙ ap (λ (n : ℕ). fileWeight rule present ws n i) (sym k);
       }

@@ -7,6 +7,9 @@
 --   rowOf rule nonempty present v    the coefficients of the columns in volume v, file i + 1 in place i
 --   volumeAdded rule nonempty present volumes v s     the elimination s after the row of volume v, if it is present
 --   volumesAdded rule nonempty present volumes k s    the elimination s after the rows of the volumes present, of the first k
+--   columnsBelow nonempty present m      how many of the first m files are columns
+--   IsColumns nonempty present files width     the files of the columns one after another, and how many there are
+--   renumbered rule files, numbersTo width     the columns as a set of files of its own: its rule, and its numbers
 --   weightAt rows w v                the weight of volume v, of `rows` volumes; 0 for no such volume
 --   Solved rule nonempty present volumes rows i ws found      whether weights of the rows sum them to 1 in column i and to 0 in the
 --                                    others, and these weights by volume number, or zeros
@@ -16,7 +19,7 @@
 use mathlib.Core.Path.{_≡_}
 use mathlib.Core.Bool.{Bool, true, false, not, cond, _&&_}
 use mathlib.Core.List.{List}
-use Prim.Native.Nat.{ℕ, zero, suc, _<_}
+use Prim.Native.Nat.{ℕ, zero, suc, _-_, _<_}
 use lib.Dec.{leb}
 use lib.ListN.{getD, replicate}
 use Rattle.computed_tests.specs.Lists.{listBelow}
@@ -25,7 +28,7 @@ use Rattle.gf256.specs.Field.{product}
 use Rattle.elimination.specs.Matrix.{IsSolution, IsKernelVector}
 use Rattle.elimination.specs.Reduction.{rowAdded}
 use Rattle.elimination.specs.ByteField.{Byte, byteField, toByte}
-use Rattle.number_sets.specs.Sets.{member}
+use Rattle.number_sets.specs.Sets.{member, inserted, sizeBelow}
 
 -- ---- the rows
 
@@ -46,6 +49,24 @@ module _ (rule : ℕ → ℕ → ℕ) (nonempty present volumes : List ℕ) wher
   unfoldable pub volumesAdded : ℕ → List ℕ × List ℕ → List ℕ × List ℕ
   volumesAdded zero s = s
   volumesAdded (suc v) s = volumeAdded (suc v) (volumesAdded v s)
+
+-- ---- the columns numbered anew, which the elimination takes: a set of files of its own, all of size 1 or more and none present
+
+abbrev pub columnsBelow : List ℕ → List ℕ → ℕ → ℕ
+columnsBelow nonempty present m = sizeBelow m (λ i. columnIn nonempty present (suc i))
+
+-- a column stands after those before it
+pub record IsColumns (nonempty present files : List ℕ) (width : ℕ) : Type 0 where
+  pub counted : width ≡ columnsBelow nonempty present 255
+  pub each : (i : ℕ) → columnIn nonempty present (suc i) ≡ true → getD files (columnsBelow nonempty present i) 0 ≡ suc i
+  pub bytes : (p : ℕ) → getD files p 0 < 256
+
+unfoldable pub renumbered : (ℕ → ℕ → ℕ) → List ℕ → ℕ → ℕ → ℕ
+renumbered rule files p v = rule (getD files (p - 1) 0) v
+
+unfoldable pub numbersTo : ℕ → List ℕ
+numbersTo zero = replicate 4 0
+numbersTo (suc n) = inserted (suc n) (numbersTo n)
 
 -- ---- the weights
 

@@ -2,11 +2,16 @@
 // then weigh. The rule of the coefficients is `parity::coefficient_of`.
 ghost use mathlib.Core.Path.{_≡_};
 ghost use mathlib.Core.Bool.{not, cond, _&&_};
-ghost use lib.ListN.{replicate};
-ghost use Rattle.computed_tests.specs.Lists.{listBelow};
+ghost use Prim.Native.Nat.{suc, _<_, _≤_};
+ghost use lib.Dec.{eqb};
+ghost use lib.ListN.{getD, replicate};
+ghost use Rattle.computed_tests.specs.Lists.{listBelow, firstBelow};
+ghost use Rattle.gf256.specs.Tables.{powersOf2, IsExponents};
 ghost use Rattle.mul_add.specs.MulAdd.{mulAdd};
-ghost use Rattle.parity.specs.Coefficient.{coefficient, coefficientBy};
+ghost use Rattle.elimination.specs.Reduction.{inBlocks, Apart};
+ghost use Rattle.parity.specs.Coefficient.{coefficient};
 ghost use Rattle.volume_weights.specs.Weights.{rowOf, volumeAdded, volumesAdded, Solved, fileWeight};
+ghost use Rattle.volume_weights.specs.Weights.{IsColumns, renumbered, numbersTo};
 use number_sets::has;
 use parity::coefficient_by;
 
@@ -17,8 +22,8 @@ pub struct Solution {
 }
 
 // Weights of the volumes present, of `rows` volumes, that sum their coefficients to 1 in this column and to 0 in the others. The
-// columns are the files of size 1 or more that are not present, file k in column k - 1.
-// The matrix of the elimination takes 65,536 bytes of stack.
+// columns are the files of size 1 or more that are not present, file k in column k - 1; the elimination takes them side by side.
+// Its matrix takes 65,536 bytes of stack.
 pub fn solve(
     nonempty: [u64; 4],
     present: [u64; 4],
@@ -28,90 +33,137 @@ pub fn solve(
 ) -> Solution
     ensures { λ r. ⌜ Solved coefficient nonempty present volumes rows column (r .weights) (r .found) ⌝ }
 {
+    let columns = columns(nonempty, present);
+    let files = columns.files;
+    let width = columns.width;
+    let at = place(&files, width, column);
     let mut matrix = [0u8; 65536];
     let mut owners = [0u8; 256];
-    elimination::set_diagonal(&mut matrix);
-    add_volumes(nonempty, present, volumes, rows, &mut matrix, &mut owners);
-    let found = elimination::solvable(&matrix, &owners, column);
-    if !found {
-        return Solution {
-            found,
-            weights: [0u8; 256],
-        };
+    if at < width {
+        elimination::set_diagonal(&mut matrix);
+        add_volumes(&files, width, volumes, rows, &mut matrix, &mut owners);
+        if elimination::solvable(&matrix, &owners, at) {
+            let weights = elimination::weights(&matrix, &owners, at);
+            return Solution {
+                found: true,
+                weights,
+            };
+        }
     }
-    let weights = elimination::weights(&matrix, &owners, column);
-    Solution { found, weights }
+    Solution {
+        found: false,
+        weights: [0u8; 256],
+    }
+}
+
+// The columns side by side: their files, and how many they are.
+struct ColumnFiles {
+    files: [u8; 256],
+    width: u8,
+}
+
+fn columns(nonempty: [u64; 4], present: [u64; 4]) -> ColumnFiles
+    ensures { λ r. ⌜ IsColumns nonempty present (r .files) (r .width) ⌝ }
+{
+    let mut files = [0u8; 256];
+    let mut width: u8 = 0;
+    let mut i: u8 = 0;
+    while i < 255 {
+        let file = i as u64 + 1;
+        files[width as usize] = i + 1;
+        width += column_count(has(nonempty, file), has(present, file));
+        i += 1;
+    }
+    ColumnFiles { files, width }
+}
+
+// 1 for a file that is a column, of size 1 or more and not present, else 0.
+fn column_count(nonempty: bool, present: bool) -> u8
+    ensures { λ r. ⌜ (r ≡ cond (nonempty && not present) 1 0) × (r ≤ 1) ⌝ }
+{
+    if present {
+        return 0;
+    }
+    if nonempty { 1 } else { 0 }
+}
+
+// Where a column stands among the columns, or their number where it is none.
+fn place(files: &[u8; 256], width: u8, column: u8) -> u8
+    ensures { λ r. ⌜ r ≡ firstBelow width (λ p. eqb (getD (now (files .entry)) p 0) (suc column)) ⌝ }
+{
+    let mut p: u8 = 0;
+    while p < width {
+        if index(files[index(p)]) == index(column) + 1 {
+            return p;
+        }
+        p += 1;
+    }
+    p
 }
 
 // Adds the rows of the volumes present, of the first `rows`.
 fn add_volumes(
-    nonempty: [u64; 4],
-    present: [u64; 4],
+    files: &[u8; 256],
+    width: u8,
     volumes: [u64; 4],
     rows: u8,
     matrix: &mut [u8; 65536],
     owners: &mut [u8; 256],
 )
+    requires { ⌜ Apart (inBlocks width) (now matrix) ⌝ }
     ensures { λ _. ⌜ (now (matrix .exit), now (owners .exit))
-        ≡ volumesAdded coefficient nonempty present volumes rows (now (matrix .entry), now (owners .entry)) ⌝ }
+        ≡ volumesAdded (renumbered coefficient (now (files .entry))) (numbersTo width) (replicate 4 0) volumes rows
+        (now (matrix .entry), now (owners .entry)) ⌝ }
 {
     let mut v: u8 = 0;
     while v < rows {
-        add_volume(nonempty, present, volumes, v + 1, matrix, owners);
+        add_volume(files, width, volumes, v + 1, matrix, owners);
         v += 1;
     }
 }
 
 // Adds the row of a volume, if it is present.
 fn add_volume(
-    nonempty: [u64; 4],
-    present: [u64; 4],
+    files: &[u8; 256],
+    width: u8,
     volumes: [u64; 4],
     volume: u8,
     matrix: &mut [u8; 65536],
     owners: &mut [u8; 256],
 )
+    requires { ⌜ Apart (inBlocks width) (now matrix) ⌝ }
     ensures { λ _. ⌜ (now (matrix .exit), now (owners .exit))
-        ≡ volumeAdded coefficient nonempty present volumes volume (now (matrix .entry), now (owners .entry)) ⌝ }
+        ≡ volumeAdded (renumbered coefficient (now (files .entry))) (numbersTo width) (replicate 4 0) volumes volume
+        (now (matrix .entry), now (owners .entry)) ⌝ }
 {
     if has(volumes, volume as u64) {
-        let row = row(nonempty, present, volume);
-        elimination::add_row(matrix, owners, &row, volume);
+        let row = row(files, width, volume);
+        elimination::add_row(matrix, owners, width, &row, volume);
     }
 }
 
-// The coefficients of the columns in a volume, file k in place k - 1.
-fn row(nonempty: [u64; 4], present: [u64; 4], volume: u8) -> [u8; 256]
-    ensures { λ r. ⌜ r ≡ rowOf coefficient nonempty present volume ⌝ }
+// The coefficients of the columns in a volume, side by side.
+fn row(files: &[u8; 256], width: u8, volume: u8) -> [u8; 256]
+    ensures { λ r. ⌜ r ≡ rowOf (renumbered coefficient (now (files .entry))) (numbersTo width) (replicate 4 0) volume ⌝ }
 {
     let powers = gf256::power_table();
     let exponents = gf256::exponent_table();
     let mut row = [0u8; 256];
-    let mut i: usize = 0;
-    while i < 255 {
-        let file = i as u64 + 1;
-        let column = is_column(has(nonempty, file), has(present, file));
-        row[i] = entry(&powers, &exponents, column, file as u8, volume);
-        i += 1;
+    let mut p: u8 = 0;
+    while p < width {
+        let k = index(p);
+        row[k] = entry(&powers, &exponents, true, files[k], volume);
+        p += 1;
     }
     row
 }
 
-// Whether a file is a column: of size 1 or more, and not present.
-fn is_column(nonempty: bool, present: bool) -> bool
-    ensures { λ r. ⌜ r ≡ nonempty && not present ⌝ }
+// The coefficient of a file in a volume by the tables that are lent, if it is wanted, else 0.
+fn entry(powers: &[u8; 263], exponents: &[u8; 256], wanted: bool, file: u8, volume: u8) -> u8
+    requires { ⌜ (now powers ≡ powersOf2) × IsExponents (now exponents) ⌝ }
+    ensures { λ r. ⌜ r ≡ cond wanted (coefficient file volume) 0 ⌝ }
 {
-    if present {
-        return false;
-    }
-    nonempty
-}
-
-// The coefficient of a file in a volume by the tables that are lent, if the file is a column, else 0.
-fn entry(powers: &[u8; 263], exponents: &[u8; 256], column: bool, file: u8, volume: u8) -> u8
-    ensures { λ r. ⌜ r ≡ cond column (coefficientBy (now (powers .entry)) (now (exponents .entry)) file volume) 0 ⌝ }
-{
-    if column {
+    if wanted {
         coefficient_by(powers, exponents, file, volume)
     } else {
         0
@@ -137,7 +189,30 @@ fn add_terms(present: [u64; 4], weight: u8, volume: u8, sums: &mut [u8; 255])
     ensures { λ _. ⌜ now (sums .exit) ≡ mulAdd weight (rowOf coefficient present (replicate 4 0) volume) (now (sums .entry)) ⌝ }
 {
     if weight != 0 {
-        let row = row(present, [0u64; 4], volume);
+        let row = present_row(present, volume);
         mul_add::mul_add(weight, &row, sums);
     }
+}
+
+// The coefficients of the files present in a volume, file k in place k - 1.
+fn present_row(present: [u64; 4], volume: u8) -> [u8; 256]
+    ensures { λ r. ⌜ r ≡ rowOf coefficient present (replicate 4 0) volume ⌝ }
+{
+    let powers = gf256::power_table();
+    let exponents = gf256::exponent_table();
+    let mut row = [0u8; 256];
+    let mut i: usize = 0;
+    while i < 255 {
+        let file = i as u64 + 1;
+        row[i] = entry(&powers, &exponents, has(present, file), file as u8, volume);
+        i += 1;
+    }
+    row
+}
+
+// A byte as a place in an array of 256.
+fn index(x: u8) -> usize
+    ensures { λ r. ⌜ (r ≡ x) × (r < 256) ⌝ }
+{
+    x as usize
 }

@@ -12,10 +12,10 @@ use Rattle.elimination.proofs.pivot.Statement.{statement}
 use Rattle.elimination.proofs.pivot.Tie as tie
 
 abbrev Inv-loop : tie.InvT-loop
-Inv-loop rows from owners k₀ k = (k ≤ 256) × ((j : ℕ) → j < k → getD owners j 0 ≡ 0 → getD rows (from + j) 0 ≡ 0)
+Inv-loop width rows from owners k₀ k = (k ≤ width) × ((j : ℕ) → j < k → getD owners j 0 ≡ 0 → getD rows (from + j) 0 ≡ 0)
 
 abbrev μ-loop : tie.MeasureT-loop
-μ-loop rows from owners k₀ k = 256 - k
+μ-loop width rows from owners k₀ k = width - k
 
 loop-holds : tie.Need-loop-holds Inv-loop μ-loop
 loop-holds c = (omega arith, λ j l. absurd (not-suc-le-zero l))
@@ -23,7 +23,7 @@ loop-holds c = (omega arith, λ j l. absurd (not-suc-le-zero l))
 returns : tie.Need-returns Inv-loop μ-loop
 returns c =
     let l = c .before .before .before .before .before .loop in
-    pivot-only _ _ _ record { within = omega arith; found = λ h. (c .before .before .if1 .taken, c .if2 .taken); before = l .inv .1 }
+    pivot-only _ _ _ _ record { within = omega arith; found = λ h. (c .before .before .if1 .taken, c .if2 .taken); before = l .inv .1 }
 
 loop-again : tie.Need-loop-again Inv-loop μ-loop
 loop-again c =
@@ -37,8 +37,8 @@ loop-again c =
 returns-2 : tie.Need-returns-2 Inv-loop μ-loop
 returns-2 c =
     let l = c .before .loop in
-    let none : l .k < 256 → ⊥ = λ h. omega arith in
-    pivot-only _ _ _ record { within = omega arith; found = λ h. absurd (none h); before = l .inv .1 }
+    let none : l .k < c .before .before .args .width → ⊥ = λ h. omega arith in
+    pivot-only _ _ _ _ record { within = omega arith; found = λ h. absurd (none h); before = l .inv .1 }
 
 pub pivot-spec : {M : Type 1} → statement M
 pivot-spec =

@@ -17,7 +17,7 @@ returns : tie.Need-returns
 returns c =
     let x = c .before .before .before in
     let a = x .before .before .args in
-    c .mul-add .ensures ∙ ap (λ (row : List ℕ). mulAdd (a .weight) row (a .sums .now)) (x .row .ensures)
+    c .mul-add .ensures ∙ ap (λ (row : List ℕ). mulAdd (a .weight) row (a .sums .now)) (x .present-row .ensures)
 
 returns-2 : tie.Need-returns-2
 returns-2 c =

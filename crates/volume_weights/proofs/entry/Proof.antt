@@ -1,22 +1,23 @@
--- `volume_weights::entry` meets its contract.
+-- `volume_weights::entry` meets its contract: a law for each of its branches.
 -- Assumes nothing.
 use mathlib.Core.Path.{sym, ap, _∙_}
 use mathlib.Core.Bool.{Bool, cond}
 use borrow.Author.Needs.{needs}
-use Rattle.parity.specs.Coefficient.{coefficientBy}
+use Rattle.parity.specs.Coefficient.{coefficient}
+use Rattle.volume_weights.proofs.CoefficientRows.{entry-wanted}
 use Rattle.volume_weights.proofs.entry.Statement.{statement}
 use Rattle.volume_weights.proofs.entry.Tie as tie
 
 returns : tie.Need-returns
 returns c =
-    let a = c .before .before .args in
-    c .coefficient-by .ensures
-    ∙ sym (ap (λ (b : Bool). cond b (coefficientBy (a .powers .now) (a .exponents .now) (a .file) (a .volume)) 0) (c .before .if1 .taken))
+    let s = c .before .before in
+    let a = s .args in
+    c .coefficient-by .ensures ∙ entry-wanted _ _ (s .pre .0) (s .pre .1) (a .wanted) (a .file) (a .volume) (search needs) (c .before .if1 .taken)
 
 returns-2 : tie.Need-returns-2
 returns-2 c =
     let a = c .before .args in
-    sym (ap (λ (b : Bool). cond b (coefficientBy (a .powers .now) (a .exponents .now) (a .file) (a .volume)) 0) (c .if1 .left))
+    sym (ap (λ (b : Bool). cond b (coefficient (a .file) (a .volume)) 0) (c .if1 .left))
 
 pub entry-spec : {M : Type 1} → statement M
 entry-spec = tie.close (tie.spec (λ c κs. search needs) returns returns-2)

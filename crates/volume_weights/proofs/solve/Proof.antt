@@ -1,37 +1,68 @@
 -- `volume_weights::solve` meets its contract.
 -- Assumes nothing.
+use mathlib.Core.Path.{sym, _∙_, subst}
+use mathlib.Core.List.{List}
+use Prim.Native.Nat.{ℕ}
 use native.Mathlib.Omega.{arith}
 use borrow.Author.Needs.{needs}
-use borrow.Author.Tests.{not-true, not-false}
+use Rattle.elimination.specs.Reduction.{inBlocks, Apart}
+use Rattle.elimination.proofs.Within.{start-apart}
 use Rattle.parity.specs.Coefficient.{coefficient}
 use Rattle.parity.proofs.Coefficients.{coefficient-byte}
-use Rattle.volume_weights.proofs.Steps.{volumes-reduced, solved-by, unsolved-by}
+use Rattle.volume_weights.proofs.Steps.{packed-start, column-solved, column-unsolved}
+use Rattle.volume_weights.proofs.Renumbered.{unplaced, outside-solved}
 use Rattle.volume_weights.proofs.solve.Statement.{statement}
 use Rattle.volume_weights.proofs.solve.Tie as tie
 
+add-volumes-requires : tie.Need-add-volumes-requires
+add-volumes-requires c κs =
+    let d = c .before .before .before in
+    let columns = d .before .before .before .before .before .before .columns in
+    packed-start _ _ _ _ (columns .ensures) _ (d .set-diagonal .ensures)
+
 returns : tie.Need-returns
 returns c =
-    let answered = c .before in
-    let added = answered .before .before .before in
-    let start = added .before .before .before .before .before in
-    let a = start .args in
-    unsolved-by coefficient coefficient-byte (a .nonempty) (a .present) (a .volumes) (a .rows) (a .column) (omega (arith, start .fits .column .fits)) _ _
-    (volumes-reduced coefficient coefficient-byte (a .nonempty) (a .present) (a .volumes) (a .rows) _ _ _
-    (added .before .before .before .set-diagonal .ensures) (added .add-volumes .ensures))
-    (answered .solvable .result) (answered .solvable .ensures) (not-true (answered .solvable .result) (c .if1 .taken))
+    let tested = c .before .before .before in
+    let added = tested .before .before .before .before in
+    let d = added .before .before .before .before in
+    let i = d .before .before in
+    let place = i .before in
+    let columns = place .before .before .before in
+    let a = columns .before .args in
+    column-solved coefficient coefficient-byte (a .nonempty) (a .present) (a .volumes) _ _ (columns .columns .ensures) (a .column) _ (search needs)
+    (place .place .ensures) (i .if1 .taken) (a .rows) _ _ _ (d .set-diagonal .ensures) (added .add-volumes .ensures) _
+    (sym (tested .before .solvable .ensures) ∙ tested .if2 .taken) (c .weights .ensures)
 
 returns-2 : tie.Need-returns-2
 returns-2 c =
-    let tested = c .before .before .before in
-    let answered = tested .before in
-    let added = answered .before .before .before in
-    let start = added .before .before .before .before .before in
-    let a = start .args in
-    solved-by coefficient coefficient-byte (a .nonempty) (a .present) (a .volumes) (a .rows) (a .column) (omega (arith, start .fits .column .fits)) _ _
-    (volumes-reduced coefficient coefficient-byte (a .nonempty) (a .present) (a .volumes) (a .rows) _ _ _
-    (added .before .before .before .set-diagonal .ensures) (added .add-volumes .ensures))
-    (answered .solvable .result) (c .weights .result) (answered .solvable .ensures) (not-false (answered .solvable .result) (tested .if1 .left))
-    (c .weights .ensures)
+    let added = c .before .before .before .before in
+    let d = added .before .before .before .before in
+    let i = d .before .before in
+    let place = i .before in
+    let columns = place .before .before .before in
+    let a = columns .before .args in
+    column-unsolved coefficient coefficient-byte (a .nonempty) (a .present) (a .volumes) _ _ (columns .columns .ensures) (a .column) _ (search needs)
+    (place .place .ensures) (i .if1 .taken) (a .rows) _ _ _ (d .set-diagonal .ensures) (added .add-volumes .ensures)
+    (sym (c .before .solvable .ensures) ∙ c .if2 .left)
+
+returns-3 : tie.Need-returns-3
+returns-3 c =
+    let place = c .before in
+    let columns = place .before .before .before in
+    let a = columns .before .args in
+    outside-solved (a .nonempty) (a .present) _ _ (columns .columns .ensures) coefficient (a .volumes) (a .rows) (a .column) (search needs)
+    (unplaced (a .nonempty) (a .present) _ _ (columns .columns .ensures) (a .column) _ (place .place .ensures) (c .if1 .left))
 
 pub solve-spec : {M : Type 1} → statement M
-solve-spec = tie.close (tie.spec (λ c κs. search needs) (λ c κs. search needs) (λ c κs. search needs) returns (λ c κs. search needs) returns-2)
+solve-spec =
+    tie.close
+    (tie.spec
+    (λ c κs. search needs)
+    (λ c κs. search needs)
+    (λ c κs. search needs)
+    add-volumes-requires
+    (λ c κs. search needs)
+    (λ c κs. search needs)
+    returns
+    returns-2
+    returns-3)
