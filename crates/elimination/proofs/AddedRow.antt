@@ -18,8 +18,7 @@ use lib.Dec.{eqb, ltb}
 use lib.ListN.{length, getD, set}
 use lib.Seq.{getD-set-same, getD-set-other}
 use borrow.Author.Tests.{eq-eqb, ne-eqb, lt-ltb, le-ltb}
-use Rattle.computed_tests.specs.Lists.{listBelow}
-use Rattle.computed_tests.proofs.Lists.{listBelow-at, listBelow-same, length-listBelow}
+use Rattle.computed_tests.proofs.Lists.{listBelow-same}
 use Rattle.gf256.specs.Answer.{inverseAnswer}
 use Rattle.gf256.specs.declared.ByteAnswer.{ByteAnswer}
 use Rattle.gf256.specs.declared.ByteAnswer.the-variants.{Byte, Refused}

@@ -3,7 +3,6 @@ pub mod Polynomials
 pub mod Remainder
 mod Linear
 pub mod Products
-pub mod Shifts
 pub mod Powers
 mod Squares
 pub mod Inverses

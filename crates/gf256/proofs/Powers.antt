@@ -6,8 +6,8 @@
 --   power-add, power-mul          powers of one byte: their product, and a power of a power
 -- Assumes nothing.
 use mathlib.Core.Path.{_≡_, refl, sym, ap, _∙_}
-use Prim.Native.Nat.{ℕ, zero, suc, _+_, _*_, _/_, _%_, _<_}
-use native.Mathlib.Nat.{zero-add, suc-add, mul-zero, mul-suc, add-comm, mul-comm, div-add-mod', not-suc-le-zero}
+use Prim.Native.Nat.{ℕ, zero, suc, _+_, _*_, _<_}
+use native.Mathlib.Nat.{zero-add, suc-add, mul-zero, mul-suc, add-comm, not-suc-le-zero}
 use lib.Dec.{lit<}
 use Rattle.gf256.specs.Field.{product, power}
 use Rattle.gf256.proofs.Products.{product-byte, product-assoc, product-one-l, product-one-r, product-zero-l}

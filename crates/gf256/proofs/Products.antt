@@ -6,18 +6,22 @@
 --   product-byte                      the product of two bytes is a byte
 --   product-comm, product-assoc       the order of the factors, and their grouping
 --   product-one-l, product-one-r      by 1
---   field-laws                        all of them, with those of sums
+--   product-bits                      the sum of the products by the powers of two that make up the second factor, for any numbers
+--   field-laws                        all of them but the last, with those of sums
 -- Assumes nothing.
-use mathlib.Core.Path.{_≡_, refl, ap, _∙_}
-use Prim.Native.Nat.{ℕ, _<_}
+use mathlib.Core.Path.{_≡_, refl, sym, ap, _∙_}
+use Prim.Native.Nat.{ℕ, suc, _*_, _^_, _<_}
+use native.Mathlib.Nat.{one-mul, lt-suc-self}
 use lib.Bits.{bitXor, xor-comm, xor-self, xor-zero-r}
 use lib.Dec.{lit<}
+use lib.Pow.{pow-lt}
 use Rattle.gf256.specs.Polynomial.{coeff, sumBelow, polyProduct, remainder}
 use Rattle.gf256.specs.Field.{product}
 use Rattle.gf256.specs.Claim.{FieldLaws}
 use Rattle.computed_tests.proofs.Tests.{Function}
 use Rattle.gf256.proofs.Xor.{xor-assoc, xor-byte}
-use Rattle.gf256.proofs.Polynomials.{polyProduct-xor-l, polyProduct-xor-r, remainder-xor}
+use Rattle.gf256.proofs.Polynomials.{coeff-bit, sumBelow-same, linear-bit, linear-sum}
+use Rattle.gf256.proofs.Polynomials.{polyProduct-xor-l, polyProduct-xor-r, polyProduct-term, polyProduct-wider, remainder-xor}
 use Rattle.gf256.proofs.Remainder.{product-is-remainder}
 use Rattle.gf256.proofs.Linear.{Linear, SameAtPowers, agree}
 
@@ -100,6 +104,24 @@ product-one-l = agree 1 (product 1) (λ a. a) (product-linear .1 1) (λ a b. ref
 
 pub product-one-r : (a : ℕ) → a < 256 → product a 1 ≡ a
 product-one-r a ha = product-comm a 1 ha (lit< tt) ∙ product-one-l a ha
+
+-- ---- by the bits of a factor
+
+shifted : (a i : ℕ) → i < 8 → remainder 7 (a * 2 ^ i) ≡ product a (2 ^ i)
+unfolding product
+shifted a i l =
+    ap (remainder 7)
+    (sym
+    (polyProduct-wider (suc i) 8 a (2 ^ i) (pow-lt (lt-suc-self i)) l
+    ∙ ap (polyProduct (suc i) a) (sym (one-mul (2 ^ i))) ∙ polyProduct-term a 1 i (lit< tt) ∙ one-mul (a * 2 ^ i)))
+
+pub product-bits : (a b : ℕ) → product a b ≡ sumBelow 8 (λ i. coeff b i * product a (2 ^ i))
+unfolding product polyProduct
+product-bits a b =
+    linear-sum (remainder 7) (remainder-xor 7) 8 (λ i. coeff b i * (a * 2 ^ i))
+    ∙ sumBelow-same 8 (λ i. remainder 7 (coeff b i * (a * 2 ^ i))) (λ i. coeff b i * product a (2 ^ i))
+    (λ i l. linear-bit (remainder 7) (remainder-xor 7) (coeff b i) (a * 2 ^ i) (coeff-bit b i)
+    ∙ ap (λ (x : ℕ). coeff b i * x) (shifted a i l))
 
 -- ---- the field
 

@@ -1,29 +1,26 @@
 -- Squares of bytes, and Fermat's law: a byte other than 0 to the power 255 is 1.
 --
 --   square-xor    the square of a sum is the sum of the squares
---   square-odd, square-even    a sum of squares of terms, one bit further
---   halved-lt     one bit fewer
 --   power-256     a to the power 256 is a
 --   power-255     a to the power 255 is 1, where a is not 0
 -- Assumes nothing.
 use mathlib.Core.Path.{_≡_, refl, sym, ap, ap₂, _∙_}
 use mathlib.Core.Bool.{Bool, true, not}
 use mathlib.Core.Logic.{⊎-elim, _⊎_, inl, inr}
-use Prim.Native.Nat.{ℕ, zero, suc, _-_, _/_, _%_, _^_, _<_}
+use Prim.Native.Nat.{ℕ, zero, suc, _^_, _<_}
 use native.Mathlib.Nat.{pow-succ'}
 use native.Mathlib.Omega.{arith}
-use lib.Bits.{bitXor, xor-comm, xor-zero-r}
+use lib.Bits.{bitXor}
 use lib.Dec.{eqb, lit<}
 use lib.Pow.{pow-lt}
 use borrow.Author.Tests.{eqb-false, not-true}
 use Rattle.gf256.specs.Polynomial.{coeff, sumBelow, polyProduct, remainder}
 use Rattle.gf256.specs.Field.{product, power}
 use Rattle.computed_tests.specs.Numbers.{allBelow}
-use Rattle.computed_tests.proofs.Tests.{bit-cases, all-at, equal-below}
+use Rattle.computed_tests.proofs.Tests.{all-at, equal-below}
 use Rattle.gf256.proofs.Xor.{xor-assoc, xor-twice, xor-byte}
 use Rattle.gf256.proofs.Linear.{sums}
-use Rattle.gf256.proofs.Products.{product-xor-l, product-xor-r, product-byte, product-comm, product-assoc, product-zero-r, product-one-r}
-use Rattle.gf256.proofs.Shifts.{halves}
+use Rattle.gf256.proofs.Products.{product-xor-l, product-xor-r, product-byte, product-comm, product-zero-r}
 use Rattle.gf256.proofs.Powers.{power-byte, power-one, power-two, power-of-zero, power-add, power-mul}
 
 -- ---- squares
@@ -37,57 +34,6 @@ square-xor a b ha hb =
     ∙ ap₂ bitXor (product-xor-r a a b)
     (product-xor-r b a b ∙ ap (λ (x : ℕ). bitXor x t) (product-comm b a hb ha))
     ∙ xor-assoc s m (bitXor m t) ∙ ap (bitXor s) (xor-twice m t)
-
--- twice a factor, moved to the other
-twice : (t z : ℕ) → t < 256 → z < 256 → product t (product 2 z) ≡ product (product 2 t) z
-twice t z ht hz =
-    let two : 2 < 256 = omega arith in
-    sym (product-assoc t 2 z ht two hz) ∙ ap (λ (x : ℕ). product x z) (product-comm t 2 ht two)
-
-square-twice : (h : ℕ) → h < 256 → product (product 2 h) (product 2 h) ≡ product 2 (product 2 (product h h))
-square-twice h hh =
-    let two : 2 < 256 = omega arith in
-    product-assoc 2 h (product 2 h) two hh (product-byte 2 h two hh)
-    ∙ ap (product 2) (twice h h hh hh ∙ product-assoc 2 h h two hh hh)
-
--- the lowest bit of y, and the rest, squared
-square-step : (t y : ℕ) → t < 256 → y < 256
-    → product t (product y y) ≡ bitXor (product (product 2 (product 2 t)) (product (y / 2) (y / 2))) (product t (y % 2))
-square-step t y ht hy =
-    let two : 2 < 256 = omega arith in
-    let h = y / 2 in
-    let hh : h < 256 = omega arith in
-    let s = product h h in
-    let hs = product-byte h h hh hh in
-    ap (product t)
-    (ap (λ (x : ℕ). product x x) (halves y hy)
-    ∙ square-xor (product 2 h) (y % 2) (product-byte 2 h two hh) (omega arith) ∙ ap₂ bitXor (square-twice h hh) (bit-square (y % 2) (omega arith)))
-    ∙ product-xor-r t (product 2 (product 2 s)) (y % 2)
-    ∙ ap (λ (x : ℕ). bitXor x (product t (y % 2)))
-    (twice t (product 2 s) ht (product-byte 2 s two hs) ∙ twice (product 2 t) s (product-byte 2 t two ht) hs)
-  where
-    bit-square : (b : ℕ) → b < 2 → product b b ≡ b
-    bit-square = bit-cases (λ (b : ℕ). product b b ≡ b) (product-zero-r 0) (product-one-r 1 (omega arith))
-
-module _ (s t y : ℕ) (ht : t < 256) (hy : y < 256) where
-  abbrev rest : ℕ
-  rest = product (product 2 (product 2 t)) (product (y / 2) (y / 2))
-
-  -- the sum s gains t where y is odd, and nothing where y is even
-  pub square-odd : y % 2 ≡ 1 → bitXor (bitXor s t) rest ≡ bitXor s (product t (product y y))
-  square-odd odd =
-      xor-assoc s t rest
-      ∙ ap (bitXor s)
-      (xor-comm t rest ∙ sym (square-step t y ht hy ∙ ap (bitXor rest) (ap (product t) odd ∙ product-one-r t ht)))
-
-  pub square-even : y % 2 ≡ 0 → bitXor s rest ≡ bitXor s (product t (product y y))
-  square-even even =
-      ap (bitXor s)
-      (sym (square-step t y ht hy ∙ ap (bitXor rest) (ap (product t) even ∙ product-zero-r t) ∙ xor-zero-r rest))
-
-pub halved-lt : (y n : ℕ) → 0 < n → y < 2 ^ n → y / 2 < 2 ^ (n - 1)
-halved-lt y zero pos h = absurd (omega arith)
-halved-lt y (suc n) pos h = let e : suc n - 1 ≡ n = omega arith in rw e (omega arith)
 
 -- a squared k times over
 squared : ℕ → ℕ → ℕ

@@ -4,29 +4,33 @@
 --   doubles ps, powers-are       the test of the table of powers
 --   power-table-at               an entry of it
 --   counts es, exponents-are     the test of the table of exponents
+--   one-table                    there is one table of exponents
 --   power-reduced                the powers of 2 come again after 255
 --   product-by-tables, power-by-tables, eight-by-tables     the product, the power and eight products by the tables
+--   by-tables                    the first two, of the tables themselves
 -- Assumes nothing.
-use mathlib.Core.Path.{_≡_, refl, sym, ap, ap₂, _∙_}
-use mathlib.Core.Bool.{Bool, true, false, cond, _&&_}
+use mathlib.Core.Path.{_≡_, refl, sym, ap, ap₂, _∙_, subst}
+use mathlib.Core.Logic.{_≢_}
+use mathlib.Core.Bool.{Bool, true, false, not, _&&_}
 use mathlib.Core.List.{List}
 use Prim.Native.Nat.{ℕ, zero, suc, _+_, _-_, _*_, _/_, _%_, _^_, _<_, _≤_}
-use native.Mathlib.Nat.{not-suc-le-zero, add-comm, mul-comm, div-add-mod'}
+use native.Mathlib.Nat.{not-suc-le-zero, mul-comm, div-add-mod'}
 use native.Mathlib.Omega.{arith}
 use lib.Dec.{eqb, leb, ltb, lit<}
 use lib.ListN.{length, getD}
-use borrow.Author.Tests.{eqb-true, ltb-true, leb-true, ne-eqb}
+use lib.Seq.{ext-getD}
+use borrow.Author.Tests.{eqb-true, eqb-false, ltb-true, leb-true, ne-eqb, not-true}
 use Rattle.computed_tests.specs.Numbers.{allBelow}
-use Rattle.computed_tests.specs.Lists.{listBelow}
 use Rattle.computed_tests.proofs.Tests.{all-at, and-both, equal-below}
 use Rattle.computed_tests.proofs.Lists.{listBelow-is, listBelow-at}
 use Rattle.gf256.specs.Polynomial.{coeff, sumBelow, polyProduct, remainder}
-use Rattle.gf256.specs.Field.{product, power}
+use Rattle.gf256.specs.Field.{product, power, inverse}
 use Rattle.gf256.specs.Tables.{powersOf2, IsExponents, productBy, powerBy, eightFrom}
+use Rattle.gf256.specs.Claim.{OneTable, ByTables}
 use Rattle.gf256.proofs.Products.{product-byte, product-assoc, product-comm, product-zero-l, product-zero-r, product-one-l, product-one-r}
 use Rattle.gf256.proofs.Powers.{power-byte, power-none, power-of-zero, power-of-one, power-add, power-mul}
 use Rattle.gf256.proofs.Squares.{power-255}
-use Rattle.gf256.proofs.Inverses.{product-positive, power-positive}
+use Rattle.gf256.proofs.Inverses.{inverse-byte, inverse-left, product-positive, power-positive}
 
 -- ---- the table of the powers
 
@@ -129,6 +133,65 @@ module _ (es : List ℕ) (t : counts es ≡ true) where
         gives = gives;
       }
 
+-- ---- the only table
+
+-- whether none of the first n bytes, x and twice the one before from it on, is 1
+noneOne : ℕ → ℕ → Bool
+noneOne zero x = true
+noneOne (suc n) x = not (eqb x 1) && noneOne n (product 2 x)
+
+none-one : (n x k : ℕ) → x < 256 → noneOne n x ≡ true → k < n → product (power 2 k) x ≢ 1
+unfolding noneOne power
+none-one zero x k h t l e = not-suc-le-zero l
+none-one (suc n) x zero h t l e =
+    eqb-false x 1 (not-true (eqb x 1) (and-both (not (eqb x 1)) (noneOne n (product 2 x)) t .0)) (sym (product-one-l x h) ∙ e)
+none-one (suc n) x (suc k) h t l e =
+    let two : 2 < 256 = lit< tt in
+    let p : power 2 k < 256 = power-byte 2 k two in
+    none-one n (product 2 x) k (product-byte 2 x two h) (and-both (not (eqb x 1)) (noneOne n (product 2 x)) t .1) (omega arith)
+    (sym (product-assoc (power 2 k) 2 x p two h) ∙ ap (λ (y : ℕ). product y x) (product-comm (power 2 k) 2 p two) ∙ e)
+
+-- the test of the powers 1 to 254
+powers-not-one : noneOne 254 2 ≡ true
+unfolding noneOne product polyProduct sumBelow coeff remainder
+powers-not-one = refl
+
+twice : (d : ℕ) → product 2 (power 2 d) ≡ power 2 (suc d)
+unfolding power
+twice d = refl
+
+-- below 255 a power of 2 has one exponent
+not-before : (i j : ℕ) → i < j → j < 255 → power 2 i ≢ power 2 j
+not-before i j l h e =
+    let two : 2 < 256 = lit< tt in
+    let d = j - i - 1 in
+    let split : i + suc d ≡ j = omega arith in
+    let x = power 2 i in
+    let hx : x < 256 = power-byte 2 i two in
+    let pos : 0 < x = power-positive 2 i two (lit< tt) in
+    let y = power 2 (suc d) in
+    let hy : y < 256 = power-byte 2 (suc d) two in
+    let once : product x y ≡ x = sym (power-add 2 i (suc d) two) ∙ ap (power 2) split ∙ sym e in
+    let one : y ≡ 1 = sym (product-one-l y hy) ∙ ap (λ (z : ℕ). product z y) (sym (inverse-left x hx pos))
+    ∙ product-assoc (inverse x) x y (inverse-byte x) hx hy ∙ ap (product (inverse x)) once ∙ inverse-left x hx pos in
+    none-one 254 2 d two powers-not-one (omega arith) (product-comm (power 2 d) 2 (power-byte 2 d two) two ∙ twice d ∙ one)
+
+one-exponent : (i j : ℕ) → i < 255 → j < 255 → power 2 i ≡ power 2 j → i ≡ j
+one-exponent i j hi hj e =
+    let up : i < j → ⊥ = λ l. not-before i j l hj e in
+    let down : j < i → ⊥ = λ l. not-before j i l hi (sym e) in
+    omega (arith, up, down)
+
+pub one-table : OneTable
+one-table es es′ t t′ = ext-getD 0 es es′ (t .full ∙ sym (t′ .full)) (λ x l. at x (subst (λ (n : ℕ). x < n) (t .full) l))
+  where
+    at : (x : ℕ) → x < 256 → getD es x 0 ≡ getD es′ x 0
+    at zero l = t .of-zero ∙ sym (t′ .of-zero)
+    at (suc x) l =
+        let pos : 0 < suc x = omega arith in
+        one-exponent (getD es (suc x) 0) (getD es′ (suc x) 0) (t .below (suc x) pos l) (t′ .below (suc x) pos l)
+        (t .gives (suc x) pos l ∙ sym (t′ .gives (suc x) pos l))
+
 -- ---- products and powers
 
 power-reduced : (n : ℕ) → power 2 (n % 255) ≡ power 2 n
@@ -181,3 +244,9 @@ module _ (ps es : List ℕ) (p : ps ≡ powersOf2) (t : IsExponents es) where
       let e = getD es a 0 in
       let below = t .below a pos h in
       listBelow-at 8 _ i l ∙ power-at (e + i) (omega arith) ∙ power-add 2 e i (lit< tt) ∙ ap₂ product (t .gives a pos h) (low-powers i l)
+
+pub by-tables : ByTables
+by-tables = record {
+  products = λ es t. product-by-tables powersOf2 es refl t;
+  powers = λ es t. power-by-tables powersOf2 es refl t;
+}

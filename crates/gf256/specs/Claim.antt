@@ -3,12 +3,16 @@
 --   ProductIsRemainder   the product is the remainder of the polynomial product by 285, and there is no other
 --   FieldLaws            with their sum and product the bytes are a field, save for inverses
 --   OneInverse           each byte other than 0 has one inverse
+--   OneTable             there is one table of exponents
+--   ByTables             products and powers by the tables are the products and powers
 -- Assumes nothing.
 use mathlib.Core.Path.{_≡_}
+use mathlib.Core.List.{List}
 use Prim.Native.Nat.{ℕ, _<_}
 use lib.Bits.{bitXor}
 use Rattle.gf256.specs.Polynomial.{polyProduct, IsRemainder}
-use Rattle.gf256.specs.Field.{product, inverse}
+use Rattle.gf256.specs.Field.{product, power, inverse}
+use Rattle.gf256.specs.Tables.{powersOf2, IsExponents, productBy, powerBy}
 
 -- "Product is the polynomial product reduced by 285"; proved: proofs/Remainder.antt, `product-is-remainder`
 abbrev pub ProductIsRemainder : Type 0
@@ -35,3 +39,12 @@ abbrev pub OneInverse : Type 0
 OneInverse =
     (a : ℕ) → a < 256 → 0 < a
     → (inverse a < 256) × (product a (inverse a) ≡ 1) × ((b : ℕ) → b < 256 → product a b ≡ 1 → b ≡ inverse a)
+
+-- document 02, 2026-04: "in the other, for each non-zero byte, the exponent that gives it"; proved: proofs/TableLaws.antt, `one-table`
+abbrev pub OneTable : Type 0
+OneTable = (es es′ : List ℕ) → IsExponents es → IsExponents es′ → es ≡ es′
+
+-- document 02, 2026-04: "Answers stay"; proved: proofs/TableLaws.antt, `by-tables`
+pub record ByTables : Type 0 where
+  pub products : (es : List ℕ) → IsExponents es → (a b : ℕ) → a < 256 → b < 256 → productBy powersOf2 es a b ≡ product a b
+  pub powers : (es : List ℕ) → IsExponents es → (a n : ℕ) → a < 256 → powerBy powersOf2 es a n ≡ power a n

@@ -25,7 +25,7 @@ use Rattle.computed_tests.proofs.Tests.{and-both}
 use Rattle.computed_tests.proofs.Lists.{first-is, listBelow-at, listBelow-is}
 use Rattle.elimination.specs.ByteField.{Byte, byteField, toByte}
 use Rattle.elimination.proofs.ByteField.{toByte-of-value}
-use Rattle.number_sets.specs.Sets.{member, inserted}
+use Rattle.number_sets.specs.Sets.{member}
 use Rattle.number_sets.proofs.Words.{member-none, member-inserted, length-inserted}
 use Rattle.volume_weights.specs.Weights.{columnIn, columnsBelow, IsColumns, renumbered, numbersTo, rowOf, tableOf, Solved, solved, unsolved}
 use Rattle.volume_weights.proofs.SideBySide.{Filled, before-le, before-lt, before-other, before-onto, packed-solution, packed-kernel, outside-kernel}

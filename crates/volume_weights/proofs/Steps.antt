@@ -11,7 +11,7 @@
 --   weighted-none, weighted-more      by no volume, and by one volume more
 -- Assumes nothing.
 use mathlib.Core.Path.{_≡_, refl, sym, ap, ap₂, _∙_, subst}
-use mathlib.Core.Bool.{Bool, true, false, not, cond, _&&_, and-true}
+use mathlib.Core.Bool.{Bool, true, false, cond}
 use mathlib.Core.List.{List}
 use Prim.Native.Nat.{ℕ, zero, suc, _<_, _≤_, _+_}
 use native.Mathlib.Numerals.{add-one}
@@ -34,7 +34,6 @@ use Rattle.elimination.proofs.Within.{KeepsTo, start-apart, added-within, added
 use Rattle.elimination.proofs.Elimination.{rowWeight}
 use Rattle.elimination.specs.ByteField.{Byte, byteField}
 use Rattle.number_sets.specs.Sets.{member}
-use Rattle.number_sets.proofs.Words.{member-none}
 use Rattle.volume_weights.specs.Weights.{tableOf, rowOf, volumeAdded, volumesAdded, weightAt, Solved, solved, unsolved, fileWeight}
 use Rattle.volume_weights.specs.Weights.{IsColumns, renumbered, numbersTo}
 use Rattle.volume_weights.proofs.CoefficientRows.{present-entry, table-row, table-absent}

@@ -1,16 +1,14 @@
 -- `elimination::row_times` meets its contract.
 -- Assumes nothing.
 use mathlib.Core.Path.{_≡_, refl, ap, _∙_}
-use Prim.Native.Nat.{ℕ, _≤_, _<_, _-_, _+_, _*_}
+use Prim.Native.Nat.{ℕ, _≤_, _<_, _-_}
 use native.Mathlib.Omega.{arith}
-use lib.ListN.{length, getD, take, drop, getD-replicate}
-use Rattle.computed_tests.proofs.Lists.{listBelow-is}
+use lib.ListN.{length, getD, getD-replicate}
 use Rattle.gf256.specs.Polynomial.{sumBelow}
 use Rattle.gf256.specs.Field.{product}
 use Rattle.elimination.specs.Reduction.{entry, rowProductWithin}
 use Rattle.elimination.proofs.Steps.{product-more}
 use mathlib.Core.List.{List}
-use Rattle.mul_add.specs.MulAdd.{mulAdd}
 use Rattle.mul_add.proofs.MulAdds.{length-mulAdd}
 use borrow.Author.Needs.{needs}
 use Rattle.elimination.proofs.row_times.Statement.{statement}

@@ -1,16 +1,14 @@
 -- `volume_weights::columns` meets its contract. The invariant: the columns among the first `i` files are listed.
 -- The measure is what is left of the files.
 -- Assumes nothing.
-use mathlib.Core.Path.{_≡_, ap, ap₂, _∙_, subst}
+use mathlib.Core.Path.{_≡_, ap, ap₂, _∙_}
 use mathlib.Core.Bool.{Bool, not, cond, _&&_}
-use mathlib.Core.List.{List}
-use Prim.Native.Nat.{ℕ, suc, _≤_, _-_, _+_}
+use Prim.Native.Nat.{ℕ, suc, _≤_, _-_}
 use native.Mathlib.Numerals.{add-one}
 use native.Mathlib.Omega.{arith}
-use lib.ListN.{set}
 use borrow.Author.Needs.{needs}
 use Rattle.number_sets.specs.Sets.{member}
-use Rattle.volume_weights.specs.Weights.{columnIn, IsColumns}
+use Rattle.volume_weights.specs.Weights.{columnIn}
 use Rattle.volume_weights.proofs.CoefficientRows.{column-is}
 use Rattle.volume_weights.proofs.SideBySide.{Filled, filled-none, filled-more}
 use Rattle.volume_weights.proofs.Renumbered.{columns-filled}

@@ -1,11 +1,9 @@
 -- `volume_weights::file_weights` meets its contract. The invariant: the sums have the terms of the first `v` volumes.
 -- The measure is what is left of the volumes.
 -- Assumes nothing.
-use mathlib.Core.Path.{_≡_, refl, ap, _∙_}
-use mathlib.Core.List.{List}
-use Prim.Native.Nat.{ℕ, _≤_, _<_, _-_}
+use mathlib.Core.Path.{_≡_, ap, _∙_}
+use Prim.Native.Nat.{ℕ, _≤_, _-_}
 use native.Mathlib.Omega.{arith}
-use lib.ListN.{length, getD}
 use borrow.Author.Needs.{needs}
 use Rattle.computed_tests.proofs.Lists.{listBelow-is}
 use Rattle.parity.specs.Coefficient.{coefficient}

@@ -1,11 +1,11 @@
 -- `volume_weights::row` meets its contract. The invariant: the first `p` entries are those of the columns, and the others are 0.
 -- The measure is what is left of the columns.
 -- Assumes nothing.
-use mathlib.Core.Path.{_≡_, refl, ap, _∙_}
-use Prim.Native.Nat.{ℕ, _≤_, _<_, _-_, _+_}
+use mathlib.Core.Path.{_≡_, refl, _∙_}
+use Prim.Native.Nat.{ℕ, _≤_, _<_, _-_}
 use native.Mathlib.Nat.{not-suc-le-zero}
 use native.Mathlib.Omega.{arith}
-use lib.ListN.{length, getD, set, length-set, getD-replicate}
+use lib.ListN.{length, getD, length-set, getD-replicate}
 use lib.Seq.{getD-set-other}
 use borrow.Author.Needs.{needs}
 use Rattle.parity.specs.Coefficient.{coefficient}

@@ -1,12 +1,7 @@
 -- `volume_weights::solve` meets its contract.
 -- Assumes nothing.
-use mathlib.Core.Path.{sym, _∙_, subst}
-use mathlib.Core.List.{List}
-use Prim.Native.Nat.{ℕ}
-use native.Mathlib.Omega.{arith}
+use mathlib.Core.Path.{sym, _∙_}
 use borrow.Author.Needs.{needs}
-use Rattle.elimination.specs.Reduction.{inBlocks, Apart}
-use Rattle.elimination.proofs.Within.{start-apart}
 use Rattle.parity.specs.Coefficient.{coefficient}
 use Rattle.parity.proofs.Coefficients.{coefficient-byte}
 use Rattle.volume_weights.proofs.Steps.{packed-start, column-solved, column-unsolved}

@@ -1,7 +1,7 @@
 -- `gf256::by_tables::power_by` meets its contract: 1 for the exponent 0, 0 for other powers of 0, else the entry at the multiple of the exponent.
 -- Assumes nothing.
-use mathlib.Core.Path.{_≡_, ap, ap₂, _∙_}
-use Prim.Native.Nat.{ℕ, _*_, _%_, _<_, _≤_, _^_}
+use mathlib.Core.Path.{ap, ap₂, _∙_}
+use Prim.Native.Nat.{ℕ, _*_, _%_, _≤_}
 use native.Mathlib.Nat.{mul-le-mul}
 use native.Mathlib.Omega.{arith}
 use lib.ListN.{getD}

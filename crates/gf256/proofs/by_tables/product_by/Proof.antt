@@ -1,9 +1,7 @@
 -- `gf256::by_tables::product_by` meets its contract: 0 where a factor is, else the entry at the sum of the exponents.
 -- Assumes nothing.
-use mathlib.Core.Path.{_≡_, ap, ap₂, _∙_}
+use mathlib.Core.Path.{ap, ap₂, _∙_}
 use Prim.Native.Nat.{ℕ, _+_, _%_}
-use native.Mathlib.Omega.{arith}
-use mathlib.Core.Bool.{or-true}
 use lib.ListN.{getD}
 use borrow.Author.Tests.{eq-eqb, ne-eqb}
 use borrow.Author.Needs.{needs}
