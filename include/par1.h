@@ -9,7 +9,7 @@
  * bytes of `out` past those written stay as they were. The pointer is not NULL, also where the length is 0: lend the address of any byte. Bytes
  * that a call writes must not overlap others that it is lent. Numbers in lent bytes are 64 bits wide, lowest byte first.
  *
- * Stack: par1_query takes 66 KiB; par1_md5, par1_read, par1_write_entry, par1_write_volume, par1_check, par1_open, par1_hash_push, par1_hash_end
+ * Stack: par1_query takes 67 KiB; par1_md5, par1_read, par1_write_entry, par1_write_volume, par1_check, par1_open, par1_hash_push, par1_hash_end
  * and the calls on a reading in chunks less than 4 KiB; the others less than 1 KiB (measured, docs/BENCHMARKS.md).
  */
 #ifndef PAR1_H
@@ -212,7 +212,7 @@ uint32_t par1_count(const uint8_t *inventory, size_t inventory_len, uint8_t *out
 /* Whether a file comes back from what is present. 0: it does, and its 255 weights are the first 255 bytes of `out`, file f's at f - 1,
  * volume v's at n + v - 1: par1_mul_add of each fragment present with its weight, in any order, into zeros of the file's size gives the
  * file. 13: it is present. 12: it is undetermined, what is present does not determine it. Refuses with 10 where the file is not 1 to n, and
- * with 14, after 13 and 12, where `out` is shorter. Takes 66 KiB of stack. */
+ * with 14, after 13 and 12, where `out` is shorter. Takes 67 KiB of stack. */
 uint32_t par1_query(const uint8_t *inventory, size_t inventory_len, uint64_t file, uint8_t *out, size_t out_len);
 
 #ifdef __cplusplus

@@ -1,5 +1,5 @@
 // Weights of the volumes present that bring a missing file back (document 01, "The sheet": the recipe), and what the files present
-// then weigh. The rule of the coefficients is `parity::coefficient_of`.
+// then weigh. The rule of the coefficients is `parity::coefficient_by`.
 ghost use mathlib.Core.Path.{_≡_};
 ghost use mathlib.Core.Bool.{not, cond, _&&_};
 ghost use Prim.Native.Nat.{suc, _<_, _≤_};
@@ -56,12 +56,13 @@ pub fn solve(
     }
 }
 
-// The columns side by side: their files, and how many they are.
+// The columns side by side: their files, and how many they are. What stands past them means nothing.
 struct ColumnFiles {
     files: [u8; 256],
     width: u8,
 }
 
+// The files that are columns, in ascending order.
 fn columns(nonempty: [u64; 4], present: [u64; 4]) -> ColumnFiles
     ensures { λ r. ⌜ IsColumns nonempty present (r .files) (r .width) ⌝ }
 {
