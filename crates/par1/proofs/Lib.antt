@@ -1,4 +1,4 @@
-mod CheckingLaws
+pub mod CheckingLaws
 pub mod EntryWritten
 mod Faults
 pub mod ReadWritten

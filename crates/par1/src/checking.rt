@@ -34,7 +34,7 @@ fn is_described(entry: &[u8], contents: &[u8]) -> bool
 }
 
 // The number of the refusal of an entry that stands alone, which must fill its slice; 0 where there is none.
-fn lone_refusal(entry: &[u8]) -> u32
+pub fn lone_refusal(entry: &[u8]) -> u32
     ensures { λ r. ⌜ r ≡ loneRefusal (now (entry .entry)) ⌝ }
 {
     let fills = little_endian::read64(entry, 0) == entry.len() as u64;

@@ -19,10 +19,10 @@ use Rattle.par1_set.specs.Files.{File, listFor}
 use Rattle.par1_set.specs.Volume.{dataFor, VolumeRight}
 
 -- a file with the name "A"
-abbrev file : List ℕ → ℕ → File
+abbrev pub file : List ℕ → ℕ → File
 file contents status = record { contents = contents; status = status; name = 65 ∷ 0 ∷ [] }
 
-abbrev p6 : List File
+abbrev pub p6 : List File
 p6 = file (1 ∷ 2 ∷ []) 1 ∷ file (9 ∷ 9 ∷ 9 ∷ []) 0 ∷ file (3 ∷ []) 1 ∷ []
 
 p6-data :
@@ -37,7 +37,7 @@ empty-data : dataFor coefficient 1 (file [] 1 ∷ file (9 ∷ 9 ∷ []) 0 ∷ []
 unfolding parity listBelow isCounted
 empty-data = refl
 
-p6-list : length (listFor p6) ≡ 174
+pub p6-list : length (listFor p6) ≡ 174
 unfolding flatten
 p6-list = simp (length-append, length-entry)
 

@@ -1,7 +1,7 @@
 pub mod AcceptedCalls
 pub mod CallLaws
-mod DataSizes
-mod Examples
+pub mod DataSizes
+pub mod Examples
 pub mod FileEntries
 pub mod Layouts
 mod Ranges

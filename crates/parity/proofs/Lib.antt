@@ -1,3 +1,4 @@
+pub mod Changes
 pub mod Coefficients
 pub mod Files
 mod Orders

@@ -1,4 +1,4 @@
-// Refusals: the limits (document 01, "Sizes"), the numbers of the table of refusals (document 01, "What comes back"; document 02, 2026-01),
+// Refusals: the limits (document 01, "Sizes"), the numbers of the table of refusals (document 01, "What comes back"; document 02, 2026-01 and 2026-05),
 // a refusal with its place, and tests one after another.
 ghost use mathlib.Core.Path.{_≡_};
 ghost use Rattle.refusals.specs.Tests.{bare, test, orElse};
@@ -71,6 +71,9 @@ pub const ENTRY_COUNT: u32 = 19;
 
 // A job is over, or no run of pushes gives its counts.
 pub const ENDED: u32 = 20;
+
+// The stretch of an amendment is of neither kind, or the new entry has another name or status, or a size that the stretch does not give.
+pub const STRETCH: u32 = 21;
 
 // A refusal: its number, and the place in its list, from 1, of the entry that it is about; 0 where there is none. The number 0 is no refusal.
 pub struct Refusal {

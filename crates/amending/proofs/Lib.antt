@@ -1,0 +1,8 @@
+mod AmendCalls
+mod AmendedFiles
+mod Amends
+mod ChangeTests
+mod Examples
+mod KeptParts
+mod Refusals
+mod Splices

@@ -1,0 +1,166 @@
+-- Which refusal the call gives, and what it leaves of the room.
+--
+--   ChangePassed, change-passed, change-none     what the tests after those of reading, passed, tell; and they pass where that holds
+--   amend-is         what the call gives, where its length does not pass the room
+--   amend-read       where the volume is read, too
+--   amend-refused    the first refusal, in the document's order
+--   refused-same, room-kept     what a refused and an accepted call leave of the room
+-- A test is passed where it does not hold.
+-- Assumes nothing.
+use mathlib.Core.Path.{_≡_, refl, sym, ap, _∙_}
+use mathlib.Core.Bool.{Bool, true, false, cond}
+use mathlib.Core.List.{List, _++_}
+use Prim.Native.Nat.{ℕ, _≤_, _<_}
+use native.Mathlib.Omega.{arith}
+use lib.Dec.{leb, eqb}
+use lib.ListN.{length, take, drop, length-append, length-drop}
+use lib.Seq.{drop-append-seam}
+use borrow.Author.Tests.{le-leb, lt-leb}
+use Rattle.lent_bytes.specs.Writing.{refused, accepted, written, writtenUnless}
+use Rattle.lent_bytes.specs.declared.Writing.{Writing}
+use Rattle.lent_bytes.specs.declared.Writing.the-variants.{Written, Refused}
+use Rattle.lent_bytes.proofs.WritingLaws.{written-short, unless-none, unless-refused, unless-accepted, unless-tells, never}
+use Rattle.par1.specs.Checking.{loneRefusal}
+use Rattle.par1_read.specs.Reading.{entriesIn, readOf}
+use Rattle.par1_read.specs.declared.reading.Parts.{Parts}
+use Rattle.par1_read.specs.declared.reading.Reading.{Reading}
+use Rattle.par1_read.specs.declared.reading.Reading.the-variants as reading
+use Rattle.par1_read.proofs.ReadingLaws.{refused-some}
+use Rattle.par1_rules.specs.Rules.{lengthAllowed}
+use Rattle.par1_rules.proofs.RuleLaws.{Between, between, long-enough, too-long}
+use Rattle.refusals.specs.Tests.{bare, test}
+use Rattle.refusals.specs.declared.Refusal.{Refusal}
+use Rattle.refusals.proofs.TestLaws.{test-passed, or-none}
+use Rattle.amending.specs.Amending.{Change, amendVolume}
+use Rattle.amending.specs.Call.{changeAllowed, entryIn, fileAllowed, changeRefusal, amendRefusal, amendOf}
+use Rattle.amending.specs.Claim as claim
+use Rattle.amending.specs.Claim.{AmendRefused, RoomKept}
+
+-- ---- the tests after those of reading
+
+module _ (rule : ℕ → ℕ → ℕ) (c : Change) (d vol : List ℕ) where
+  pub record ChangePassed : Type 0 where
+    pub file-right : fileAllowed (c .file) vol ≡ true
+    pub lone : loneRefusal d ≡ 0
+    pub change : changeAllowed (c .place) (length (c .old)) (length (c .new)) (entryIn (c .file) (entriesIn vol)) d ≡ true
+    pub total : Between (length (amendVolume rule c d vol))
+
+  pub change-passed : changeRefusal rule c d vol .number ≡ 0 → ChangePassed
+  unfolding changeRefusal
+  change-passed z =
+      let ten = or-none (test 10 (fileAllowed (c .file) vol) 0) _ z in
+      let lone = or-none (loneRefusal d) _ (ten .1) in
+      let e : List ℕ = entryIn (c .file) (entriesIn vol) in
+      let change = test-passed 21 (changeAllowed (c .place) (length (c .old)) (length (c .new)) e d) _ (omega arith) (lone .1) in
+      let one = test-passed 1 (lengthAllowed (length (amendVolume rule c d vol))) 0 (omega arith) (change .1) in
+      record {
+        file-right = test-passed 10 (fileAllowed (c .file) vol) 0 (omega arith) (ten .0) .0;
+        lone = lone .0;
+        change = change .0;
+        total = between _ (one .0);
+      }
+
+  module _ (file-right : fileAllowed (c .file) vol ≡ true) (lone : loneRefusal d ≡ 0) where
+    pub change-none : changeAllowed (c .place) (length (c .old)) (length (c .new)) (entryIn (c .file) (entriesIn vol)) d ≡ true
+        → Between (length (amendVolume rule c d vol)) → changeRefusal rule c d vol ≡ bare 0
+    unfolding changeRefusal
+    change-none change total =
+        simp (file-right, lone, change, long-enough (length (amendVolume rule c d vol)) (total .low) (total .high))
+
+-- ---- what the call gives
+
+module _ (rule : ℕ → ℕ → ℕ) (n : ℕ) (c : Change) (d out : List ℕ) where
+  pub amend-past : length out < n → amendOf rule n c d out ≡ refused (bare 14) out
+  unfolding amendOf
+  amend-past h = simp (lt-leb n (length out) h)
+
+  module _ {vol : List ℕ} (h : n ≤ length out) (is : take n out ≡ vol) where
+    pub amend-is : amendOf rule n c d out ≡ writtenUnless (amendRefusal rule c d vol (readOf vol)) (amendVolume rule c d vol) out
+    unfolding amendOf
+    amend-is =
+        simp (le-leb n (length out) h)
+        (ap (λ (t : List ℕ). writtenUnless (amendRefusal rule c d t (readOf t)) (amendVolume rule c d t) out) is)
+
+    pub amend-unread : {r : Refusal} → readOf vol ≡ reading.Refused r → amendOf rule n c d out ≡ refused r out
+    amend-unread {r} e =
+        amend-is ∙ sym (unless-refused (amendVolume rule c d vol) out
+        (sym (ap (λ (k : Reading). amendRefusal rule c d vol k) e)) (refused-some vol e) refl)
+
+    pub amend-read : {p : Parts} → readOf vol ≡ reading.Accepted p
+        → amendOf rule n c d out ≡ writtenUnless (changeRefusal rule c d vol) (amendVolume rule c d vol) out
+    amend-read e = amend-is ∙ ap (λ (k : Reading). writtenUnless (amendRefusal rule c d vol k) (amendVolume rule c d vol) out) e
+
+-- ---- the claims
+
+module _ (rule : ℕ → ℕ → ℕ) (c : Change) (d vol out : List ℕ) where
+  -- a number that the tests give
+  number-refused : (k : ℕ) → changeRefusal rule c d vol ≡ bare k → (k ≡ 0 → ⊥)
+      → writtenUnless (changeRefusal rule c d vol) (amendVolume rule c d vol) out ≡ refused (bare k) out
+  number-refused k e some = sym (unless-refused (amendVolume rule c d vol) out (sym e) some refl)
+
+  first-fails : {k : ℕ} → claim.Fails rule c d vol out k
+      → writtenUnless (changeRefusal rule c d vol) (amendVolume rule c d vol) out ≡ refused (bare k) out
+  unfolding changeRefusal
+  first-fails (claim.no-file f) = number-refused 10 (simp f) (λ z. omega arith)
+  first-fails (claim.bad-entry {k} f l) = number-refused _ (simp (f, l)) (λ z. omega arith)
+  first-fails (claim.no-stretch f l s) = number-refused 21 (simp (f, l, s)) (λ z. omega arith)
+  first-fails (claim.too-long f l s h) = number-refused 1 (simp (f, l, s, too-long (length (amendVolume rule c d vol)) h)) (λ z. omega arith)
+  first-fails (claim.no-room f l s low high h) =
+      let none = change-none rule c d vol f l s (record { low = low; high = high }) in
+      sym (unless-none (amendVolume rule c d vol) out (sym none) refl (written-short (amendVolume rule c d vol) out h))
+
+pub amend-refused : AmendRefused
+amend-refused rule n c d out r (claim.past-room h) = amend-past rule n c d out h
+amend-refused rule n c d out r (claim.unread h e) = amend-unread rule n c d out h refl e
+amend-refused rule n c d out r (claim.fails h e f) = amend-read rule n c d out h refl e ∙ first-fails rule c d (take n out) out f
+
+-- ---- the room
+
+unless-same : (m : Refusal) (s out : List ℕ) {r : Refusal} {room : List ℕ} → writtenUnless m s out ≡ (Refused r, room) → room ≡ out
+unfolding writtenUnless written
+unless-same m s out {r} {room} e = by (eqb (m .number) 0) (leb (length s) (length out)) e
+  where
+    by : (z f : Bool) → cond z (cond f (accepted s out) (refused (bare 14) out)) (refused m out) ≡ (Refused r, room) → room ≡ out
+    by true true e =
+        let answer : Written (length s) ≡ Refused r = ap (λ (p : Writing × List ℕ). p .0) e in
+        absurd (let z : _≡_ {A = ℕ} 0 1 = cc in omega arith)
+    by true false e = sym (ap (λ (p : Writing × List ℕ). p .1) e)
+    by false f e = sym (ap (λ (p : Writing × List ℕ). p .1) e)
+
+-- where the length passes the room, and where it does not
+module _ (rule : ℕ → ℕ → ℕ) (n : ℕ) (c : Change) (d out : List ℕ) where
+  amendBy : Bool → Writing × List ℕ
+  amendBy b =
+      let vol : List ℕ = take n out in
+      cond b (writtenUnless (amendRefusal rule c d vol (readOf vol)) (amendVolume rule c d vol) out) (refused (bare 14) out)
+
+  pub refused-same : {r : Refusal} {room : List ℕ} → amendOf rule n c d out ≡ (Refused r, room) → room ≡ out
+  unfolding amendOf amendBy
+  refused-same {r} {room} e = by (leb n (length out)) e
+    where
+      by : (b : Bool) → amendBy b ≡ (Refused r, room) → room ≡ out
+      by true e = unless-same _ (amendVolume rule c d (take n out)) out e
+      by false e = sym (ap (λ (p : Writing × List ℕ). p .1) e)
+
+  written-kept : {k : ℕ} {room : List ℕ} → amendOf rule n c d out ≡ (Written k, room) → (length room ≡ length out) × (drop k room ≡ drop k out)
+  unfolding amendOf amendBy
+  written-kept {k} {room} e = by (leb n (length out)) e
+    where
+      by : (b : Bool) → amendBy b ≡ (Written k, room) → (length room ≡ length out) × (drop k room ≡ drop k out)
+      by true e =
+          let vol : List ℕ = take n out in
+          let s : List ℕ = amendVolume rule c d vol in
+          let m : Refusal = amendRefusal rule c d vol (readOf vol) in
+          let told = unless-tells m s out e in
+          let both : accepted s out ≡ (Written k, room) = sym (unless-accepted m s out (told .none) (told .fits)) ∙ e in
+          let answer : Written (length s) ≡ Written k = ap (λ (p : Writing × List ℕ). p .0) both in
+          let size : length s ≡ k = cc in
+          let held : s ++ drop (length s) out ≡ room = ap (λ (p : Writing × List ℕ). p .1) both in (
+            omega (arith, ap length held, length-append s (drop (length s) out), length-drop (length s) out, told .fits),
+            ap (λ (l : List ℕ). drop k l) (sym held) ∙ ap (λ (j : ℕ). drop j (s ++ drop (length s) out)) (sym size)
+                ∙ drop-append-seam s (drop (length s) out) ∙ ap (λ (j : ℕ). drop j out) size,
+          )
+      by false e = never e
+
+pub room-kept : RoomKept
+room-kept rule n c d out k room e = written-kept rule n c d out e

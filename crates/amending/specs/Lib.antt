@@ -1,0 +1,3 @@
+pub mod Amending
+pub mod Call
+pub mod Claim
