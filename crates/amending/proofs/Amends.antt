@@ -2,6 +2,7 @@
 --
 --   amended-files, amended-right    the files after a change keep the rules
 --   VolumeIs, volume-is             what a volume of files is made of
+--   five-parts                      five parts in a row
 --   amended-data                    the data after a change
 --   amend-to, amend-volume          one amendment
 --   amended-afresh                  a run of them
@@ -105,9 +106,9 @@ volume-is program v fs p right =
 
 -- ---- one amendment
 
-five : {a b c d e p q r s t : List ℕ} → a ≡ p → b ≡ q → c ≡ r → d ≡ s → e ≡ t
+pub five-parts : {a b c d e p q r s t : List ℕ} → a ≡ p → b ≡ q → c ≡ r → d ≡ s → e ≡ t
     → flatten (a ∷ b ∷ c ∷ d ∷ e ∷ []) ≡ flatten (p ∷ q ∷ r ∷ s ∷ t ∷ [])
-five a b c d e = cc
+five-parts a b c d e = cc
 
 module _ (v : ℕ) (c : Change) (fs : List File) (low : 1 ≤ c .file) (high : c .file ≤ fileCount fs)
     (change : ChangeRight (contentsOf fs (c .file)) c) where
@@ -163,7 +164,7 @@ module _ (v : ℕ) (c : Change) (fs : List File) (low : 1 ≤ c .file) (high : c
           ∙ ap (amendedData (coefficient (c .file) v) c (dataSizeFor gs)) (is .data-is) ∙ amended-data coefficient in
           let hash-is : setHash (entriesOf (amendedList (c .file) e (listOf vol)) .pieces) ≡ setHashFor gs =
           ap (λ (l : List ℕ). setHash (entriesOf l .pieces)) list-is ∙ ap (λ k. setHash (k .pieces)) (entries-of after) ∙ set-hash-is after in
-          five hash-is numbers-are (ap (toLe 8) (size-is ∙ sym (length-data coefficient v gs))) list-is area-is
+          five-parts hash-is numbers-are (ap (toLe 8) (size-is ∙ sym (length-data coefficient v gs))) list-is area-is
           ∙ sym (hashed-parts v gs (dataFor coefficient v gs))
 
       pub amend-to : amendVolume coefficient c (entryAfter c fs) (volumeFor version coefficient program v fs)

@@ -1,6 +1,7 @@
 -- The test 21: a stretch of one of the two kinds, and an entry that the file may then have.
 --
 --   stretch-passes, stretch-tells    the test of the stretch, and what it tells
+--   stretch-place                    the place is in the file as it now is, or at its end
 --   ChangeTold, change-told          what test 21, passed, tells
 --   change-passes                    and it passes where that holds
 --   change-length                    the new entry is as long as the old one
@@ -40,6 +41,12 @@ module _ (m : List ℕ) (c : Change) where
       or-tells (eqb (length (c .old)) (length (c .new)) && leb (c .place + length (c .old)) (length m)) _ e (Stretch m c)
       (λ t. let both = and-both (eqb (length (c .old)) (length (c .new))) _ t in inside (eqb-true _ _ (both .0)) (leb-true _ _ (both .1)))
       (λ t. let both = and-both (eqb (length (c .old)) 0) _ t in on-end (nil-of (c .old) (eqb-true _ _ (both .0))) (eqb-true _ _ (both .1)))
+
+pub stretch-place : (size place old new : ℕ) → stretchAllowed size place old new ≡ true → place ≤ size + (new - old)
+stretch-place size place old new e =
+    or-tells (eqb old new && leb (place + old) size) _ e (place ≤ size + (new - old))
+    (λ t. let h = leb-true (place + old) size (and-both (eqb old new) _ t .1) in omega arith)
+    (λ t. let h = eqb-true place size (and-both (eqb old 0) _ t .1) in omega arith)
 
 -- ---- the test
 

@@ -2,7 +2,12 @@ mod AmendCalls
 mod AmendedFiles
 mod Amends
 mod ChangeTests
+mod EntryPlaces
 mod Examples
 mod KeptParts
+mod PatchLaws
+mod PlanLaws
 mod Refusals
+mod SpanLaws
 mod Splices
+mod WriteLaws

@@ -49,7 +49,8 @@ module _ (c : Change) (m : List ℕ) (right : ChangeRight m c) where
   splice-gains q = splice-from q ∙ by (right .kind) (decLt q (length (c .new)))
     where
       by : Stretch m c → Dec (q < length (c .new))
-          → getD (c .new ++ drop (c .place + length (c .old)) m) q 0 ≡ bitXor (getD m (c .place + q) 0) (bitXor (getD (c .old) q 0) (getD (c .new) q 0))
+          → getD (c .new ++ drop (c .place + length (c .old)) m) q 0
+          ≡ bitXor (getD m (c .place + q) 0) (bitXor (getD (c .old) q 0) (getD (c .new) q 0))
       by (inside e h) (yes l) = List·getD-append (c .new) _ 0 q l ∙ became _ _ _ (old-at q (omega arith))
       by (inside e h) (no l) =
           let r : ℕ = q - length (c .new) in

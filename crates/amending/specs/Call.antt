@@ -1,6 +1,7 @@
 -- What the call `amend` gives (document 02, 2026-05: "Amend a volume in its lent room from: its present length there, the file number, a
 -- place, the old and the new bytes of that stretch, and the file's entry as it now is").
 --
+--   changeOf f p old new       the change of file f at the place p from the old to the new bytes
 --   stretchAllowed n p a b     whether a stretch of a old and b new bytes at the place p is of one of the two kinds, in a file of n bytes
 --   changeAllowed p a b e d    whether it is, in the file with the entry e, and d is an entry that the file may then have
 --   entryIn f es               the entry of file f among the entries es
@@ -29,6 +30,9 @@ use Rattle.par1_read.specs.declared.reading.Reading.the-variants as reading
 use Rattle.par1_rules.specs.Layout.{volumeNumberOf}
 use Rattle.par1_rules.specs.Rules.{lengthAllowed}
 use Rattle.amending.specs.Amending.{Change, placeIn, amendVolume}
+
+abbrev pub changeOf : ℕ → ℕ → List ℕ → List ℕ → Change
+changeOf file place old new = record { file = file; place = place; old = old; new = new }
 
 -- "Either both stretches are equally long and inside the file, or the old one is empty and the new one goes on the end."
 abbrev pub stretchAllowed : ℕ → ℕ → ℕ → ℕ → Bool

@@ -1,3 +1,4 @@
 pub mod Amending
 pub mod Call
 pub mod Claim
+pub mod Plan

@@ -4,6 +4,6 @@ pub mod DataSizes
 pub mod Examples
 pub mod FileEntries
 pub mod Layouts
-mod Ranges
+pub mod Ranges
 pub mod SetLaws
 pub mod Sets
