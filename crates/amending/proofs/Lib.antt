@@ -7,6 +7,7 @@ mod Examples
 mod KeptParts
 mod PatchLaws
 mod PlanLaws
+pub mod RangeLaws
 mod Refusals
 mod SpanLaws
 mod Splices

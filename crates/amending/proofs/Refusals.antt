@@ -4,6 +4,7 @@
 --   amend-is         what the call gives, where its length does not pass the room
 --   amend-read       where the volume is read, too
 --   amend-refused    the first refusal, in the document's order
+--   amendBy          what the call gives, by whether its length passes the room
 --   refused-same, room-kept     what a refused and an accepted call leave of the room
 -- A test is passed where it does not hold.
 -- Assumes nothing.
@@ -129,7 +130,7 @@ unless-same m s out {r} {room} e = by (eqb (m .number) 0) (leb (length s) (lengt
 
 -- where the length passes the room, and where it does not
 module _ (rule : ℕ → ℕ → ℕ) (n : ℕ) (c : Change) (d out : List ℕ) where
-  amendBy : Bool → Writing × List ℕ
+  unfoldable pub amendBy : Bool → Writing × List ℕ
   amendBy b =
       let vol : List ℕ = take n out in
       cond b (writtenUnless (amendRefusal rule c d vol (readOf vol)) (amendVolume rule c d vol) out) (refused (bare 14) out)

@@ -3,8 +3,9 @@
 --   Answerable, answerable    a refusal of a list whose length is a u64, in numbers
 --   read-within               which refusals reading gives
 --   read-answerable, volume-answerable, read-end-answerable    those of reading, of writing a volume and of the end of a running read
---   read-asked, volume-asked, read-end-asked  the same, as what `answer` requires
---   read-told, volume-told, read-end-told     the claims
+--   amend-answerable          those of amending, or the length
+--   read-asked, volume-asked, read-end-asked, amend-asked    the same, as what `answer` requires
+--   read-told, volume-told, read-end-told, amend-told        the claims
 -- Assumes nothing.
 use mathlib.Core.Path.{_≡_, refl, sym, ap}
 use mathlib.Core.List.{List}
@@ -24,8 +25,14 @@ use Rattle.par1_read.proofs.RangeLaws.{refusal-within}
 use Rattle.par1_read.proofs.ReadingLaws.{refusalOf, partsOf, read-accepted, read-refused}
 use Rattle.par1_write.specs.VolumeWriting.{writeVolumeOf}
 use Rattle.par1_write.proofs.VolumeWritingLaws.{volume-within}
-use Rattle.par1_c.specs.Answers.{Told}
-use Rattle.par1_c.specs.Claim.{ReadTold, VolumeTold, ReadEndTold}
+use Rattle.parity.specs.Coefficient.{coefficient}
+use Rattle.lent_bytes.specs.declared.Writing.{Writing}
+use Rattle.lent_bytes.specs.declared.Writing.the-variants.{Written, Refused}
+use Rattle.amending.specs.Amending.{Change}
+use Rattle.amending.specs.Call.{amendOf}
+use Rattle.amending.proofs.RangeLaws.{accepted-most, refused-most}
+use Rattle.par1_c.specs.Answers.{lengthTold, Told}
+use Rattle.par1_c.specs.Claim.{ReadTold, VolumeTold, ReadEndTold, AmendTold}
 
 pub record Answerable (r : Refusal) : Type 0 where
   pub number-most : r .number < 32
@@ -63,6 +70,14 @@ volume-answerable program number list area out h = answerable (length list) _ h 
 read-end-answerable : (b out : List ℕ) → Answerable (readEnded b out .0)
 read-end-answerable b out = let w = ended-within b out in record { number-most = w .0; place-most = w .1 }
 
+module _ (n : ℕ) (c : Change) (d out : List ℕ) (h : length out < 2 ^ 64) where
+  amend-answerable : (w : Writing) (t : List ℕ) → amendOf coefficient n c d out ≡ (w, t) → Answerable (lengthTold w)
+  amend-answerable (Written k) t e =
+      let most = accepted-most coefficient n c d out e in record { number-most = omega arith; place-most = omega arith }
+  amend-answerable (Refused r) t e =
+      let most = refused-most coefficient n c d out e in
+      record { number-most = omega (arith, most .number-most); place-most = omega (arith, most .place-most) }
+
 asked : {r q : Refusal} → r ≡ q → Answerable q → (r .number < 32) × (r .place < 2 ^ 59)
 asked e a = rw e (a .number-most, a .place-most)
 
@@ -78,6 +93,10 @@ volume-asked program number list area out h e =
 pub read-end-asked : (b out : List ℕ) {r : Refusal} {s t : List ℕ} → (r, s, t) ≡ readEnded b out → (r .number < 32) × (r .place < 2 ^ 59)
 read-end-asked b out e = asked (ap (λ (p : Refusal × List ℕ × List ℕ). p .0) e) (read-end-answerable b out)
 
+pub amend-asked : (n : ℕ) (c : Change) (d out : List ℕ) {w : Writing} {t : List ℕ} {r : Refusal} → length out < 2 ^ 64
+    → (w, t) ≡ amendOf coefficient n c d out → r ≡ lengthTold w → (r .number < 32) × (r .place < 2 ^ 59)
+amend-asked n c d out {w} {t} h e is = asked is (amend-answerable n c d out h w t (sym e))
+
 pub read-told : ReadTold
 read-told f out h = told _ (read-answerable f out h)
 
@@ -86,3 +105,6 @@ volume-told program number list area out h = told _ (volume-answerable program n
 
 pub read-end-told : ReadEndTold
 read-end-told b out = told _ (read-end-answerable b out)
+
+pub amend-told : AmendTold
+amend-told n c d out h = told _ (amend-answerable n c d out h (amendOf coefficient n c d out .0) (amendOf coefficient n c d out .1) refl)

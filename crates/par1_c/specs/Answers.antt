@@ -3,11 +3,15 @@
 --   answerOf r      the number of the refusal r, and 32 times its place
 --   answered w      what a call gives that answers so
 --   answeredEnd w   the same, where it is lent the bytes of a job too
+--   lengthTold w    the answer w as such a number and its value: where it is accepted, 0 and the length that it wrote
+--   answeredLength w     what a call gives that answers so
 --   Told r          the number and the place are read off the answer, which 64 bits hold
 -- Assumes nothing.
 use mathlib.Core.Path.{_≡_}
 use mathlib.Core.List.{List}
 use Prim.Native.Nat.{ℕ, _+_, _*_, _/_, _%_, _^_, _<_}
+use Rattle.lent_bytes.specs.declared.Writing.{Writing}
+use Rattle.lent_bytes.specs.declared.Writing.the-variants.{Written, Refused}
 use Rattle.refusals.specs.declared.Refusal.{Refusal}
 
 abbrev pub answerOf : Refusal → ℕ
@@ -18,6 +22,13 @@ answered w = (answerOf (w .0), w .1)
 
 abbrev pub answeredEnd : Refusal × List ℕ × List ℕ → ℕ × List ℕ × List ℕ
 answeredEnd w = (answerOf (w .0), w .1, w .2)
+
+abbrev pub lengthTold : Writing → Refusal
+lengthTold (Written n) = record { number = 0; place = n }
+lengthTold (Refused r) = r
+
+abbrev pub answeredLength : Writing × List ℕ → ℕ × List ℕ
+answeredLength w = (answerOf (lengthTold (w .0)), w .1)
 
 -- as PAR1_NUMBER and PAR1_VALUE do
 pub record Told (r : Refusal) : Type 0 where

@@ -4,6 +4,7 @@
 --   ReadTold             the refusal of a file that is read is told by its answer
 --   VolumeTold           so is that of a volume that is written
 --   ReadEndTold          so is that of the end of a running read, whatever its bytes are
+--   AmendTold            and that of an amendment, or the volume's new length
 --   OnBytes step s k     a call that changes s: its number, and the bytes of the inventory that it hands back, which bytes can hold again
 --   OpenedOnBytes        an opening with the bytes of the sizes is one with the sizes, and bytes can hold what it gives
 --   ChangedOnBytes       so are the calls that add and remove
@@ -31,7 +32,9 @@ use Rattle.inventory.specs.declared.Outcome.{Outcome}
 use Rattle.inventory_bytes.specs.Claim.{Held}
 use Rattle.inventory_bytes.specs.Inventories.{inventoryBytes, storedBy, countedInto}
 use Rattle.little_endian.specs.Bytes.{numbers}
-use Rattle.par1_c.specs.Answers.{Told}
+use Rattle.amending.specs.Amending as amending
+use Rattle.amending.specs.Call.{amendOf}
+use Rattle.par1_c.specs.Answers.{lengthTold, Told}
 use Rattle.par1_c.specs.Inventories.{openInto, changedBy, countInto, QueryInto}
 
 -- a list has fewer than 2^59 entries, so 64 bits hold the answer; the file's length is a u64; proved: proofs/AnswerLaws.antt, `read-told`
@@ -46,6 +49,11 @@ VolumeTold =
 -- proved: proofs/AnswerLaws.antt, `read-end-told`
 abbrev pub ReadEndTold : Type 0
 ReadEndTold = (b out : List ℕ) → Told (readEnded b out .0)
+
+-- the room's length is a u64; proved: proofs/AnswerLaws.antt, `amend-told`
+abbrev pub AmendTold : Type 0
+AmendTold =
+    (n : ℕ) (c : amending.Change) (d out : List ℕ) → length out < 2 ^ 64 → Told (lengthTold (amendOf coefficient n c d out .0))
 
 pub record OnBytes (step : Inventory → ℕ → Outcome) (s : Inventory) (k : ℕ) : Type 0 where
   pub gives : changedBy step k (inventoryBytes s) ≡ (step s k .number, inventoryBytes (step s k .next))

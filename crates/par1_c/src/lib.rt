@@ -1,11 +1,11 @@
 // What C sees: the libraries' calls on numbers, byte slices and a running hash, as include/par1.h declares them. Each answers 0, or the
-// document's number of a refusal; three of them tell the place of the refusal too, in one number. A refusal changes no byte, save that the end
+// document's number of a refusal; four of them tell the place of the refusal too, in one number. A refusal changes no byte, save that the end
 // of a job ends it also where it is refused, unless with 20.
 ghost use mathlib.Core.Path.{_≡_};
 ghost use Prim.Native.Nat.{_^_, _<_};
 ghost use Rattle.gf256.specs.Answer.{inverseAnswer};
 ghost use Rattle.md5.specs.Digest.{digestInto};
-ghost use Rattle.parity.specs.Coefficient.{coefficientAnswer};
+ghost use Rattle.parity.specs.Coefficient.{coefficient, coefficientAnswer};
 ghost use Rattle.mul_add.specs.MulAdd.{mulAdd};
 ghost use Rattle.par1.specs.Checking.{checkOf};
 ghost use Rattle.par1_write.specs.EntryWriting.{writeEntryOf};
@@ -14,7 +14,8 @@ ghost use Rattle.par1_write.specs.VolumeWriting.{writeVolumeOf};
 ghost use Rattle.answer_bytes.specs.Results.{byteInto, readInto, entryInto};
 ghost use Rattle.entries.specs.Walk.{firstOf};
 ghost use Rattle.lent_bytes.specs.Writing.{withRefusal, withNumber};
-ghost use Rattle.par1_c.specs.Answers.{answerOf, answered};
+ghost use Rattle.amending.specs.Call.{changeOf, amendOf};
+ghost use Rattle.par1_c.specs.Answers.{answerOf, answered, lengthTold, answeredLength};
 
 mod hash;
 mod inventories;
@@ -24,6 +25,7 @@ mod reads;
 use answer_bytes::put_answer;
 use answer_bytes::put_entry;
 use answer_bytes::put_reading;
+use lent_bytes::Writing;
 use lent_bytes::refusal_of;
 use par1::Refusal;
 
@@ -98,12 +100,42 @@ pub extern "C" fn par1_write_volume(
     answer(refusal_of(par1::write_volume(program, number, list, data, out)))
 }
 
+// Amends the volume in the first `length` bytes of `volume`; the value of the answer is its new length.
+#[no_mangle]
+pub extern "C" fn par1_amend(
+    volume: &mut [u8],
+    length: u64,
+    file: u64,
+    place: u64,
+    old: &[u8],
+    new: &[u8],
+    entry: &[u8],
+) -> u64
+    ensures { λ r. ⌜ (r, now (volume .exit))
+        ≡ answeredLength (amendOf coefficient length (changeOf file place (now (old .entry)) (now (new .entry))) (now (entry .entry)) (now (volume .entry))) ⌝ }
+{
+    answer(length_told(amending::amend(volume, length, file, place, old, new, entry)))
+}
+
 // Whether the contents are those of the entry's file.
 #[no_mangle]
 pub extern "C" fn par1_check(entry: &[u8], contents: &[u8]) -> u32
     ensures { λ r. ⌜ r ≡ checkOf (now (entry .entry)) (now (contents .entry)) .number ⌝ }
 {
     par1::check(entry, contents).number
+}
+
+// What a call that writes answers, as a number and its value: 0 and the length that it wrote, or its refusal and the place.
+fn length_told(writing: Writing) -> Refusal
+    ensures { λ r. ⌜ r ≡ lengthTold writing ⌝ }
+{
+    match writing {
+        Writing::Written(length) => Refusal {
+            number: 0,
+            place: length as u64,
+        },
+        Writing::Refused(refusal) => refusal,
+    }
 }
 
 // A refusal and its place in one number: the refusal's, and 32 times the place.

@@ -9,7 +9,7 @@
 --   from-refused, from-accepted      what reading gives, from the refusal
 --   read-refused, read-accepted      the same of a file
 --   Passed, passed-none, ReadAccepted, read-tells  the tests that an accepted file passed
---   refused-some                     a file is not refused with the number 0
+--   refused-is, refused-some         which refusal a file is refused with, and that its number is not 0
 -- A test of document 01 is passed where it does not hold.
 -- Assumes nothing.
 use mathlib.Core.Path.{_≡_, refl, sym, ap, _∙_}
@@ -192,11 +192,14 @@ read-tells f p e = by (refusalOf f .number) refl
     by (suc m) n =
         let found = read-refused f refl (λ z. omega arith) in absurd (let z : _≡_ {A = ℕ} 0 1 = cc in omega arith)
 
-pub refused-some : (f : List ℕ) {r : Refusal} → readOf f ≡ Refused r → r .number ≡ 0 → ⊥
-refused-some f {r} e z = by (refusalOf f .number) refl
+pub refused-is : (f : List ℕ) {r : Refusal} → readOf f ≡ Refused r → refusalOf f ≡ r
+refused-is f {r} e = by (refusalOf f .number) refl
   where
-    by : (n : ℕ) → n ≡ refusalOf f .number → ⊥
-    by zero n = let found = read-accepted f (sym n) in let z : _≡_ {A = ℕ} 0 1 = cc in omega arith
-    by (suc m) n =
-        let both : Refused (refusalOf f) ≡ Refused r = sym (read-refused f refl (λ z. omega arith)) ∙ e in
-        let same : refusalOf f ≡ r = cc in omega (arith, ap (λ (r : Refusal). r .number) same)
+    by : (n : ℕ) → n ≡ refusalOf f .number → refusalOf f ≡ r
+    by zero n = let found = read-accepted f (sym n) in absurd (let z : _≡_ {A = ℕ} 0 1 = cc in omega arith)
+    by (suc m) n = let found = read-refused f refl (λ z. omega arith) in cc
+
+pub refused-some : (f : List ℕ) {r : Refusal} → readOf f ≡ Refused r → r .number ≡ 0 → ⊥
+refused-some f {r} e z =
+    let found = read-accepted f (ap (λ (r : Refusal). r .number) (refused-is f e) ∙ z) in
+    let z : _≡_ {A = ℕ} 0 1 = cc in omega arith

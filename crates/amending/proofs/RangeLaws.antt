@@ -1,0 +1,131 @@
+-- Which lengths and which refusals an amendment gives.
+--
+--   lone-most, change-most     the numbers of the tests after those of reading
+--   accepted-most              an amended volume is no longer than a volume may be
+--   refused-most               a number of at most 21, and the place of an entry of 58 bytes or more in the room
+-- Assumes nothing.
+use mathlib.Core.Path.{_≡_, refl, sym, ap, _∙_}
+use mathlib.Core.Bool.{Bool, true, false, cond}
+use mathlib.Core.List.{List}
+use Prim.Native.Nat.{ℕ, zero, suc, _+_, _/_, _≤_}
+use native.Mathlib.Omega.{arith}
+use lib.Dec.{leb, eqb}
+use lib.ListN.{length, take}
+use lib.Seq.{length-take-le}
+use borrow.Author.Tests.{leb-true}
+use Rattle.refusals.specs.Limits.{maxVolumeLength}
+use Rattle.refusals.specs.Tests.{bare, test, orElse}
+use Rattle.refusals.specs.declared.Refusal.{Refusal}
+use Rattle.lent_bytes.specs.Writing.{refused, accepted, written, writtenUnless}
+use Rattle.lent_bytes.specs.declared.Writing.{Writing}
+use Rattle.lent_bytes.specs.declared.Writing.the-variants.{Written, Refused}
+use Rattle.lent_bytes.proofs.WritingLaws.{never, unless-accepted, unless-tells}
+use Rattle.entries.specs.Entry.{entrySize}
+use Rattle.entries.specs.Walk.{firstOf}
+use Rattle.entries.specs.declared.Fault.the-variants.{Size, FileSize, Name}
+use Rattle.entries.specs.declared.Item.{Item}
+use Rattle.entries.specs.declared.Item.the-variants as item
+use Rattle.par1.specs.Checking.{itemNumber, loneRefusal}
+use Rattle.par1_read.specs.Reading.{entriesIn, readOf}
+use Rattle.par1_read.specs.declared.reading.Reading.{Reading}
+use Rattle.par1_read.specs.declared.reading.Reading.the-variants as reading
+use Rattle.par1_read.proofs.RangeLaws.{refusal-within}
+use Rattle.par1_read.proofs.ReadingLaws.{refused-is, refused-some}
+use Rattle.par1_rules.specs.Rules.{lengthAllowed}
+use Rattle.amending.specs.Amending.{Change, amendVolume}
+use Rattle.amending.specs.Call.{changeAllowed, entryIn, fileAllowed, changeRefusal, amendRefusal, amendOf}
+use Rattle.amending.proofs.Refusals.{amendBy, change-passed}
+
+lone-most : (e : List ℕ) → loneRefusal e ≤ 18
+unfolding loneRefusal
+lone-most e = by (eqb (entrySize e) (length e)) (firstOf e)
+  where
+    by : (b : Bool) (i : Item) → test 16 b (itemNumber i) ≤ 18
+    by false i = omega arith
+    by true (item.Entry n status size) = omega arith
+    by true item.End = omega arith
+    by true (item.Fault Size) = omega arith
+    by true (item.Fault FileSize) = omega arith
+    by true (item.Fault Name) = omega arith
+
+pub record Most (k : ℕ) (r : Refusal) : Type 0 where
+  pub number-most : r .number ≤ 21
+  pub place-most : r .place ≤ k
+
+change-most : (k : ℕ) (a : Bool) (l : ℕ) (b y : Bool) → l ≤ 18 → Most k (orElse (test 10 a 0) (orElse l (bare (test 21 b (test 1 y 0)))))
+change-most k false l b y h = record { number-most = omega arith; place-most = omega arith }
+change-most k true (suc l) b y h = record { number-most = omega arith; place-most = omega arith }
+change-most k true zero false y h = record { number-most = omega arith; place-most = omega arith }
+change-most k true zero true false h = record { number-most = omega arith; place-most = omega arith }
+change-most k true zero true true h = record { number-most = omega arith; place-most = omega arith }
+
+module _ (rule : ℕ → ℕ → ℕ) (c : Change) (d vol : List ℕ) where
+  refusal-most : (q : Reading) → readOf vol ≡ q → Most (length vol / 58 + 1) (amendRefusal rule c d vol q)
+  unfolding changeRefusal
+  refusal-most (reading.Refused r) e =
+      let w = refusal-within vol in
+      let same = refused-is vol e in
+      let number = ap (λ (r : Refusal). r .number) same in
+      let place = ap (λ (r : Refusal). r .place) same in
+      record { number-most = omega (arith, w .number-most); place-most = omega (arith, w .place-most) }
+  refusal-most (reading.Accepted p) e =
+      let was : List ℕ = entryIn (c .file) (entriesIn vol) in
+      change-most (length vol / 58 + 1) (fileAllowed (c .file) vol) (loneRefusal d)
+      (changeAllowed (c .place) (length (c .old)) (length (c .new)) was d) (lengthAllowed (length (amendVolume rule c d vol))) (lone-most d)
+
+  total-most : (q : Reading) → readOf vol ≡ q → amendRefusal rule c d vol q .number ≡ 0 → length (amendVolume rule c d vol) ≤ maxVolumeLength
+  total-most (reading.Refused r) e z = absurd (refused-some vol e z)
+  total-most (reading.Accepted p) e z = change-passed rule c d vol z .total .high
+
+module _ (rule : ℕ → ℕ → ℕ) (n : ℕ) (c : Change) (d out : List ℕ) where
+  pub accepted-most : {k : ℕ} {t : List ℕ} → amendOf rule n c d out ≡ (Written k, t) → k ≤ maxVolumeLength
+  unfolding amendOf amendBy
+  accepted-most {k} {t} e = by (leb n (length out)) e
+    where
+      by : (b : Bool) → amendBy rule n c d out b ≡ (Written k, t) → k ≤ maxVolumeLength
+      by true e =
+          let vol : List ℕ = take n out in
+          let m : Refusal = amendRefusal rule c d vol (readOf vol) in
+          let s : List ℕ = amendVolume rule c d vol in
+          let told = unless-tells m s out e in
+          let both : accepted s out ≡ (Written k, t) = sym (unless-accepted m s out (told .none) (told .fits)) ∙ e in
+          let answer : Written (length s) ≡ Written k = ap (λ (p : Writing × List ℕ). p .0) both in
+          let size : length s ≡ k = cc in omega (arith, total-most rule c d vol (readOf vol) refl (told .none))
+      by false e = never e
+
+  pub refused-most : {r : Refusal} {t : List ℕ} → amendOf rule n c d out ≡ (Refused r, t) → Most (length out / 58 + 1) r
+  unfolding amendOf amendBy writtenUnless written
+  refused-most {r} {t} e = by (leb n (length out)) refl e
+    where
+      no-room : {s : List ℕ} → refused (bare 14) s ≡ (Refused r, t) → Most (length out / 58 + 1) r
+      no-room {s} e =
+          let answer : Refused (bare 14) ≡ Refused r = ap (λ (p : Writing × List ℕ). p .0) e in
+          let same : bare 14 ≡ r = cc in
+          let number = ap (λ (r : Refusal). r .number) same in
+          let place = ap (λ (r : Refusal). r .place) same in
+          record { number-most = omega arith; place-most = omega arith }
+
+      tested : (m : Refusal) (s : List ℕ) → Most (length out / 58 + 1) m → (z f : Bool)
+          → cond z (cond f (accepted s out) (refused (bare 14) out)) (refused m out) ≡ (Refused r, t) → Most (length out / 58 + 1) r
+      tested m s w true true e =
+          let answer : Written (length s) ≡ Refused r = ap (λ (p : Writing × List ℕ). p .0) e in
+          absurd (let z : _≡_ {A = ℕ} 0 1 = cc in omega arith)
+      tested m s w true false e = no-room e
+      tested m s w false f e =
+          let answer : Refused m ≡ Refused r = ap (λ (p : Writing × List ℕ). p .0) e in
+          let same : m ≡ r = cc in
+          let number = ap (λ (r : Refusal). r .number) same in
+          let place = ap (λ (r : Refusal). r .place) same in
+          record { number-most = omega (arith, w .number-most); place-most = omega (arith, w .place-most) }
+
+      by : (b : Bool) → leb n (length out) ≡ b → amendBy rule n c d out b ≡ (Refused r, t) → Most (length out / 58 + 1) r
+      by true l e =
+          let vol : List ℕ = take n out in
+          let size : length vol ≡ n = length-take-le n out (leb-true n (length out) l) in
+          let h = leb-true n (length out) l in
+          let m : Refusal = amendRefusal rule c d vol (readOf vol) in
+          let s : List ℕ = amendVolume rule c d vol in
+          let w = refusal-most rule c d vol (readOf vol) refl in
+          let more : Most (length out / 58 + 1) m = record { number-most = w .number-most; place-most = omega (arith, w .place-most) } in
+          tested m s more (eqb (m .number) 0) (leb (length s) (length out)) e
+      by false l e = no-room e
