@@ -1,11 +1,12 @@
 -- Which refusal the call gives, and what it leaves of the room.
 --
---   ChangePassed, change-passed, change-none     what the tests after those of reading, passed, tell; and they pass where that holds
+--   change-none      the tests after those of reading pass
 --   amend-is         what the call gives, where its length does not pass the room
 --   amend-read       where the volume is read, too
 --   amend-refused    the first refusal, in the document's order
 --   amendBy          what the call gives, by whether its length passes the room
 --   refused-same, room-kept     what a refused and an accepted call leave of the room
+--   ChangePassed, change-passed     what the tests after those of reading, passed, tell
 -- A test is passed where it does not hold.
 -- Assumes nothing.
 use mathlib.Core.Path.{_≡_, refl, sym, ap, _∙_}
@@ -39,34 +40,12 @@ use Rattle.amending.specs.Claim.{AmendRefused, RoomKept}
 
 -- ---- the tests after those of reading
 
-module _ (rule : ℕ → ℕ → ℕ) (c : Change) (d vol : List ℕ) where
-  pub record ChangePassed : Type 0 where
-    pub file-right : fileAllowed (c .file) vol ≡ true
-    pub lone : loneRefusal d ≡ 0
-    pub change : changeAllowed (c .place) (length (c .old)) (length (c .new)) (entryIn (c .file) (entriesIn vol)) d ≡ true
-    pub total : Between (length (amendVolume rule c d vol))
-
-  pub change-passed : changeRefusal rule c d vol .number ≡ 0 → ChangePassed
-  unfolding changeRefusal
-  change-passed z =
-      let ten = or-none (test 10 (fileAllowed (c .file) vol) 0) _ z in
-      let lone = or-none (loneRefusal d) _ (ten .1) in
-      let e : List ℕ = entryIn (c .file) (entriesIn vol) in
-      let change = test-passed 21 (changeAllowed (c .place) (length (c .old)) (length (c .new)) e d) _ (omega arith) (lone .1) in
-      let one = test-passed 1 (lengthAllowed (length (amendVolume rule c d vol))) 0 (omega arith) (change .1) in
-      record {
-        file-right = test-passed 10 (fileAllowed (c .file) vol) 0 (omega arith) (ten .0) .0;
-        lone = lone .0;
-        change = change .0;
-        total = between _ (one .0);
-      }
-
-  module _ (file-right : fileAllowed (c .file) vol ≡ true) (lone : loneRefusal d ≡ 0) where
-    pub change-none : changeAllowed (c .place) (length (c .old)) (length (c .new)) (entryIn (c .file) (entriesIn vol)) d ≡ true
-        → Between (length (amendVolume rule c d vol)) → changeRefusal rule c d vol ≡ bare 0
-    unfolding changeRefusal
-    change-none change total =
-        simp (file-right, lone, change, long-enough (length (amendVolume rule c d vol)) (total .low) (total .high))
+pub change-none : (rule : ℕ → ℕ → ℕ) (c : Change) (d vol : List ℕ) → fileAllowed (c .file) vol ≡ true → loneRefusal d ≡ 0
+    → changeAllowed (c .place) (length (c .old)) (length (c .new)) (entryIn (c .file) (entriesIn vol)) d ≡ true
+    → Between (length (amendVolume rule c d vol)) → changeRefusal rule c d vol ≡ bare 0
+unfolding changeRefusal
+change-none rule c d vol file-right lone change total =
+    simp (file-right, lone, change, long-enough (length (amendVolume rule c d vol)) (total .low) (total .high))
 
 -- ---- what the call gives
 
@@ -165,3 +144,27 @@ module _ (rule : ℕ → ℕ → ℕ) (n : ℕ) (c : Change) (d out : List ℕ) 
 
 pub room-kept : RoomKept
 room-kept rule n c d out k room e = written-kept rule n c d out e
+
+-- ---- what the tests after those of reading tell
+
+module _ (rule : ℕ → ℕ → ℕ) (c : Change) (d vol : List ℕ) where
+  pub record ChangePassed : Type 0 where
+    pub file-right : fileAllowed (c .file) vol ≡ true
+    pub lone : loneRefusal d ≡ 0
+    pub change : changeAllowed (c .place) (length (c .old)) (length (c .new)) (entryIn (c .file) (entriesIn vol)) d ≡ true
+    pub total : Between (length (amendVolume rule c d vol))
+
+  pub change-passed : changeRefusal rule c d vol .number ≡ 0 → ChangePassed
+  unfolding changeRefusal
+  change-passed z =
+      let ten = or-none (test 10 (fileAllowed (c .file) vol) 0) _ z in
+      let lone = or-none (loneRefusal d) _ (ten .1) in
+      let e : List ℕ = entryIn (c .file) (entriesIn vol) in
+      let change = test-passed 21 (changeAllowed (c .place) (length (c .old)) (length (c .new)) e d) _ (omega arith) (lone .1) in
+      let one = test-passed 1 (lengthAllowed (length (amendVolume rule c d vol))) 0 (omega arith) (change .1) in
+      record {
+        file-right = test-passed 10 (fileAllowed (c .file) vol) 0 (omega arith) (ten .0) .0;
+        lone = lone .0;
+        change = change .0;
+        total = between _ (one .0);
+      }

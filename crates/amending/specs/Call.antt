@@ -54,12 +54,9 @@ fileAllowed f vol = leb 1 (volumeNumberOf vol) && isFile (length (savedOf (entri
 -- "10, for an index too; 16 to 18 for the new entry; 21 ..; 1"
 unfoldable pub changeRefusal : (ℕ → ℕ → ℕ) → Change → List ℕ → List ℕ → Refusal
 changeRefusal rule c d vol =
-    let e : List ℕ = entryIn (c .file) (entriesIn vol) in
-    orElse (test 10 (fileAllowed (c .file) vol) 0)
-    (orElse (loneRefusal d)
-    (bare
-    (test 21 (changeAllowed (c .place) (length (c .old)) (length (c .new)) e d)
-    (test 1 (lengthAllowed (length (amendVolume rule c d vol))) 0))))
+    let stretch : Bool = changeAllowed (c .place) (length (c .old)) (length (c .new)) (entryIn (c .file) (entriesIn vol)) d in
+    let short : Bool = lengthAllowed (length (amendVolume rule c d vol)) in
+    orElse (test 10 (fileAllowed (c .file) vol) 0) (orElse (loneRefusal d) (bare (test 21 stretch (test 1 short 0))))
 
 -- "those of reading" come first
 abbrev pub amendRefusal : (ℕ → ℕ → ℕ) → Change → List ℕ → List ℕ → Reading → Refusal
