@@ -4,6 +4,7 @@ mod Amends
 mod ChangeTests
 mod EntryPlaces
 mod Examples
+mod FoundEntries
 mod KeptParts
 mod PatchLaws
 mod PlanLaws

@@ -30,7 +30,8 @@ use Rattle.amending.specs.declared.planning.Plan.{Plan}
 use Rattle.amending.specs.declared.planning.Planned.the-variants as planned
 use Rattle.amending.proofs.Amends.{five-parts}
 use Rattle.amending.proofs.EntryPlaces.{split-entries, set-joined}
-use Rattle.amending.proofs.PlanLaws.{Read, Found, length-list, length-amended, refusal-tells, plan-tells}
+use Rattle.amending.proofs.FoundEntries.{Read, Found, length-list, length-amended}
+use Rattle.amending.proofs.PlanLaws.{refusal-tells, plan-tells}
 use Rattle.amending.proofs.Refusals.{amend-is}
 use Rattle.amending.proofs.WriteLaws.{planWith, written-parts}
 

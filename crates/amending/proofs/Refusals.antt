@@ -37,6 +37,7 @@ use Rattle.amending.specs.Amending.{Change, amendVolume}
 use Rattle.amending.specs.Call.{changeAllowed, entryIn, fileAllowed, changeRefusal, amendRefusal, amendOf}
 use Rattle.amending.specs.Claim as claim
 use Rattle.amending.specs.Claim.{AmendRefused, RoomKept}
+use Rattle.amending.proofs.FoundEntries.{Read, volume-read, found, length-amended}
 
 -- ---- the tests after those of reading
 
@@ -72,7 +73,7 @@ module _ (rule : ℕ → ℕ → ℕ) (n : ℕ) (c : Change) (d out : List ℕ) 
 
 -- ---- the claims
 
-module _ (rule : ℕ → ℕ → ℕ) (c : Change) (d vol out : List ℕ) where
+module _ (rule : ℕ → ℕ → ℕ) (c : Change) (d vol out : List ℕ) (read : Read vol) where
   -- a number that the tests give
   number-refused : (k : ℕ) → changeRefusal rule c d vol ≡ bare k → (k ≡ 0 → ⊥)
       → writtenUnless (changeRefusal rule c d vol) (amendVolume rule c d vol) out ≡ refused (bare k) out
@@ -85,14 +86,17 @@ module _ (rule : ℕ → ℕ → ℕ) (c : Change) (d vol out : List ℕ) where
   first-fails (claim.bad-entry {k} f l) = number-refused _ (simp (f, l)) (λ z. omega arith)
   first-fails (claim.no-stretch f l s) = number-refused 21 (simp (f, l, s)) (λ z. omega arith)
   first-fails (claim.too-long f l s h) = number-refused 1 (simp (f, l, s, too-long (length (amendVolume rule c d vol)) h)) (λ z. omega arith)
-  first-fails (claim.no-room f l s low high h) =
-      let none = change-none rule c d vol f l s (record { low = low; high = high }) in
+  first-fails (claim.no-room f l s high h) =
+      let at = found vol read (c .file) (c .place) (length (c .old)) (length (c .new)) d f l s in
+      let size = length-amended vol read c d at rule in
+      let none = change-none rule c d vol f l s (record { low = omega arith; high = high }) in
       sym (unless-none (amendVolume rule c d vol) out (sym none) refl (written-short (amendVolume rule c d vol) out h))
 
 pub amend-refused : AmendRefused
 amend-refused rule n c d out r (claim.past-room h) = amend-past rule n c d out h
 amend-refused rule n c d out r (claim.unread h e) = amend-unread rule n c d out h refl e
-amend-refused rule n c d out r (claim.fails h e f) = amend-read rule n c d out h refl e ∙ first-fails rule c d (take n out) out f
+amend-refused rule n c d out r (claim.fails h e f) =
+    amend-read rule n c d out h refl e ∙ first-fails rule c d (take n out) out (volume-read (take n out) e .0) f
 
 -- ---- the room
 

@@ -134,8 +134,7 @@ pub data Fails (rule : ℕ → ℕ → ℕ) (c : Change) (d vol out : List ℕ) 
       → maxVolumeLength < length (amendVolume rule c d vol) → Fails rule c d vol out 1
   no-room : fileAllowed (c .file) vol ≡ true → loneRefusal d ≡ 0
       → changeAllowed (c .place) (length (c .old)) (length (c .new)) (entryIn (c .file) (entriesIn vol)) d ≡ true
-      → 96 ≤ length (amendVolume rule c d vol) → length (amendVolume rule c d vol) ≤ maxVolumeLength
-      → length out < length (amendVolume rule c d vol) → Fails rule c d vol out 14
+      → length (amendVolume rule c d vol) ≤ maxVolumeLength → length out < length (amendVolume rule c d vol) → Fails rule c d vol out 14
 
 pub data Refuses (rule : ℕ → ℕ → ℕ) (n : ℕ) (c : Change) (d out : List ℕ) : Refusal → Type 0 where
   past-room : length out < n → Refuses rule n c d out (bare 14)

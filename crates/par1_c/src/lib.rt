@@ -112,7 +112,8 @@ pub extern "C" fn par1_amend(
     entry: &[u8],
 ) -> u64
     ensures { λ r. ⌜ (r, now (volume .exit))
-        ≡ answeredLength (amendOf coefficient length (changeOf file place (now (old .entry)) (now (new .entry))) (now (entry .entry)) (now (volume .entry))) ⌝ }
+        ≡ answeredLength
+        (amendOf coefficient length (changeOf file place (now (old .entry)) (now (new .entry))) (now (entry .entry)) (now (volume .entry))) ⌝ }
 {
     answer(length_told(amending::amend(volume, length, file, place, old, new, entry)))
 }
