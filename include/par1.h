@@ -4,13 +4,13 @@
  * The library is for x86-64. It wants memcpy and memset of the C library and nothing else; it allocates nothing and keeps nothing between
  * calls, so calls on different bytes may run at the same time.
  *
- * Each call that can refuse answers 0 where it is accepted, else the number of its refusal; a par1_answer tells more beside it. A refused call
- * changes no byte, but that the end of a job ends it (see Jobs). A call reads and writes only the bytes it is lent, each a pointer and a length;
- * bytes of `out` past those written stay as they were. The pointer is not NULL, also where the length is 0: lend the address of any byte. Bytes
+ * Each call that can refuse answers the number 0 where it is accepted, else the number of its refusal; a par1_answer tells more beside it. A
+ * refused call changes no byte, but that the end of a job ends it (see Jobs). A call reads and writes only the bytes it is lent, each a pointer and
+ * a length; bytes past those written stay as they were. The pointer is not NULL, also where the length is 0: lend the address of any byte. Bytes
  * that a call writes must not overlap others that it is lent. Numbers in lent bytes are 64 bits wide, lowest byte first.
  *
- * Stack: par1_query takes 67 KiB; par1_md5, par1_read, par1_write_entry, par1_write_volume, par1_check, par1_open, par1_hash_push, par1_hash_end
- * and the calls on a reading in chunks less than 4 KiB; the others less than 1 KiB (measured, docs/BENCHMARKS.md).
+ * Stack: par1_query takes 67 KiB; par1_md5, par1_read, par1_write_entry, par1_write_volume, par1_amend, par1_check, par1_open, par1_hash_push,
+ * par1_hash_end and the calls on a reading in chunks less than 4 KiB; the others less than 1 KiB (measured, docs/BENCHMARKS.md).
  */
 #ifndef PAR1_H
 #define PAR1_H
@@ -33,22 +33,23 @@ enum {
     PAR1_VOLUME_NUMBER = 7, /* too many files, or the volume number does not go with them */
     PAR1_SET_HASH = 8,      /* the set hash differs */
     PAR1_DATA_SIZE = 9,     /* the data's size is odd in an index, or in a volume not the greatest file size among the saved entries */
-    PAR1_OUT_OF_RANGE = 10, /* a number is out of range, no calls give the inventory, or 0 has no inverse */
+    PAR1_OUT_OF_RANGE = 10, /* a number is out of range, no calls give the inventory, 0 has no inverse, or an index is to be amended */
     PAR1_ALREADY = 11,      /* present already, or not present */
     PAR1_UNDETERMINED = 12, /* what is present does not determine the file */
     PAR1_PRESENT = 13,      /* the file is present */
-    PAR1_NO_ROOM = 14,      /* the bytes lent for the result are too few */
+    PAR1_NO_ROOM = 14,      /* the bytes lent for the result, or for a volume to be amended, are too few */
     PAR1_DIFFERENT = 15,    /* length, MD5 or 16k MD5 differ from the entry */
     PAR1_ENTRY_SIZE = 16,   /* an entry's own size is odd, below 58 or past the end, or fewer than 8 bytes are left for it */
     PAR1_FILE_SIZE = 17,    /* an entry's file size is above its limit; or the contents or the status of an entry to be written */
     PAR1_NAME = 18,         /* a unit of an entry's name is not allowed; or the name of an entry to be written is empty or odd */
     PAR1_ENTRY_COUNT = 19,  /* the number of entries differs */
-    PAR1_JOB = 20           /* the job is over, or no run of pushes gives it */
+    PAR1_JOB = 20,          /* the job is over, or no run of pushes gives it */
+    PAR1_STRETCH = 21       /* the stretch lies neither inside the file nor on its end, or the new entry does not go with it */
 };
 
 /* An answer that has more to say than a number: the number, and a value that goes with it. The value of a refusal 16 to 18 is the place of
- * the entry in its list, from 1; of any other refusal, and of an accepted call, it is 0. So an accepted call still answers 0, and a refusal
- * without a place is its bare number. */
+ * the entry in its list, from 1, and 0 where it stands in none; of any other refusal it is 0, so that a refusal without a place is its bare number.
+ * The value of an accepted par1_amend is the volume's new length; any other accepted call answers 0. */
 typedef uint64_t par1_answer;
 #define PAR1_NUMBER(a) ((uint32_t)((a) % 32))
 #define PAR1_VALUE(a) ((a) / 32)
@@ -85,8 +86,8 @@ enum {
 enum { PAR1_ENTRY_LENGTH = 0, PAR1_ENTRY_STATUS = 8, PAR1_ENTRY_FILE_SIZE = 16 };
 enum { PAR1_COUNT_FILES = 0, PAR1_COUNT_VOLUMES = 8 };
 
-/* Where the list starts in an index file or volume; where an entry has its MD5s and its name, which goes to its end. */
-enum { PAR1_LIST_AT = 96, PAR1_MD5_AT = 24, PAR1_MD5_16K_AT = 40, PAR1_NAME_AT = 56 };
+/* Where the list starts in an index file or volume; where an entry has its file's size, its MD5s and its name, which goes to its end. */
+enum { PAR1_LIST_AT = 96, PAR1_FILE_SIZE_AT = 16, PAR1_MD5_AT = 24, PAR1_MD5_16K_AT = 40, PAR1_NAME_AT = 56 };
 
 /* The MD5 (RFC 1321) of `bytes` into the first 16 bytes of `out`. Refuses with 14 where `out` is shorter. */
 uint32_t par1_md5(const uint8_t *bytes, size_t bytes_len, uint8_t *out, size_t out_len);
@@ -127,6 +128,27 @@ uint32_t par1_write_entry(const uint8_t *contents, size_t contents_len, uint64_t
  * saved entries; 1: the whole is above 33,554,432 bytes; 14: `out` is shorter. Whether the data is the parity of the files is the caller's. */
 par1_answer par1_write_volume(uint32_t program, uint64_t number, const uint8_t *list, size_t list_len, const uint8_t *data, size_t data_len,
                               uint8_t *out, size_t out_len);
+
+/* Amends a volume where it stands, for a file that has changed. `volume` is the room that it lies in, `length` its present length there. The file
+ * with number `file` had the bytes `old` from `place` on and now has the bytes `new_`; `entry` is its entry as it now is. Either both are equally
+ * long and inside the file, or `old` is empty, `place` is the file's size, and `new_` goes on its end. The value is the volume's new length, which
+ * is greater where the file grows past the greatest size among the saved entries, else the same.
+ *
+ * Where the data grows it gets zeros on its end; then it gains the file's coefficient times `old` and times `new_` from `place` on. The entry's
+ * size and hashes, the set hash, the control hash and the data size are put right, and nothing else changes. So after any run of accepted
+ * amendments, given true old bytes and entries, the volume is the one that par1_write_volume writes from the files as they are now. Whether they are
+ * true is the caller's: `old` is not held against the data, nor `entry` against the file. An inventory that was opened before is opened again: it
+ * knows which files are empty.
+ *
+ * Refuses, in this order, with 14: `length` is above volume_len; 1 to 5, 16 to 19, 7 to 9: as par1_read, with the place in the list; 10: an index,
+ * or `file` is not 1 to the number of saved entries; 16, 17 or 18: `entry` breaks a rule, as in par1_check; 21: `old` and `new_` are neither
+ * inside nor on the end, or `entry` has another name or status (all 64 bits) than the volume has for the file, or a size that they do not give; 1:
+ * the new length is above 33,554,432; 14: it is above volume_len.
+ *
+ * The work goes with the lengths of `old`, `new_` and the list and with the growth, but for two hashes: reading the volume and making its new
+ * control hash each go over all of it. No copy of the volume is made. */
+par1_answer par1_amend(uint8_t *volume, size_t volume_len, uint64_t length, uint64_t file, uint64_t place, const uint8_t *old, size_t old_len,
+                       const uint8_t *new_, size_t new_len, const uint8_t *entry, size_t entry_len);
 
 /* Whether `contents` are those of the file that `entry` describes. Refuses with 16, 17 or 18, the first that holds, where the entry
  * breaks a rule (16 also where it does not fill its bytes), then with 15 where length, MD5 or 16k MD5 differ. */
