@@ -1,5 +1,6 @@
 //! The C library's calls. Each room that a call writes has guard bytes on both sides; those of mul_add's buffer are where it is compared.
 
+use crate::amend::Amendment;
 use std::sync::atomic::{AtomicU64, Ordering};
 
 extern "C" {
@@ -10,6 +11,7 @@ extern "C" {
     fn par1_entry(list: *const u8, list_len: usize, out: *mut u8, out_len: usize) -> u32;
     fn par1_write_entry(contents: *const u8, contents_len: usize, status: u64, name: *const u8, name_len: usize, out: *mut u8, out_len: usize) -> u32;
     fn par1_write_volume(program: u32, number: u64, list: *const u8, list_len: usize, data: *const u8, data_len: usize, out: *mut u8, out_len: usize) -> u64;
+    fn par1_amend(volume: *mut u8, volume_len: usize, length: u64, file: u64, place: u64, old: *const u8, old_len: usize, new: *const u8, new_len: usize, entry: *const u8, entry_len: usize) -> u64;
     fn par1_check(entry: *const u8, entry_len: usize, contents: *const u8, contents_len: usize) -> u32;
     fn par1_open(n: u64, sizes: *const u8, sizes_len: usize, out: *mut u8, out_len: usize) -> u32;
     fn par1_add_file(inventory: *mut u8, len: usize, file: u64) -> u32;
@@ -91,6 +93,14 @@ pub fn write_entry(contents: &[u8], status: u64, name: &[u8], room: &[u8]) -> (u
 pub fn write_volume(program: u32, number: u64, list: &[u8], data: &[u8], room: &[u8]) -> (u64, Vec<u8>) {
     let (l, d) = (list, data);
     lent(room, |out, len| unsafe { par1_write_volume(program, number, l.as_ptr(), l.len(), d.as_ptr(), d.len(), out, len) })
+}
+
+pub fn amend(room: &[u8], length: u64, a: &Amendment) -> (u64, Vec<u8>) {
+    let (o, n, e) = (&a.old, &a.new, &a.entry);
+    let amend = |volume, len| unsafe {
+        par1_amend(volume, len, length, a.file, a.place, o.as_ptr(), o.len(), n.as_ptr(), n.len(), e.as_ptr(), e.len())
+    };
+    lent(room, amend)
 }
 
 pub fn open(n: u64, sizes: &[u8], room: &[u8]) -> (u32, Vec<u8>) {

@@ -36,7 +36,7 @@ pub fn put(rest: &mut [u8], at: usize, number: u64) {
 }
 
 /// A refusal with its place, as C gets it.
-pub fn at(number: u32, place: usize) -> u64 {
+pub const fn at(number: u32, place: usize) -> u64 {
     number as u64 + 32 * place as u64
 }
 

@@ -1,5 +1,6 @@
-//! What documents 01 and 02 say of each call: its answer, and the room after it. An answer is a number, or in 64 bits a number and a place.
+//! What documents 01 and 02 say of each call: its answer, and the room after it. An answer is a number, or in 64 bits a number and a value.
 
+use crate::amend::{self, Amendment};
 use crate::inventory::Inventory;
 use crate::jobs::{self, Hash};
 use crate::par1::Refusal;
@@ -52,6 +53,14 @@ pub fn write_entry(contents: &[u8], status: u64, name: &[u8], room: &[u8]) -> (u
 
 pub fn write_volume(program: u32, number: u64, list: &[u8], data: &[u8], room: &[u8]) -> (u64, Vec<u8>) {
     written(par1::write_volume(program, number, list, data).map_err(Refusal::answer), room)
+}
+
+/// The value of an accepted amendment is the volume's new length.
+pub fn amend(room: &[u8], length: u64, a: &Amendment) -> (u64, Vec<u8>) {
+    let amended = amend::amend(room, length, a).map_err(Refusal::answer);
+    let new_length = amended.as_ref().map_or(0, Vec::len) as u64;
+    let (answer, after) = written(amended, room);
+    (if answer == 0 { 32 * new_length } else { answer }, after)
 }
 
 /// The sizes are numbers of 64 bits; bytes left over make their number another one than n.

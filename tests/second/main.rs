@@ -1,10 +1,14 @@
 //! A second program, written from the documents alone: it compares its own answers with those of the C library's calls.
 //!
-//! `md5`, `field`, `par1`, `inventory`, `jobs` work the answers out; `expected` gives each call's number and lent bytes from them; `calls` and
-//! `job_calls` make the library's calls, on lent bytes with guards on both sides; `cuts` has ways of cutting an input; `compare_*` are the
-//! comparisons.
+//! `md5`, `field`, `par1`, `inventory`, `jobs`, `amend` work the answers out; `expected` gives each call's number and lent bytes from them; `calls` and
+//! `job_calls` make the library's calls, on lent bytes with guards on both sides; `cuts` has ways of cutting an input, `files` sets of files and their
+//! volumes; `compare_*` are the comparisons.
 
+mod amend;
 mod calls;
+mod compare_amend;
+mod compare_amend_refusals;
+mod compare_amend_stretch;
 mod compare_data_size;
 mod compare_entries;
 mod compare_faults;
@@ -20,6 +24,7 @@ mod compare_read_job;
 mod cuts;
 mod expected;
 mod field;
+mod files;
 mod inventory;
 mod job_calls;
 mod jobs;
@@ -71,7 +76,7 @@ impl Random {
 fn main() {
     let mut counts = Counts { passed: 0, failed: 0 };
     let mut random = Random(2026);
-    let parts: [(&str, fn(&mut Counts, &mut Random)); 12] = [
+    let parts: [(&str, fn(&mut Counts, &mut Random)); 15] = [
         ("md5", compare_md5::run),
         ("field", compare_field::run),
         ("parity", compare_parity::run),
@@ -84,6 +89,9 @@ fn main() {
         ("mul_add in chunks", compare_mul_add_job::run),
         ("files cut in chunks", compare_read_cuts::run),
         ("reading in chunks", compare_read_job::run),
+        ("amendments", compare_amend::run),
+        ("stretches amended", compare_amend_stretch::run),
+        ("amendments refused", compare_amend_refusals::run),
     ];
     for (name, run) in parts {
         let before = counts.passed + counts.failed;
@@ -91,7 +99,7 @@ fn main() {
         println!("{name}: {} comparisons", counts.passed + counts.failed - before);
     }
     for (number, times) in calls::came_back().into_iter().enumerate() {
-        let given = number <= 20 && number != 6;
+        let given = number <= 21 && number != 6;
         if given {
             println!("number {number} came back {times} times");
         }

@@ -32,7 +32,7 @@ impl From<u32> for Refusal {
 }
 
 /// The refusal `number` unless its test is passed.
-fn test(number: u32, passed: bool) -> Result<(), u32> {
+pub fn test(number: u32, passed: bool) -> Result<(), u32> {
     if passed { Ok(()) } else { Err(number) }
 }
 
@@ -79,7 +79,7 @@ pub fn entry(list: &[u8]) -> Result<(Entry, usize), u32> {
 }
 
 /// "(lone entry) short of its slice"
-fn lone_entry(slice: &[u8]) -> Result<Entry, u32> {
+pub fn lone_entry(slice: &[u8]) -> Result<Entry, u32> {
     test(16, entry_size(slice)? == slice.len())?;
     fields(slice)
 }

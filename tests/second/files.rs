@@ -1,0 +1,48 @@
+//! Files with contents, status and name, and the volumes that are written afresh from them.
+
+use crate::compare_faults::put;
+use crate::{field, par1, Random};
+
+#[derive(Clone)]
+pub struct File {
+    pub contents: Vec<u8>,
+    pub status: u64,
+    pub name: Vec<u8>,
+}
+
+impl File {
+    /// Its entry, with any status: writing an entry takes none above 3.
+    pub fn entry(&self) -> Vec<u8> {
+        let mut entry = par1::write_entry(&self.contents, 0, &self.name).unwrap();
+        put(&mut entry, 8, self.status);
+        entry
+    }
+
+    pub fn is_saved(&self) -> bool {
+        self.status % 2 == 1
+    }
+}
+
+/// Contents of this length, any 64 bits of status but that of saved, a name of one to four units.
+pub fn file(random: &mut Random, length: usize, saved: bool) -> File {
+    let bits = (random.below(1 << 31) as u64) << 33 | (random.below(1 << 31) as u64) << 2;
+    let status = [0, 2, bits, u64::MAX - 1][random.below(4)] | saved as u64;
+    let units = 1 + random.below(4);
+    let name = (0..units).flat_map(|_| [65 + random.below(26) as u8, random.below(3) as u8]).collect();
+    File { contents: random.bytes(length), status, name }
+}
+
+/// Where the saved files stand; file f is the one at place f - 1 of these.
+pub fn saved(files: &[File]) -> Vec<usize> {
+    (0..files.len()).filter(|&i| files[i].is_saved()).collect()
+}
+
+pub fn list(files: &[File]) -> Vec<u8> {
+    files.iter().flat_map(File::entry).collect()
+}
+
+/// Volume v of the files as they are now.
+pub fn afresh(files: &[File], v: u64) -> Vec<u8> {
+    let contents: Vec<Vec<u8>> = saved(files).into_iter().map(|i| files[i].contents.clone()).collect();
+    par1::write_volume(0x0500_0001, v, &list(files), &field::parity(&contents, v)).unwrap()
+}
