@@ -86,7 +86,7 @@ module _ (program v : ℕ) (fs : List File) (p : program < 2 ^ 32) (right : Volu
           ∙ length-bytes after v (dataFor coefficient v gs) program
           ∙ ap₂ (λ (l d : ℕ). 96 + l + d) (amended-list-length c fs) (length-data coefficient v gs)
 
-  pub amend-passes : AmendRight c fs → changeRefusal coefficient c (entryAfter c fs) vol .number ≡ 0
+  amend-passes : AmendRight c fs → changeRefusal coefficient c (entryAfter c fs) vol .number ≡ 0
   amend-passes a =
       let after : All FileBack (amended c fs) = set-back (volume-set (amended-right v c fs right a) coefficient) in
       let m : List ℕ = contentsOf fs (c .file) in
@@ -111,7 +111,7 @@ module _ (program v : ℕ) (fs : List File) (p : program < 2 ^ 32) (right : Volu
       (ap (λ (e : List ℕ). changeAllowed (c .place) (length (c .old)) (length (c .new)) e d) (own-entry (a .low) (a .high)) ∙ change)
       (record { low = omega arith; high = omega (arith, a .length-right) }))
 
-  pub amend-tells : take (length (c .old)) (drop (c .place) (contentsOf fs (c .file))) ≡ c .old
+  amend-tells : take (length (c .old)) (drop (c .place) (contentsOf fs (c .file))) ≡ c .old
       → changeRefusal coefficient c (entryAfter c fs) vol .number ≡ 0 → AmendRight c fs
   amend-tells old-true z =
       let d : List ℕ = entryAfter c fs in

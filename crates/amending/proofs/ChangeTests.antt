@@ -1,13 +1,14 @@
 -- The test 21: a stretch of one of the two kinds, and an entry that the file may then have.
 --
 --   stretch-passes, stretch-tells    the test of the stretch, and what it tells
+--   stretch-kind, no-kind            the same over a file's size: what it tells passed, and not passed
 --   stretch-place                    the place is in the file as it now is, or at its end
 --   ChangeTold, change-told          what test 21, passed, tells
 --   change-passes                    and it passes where that holds
 --   change-length                    the new entry is as long as the old one
 -- Assumes nothing.
-use mathlib.Core.Path.{_≡_, refl, ap}
-use mathlib.Core.Bool.{Bool, true, false, _&&_, _||_, or-true}
+use mathlib.Core.Path.{_≡_, refl, sym, ap, _∙_}
+use mathlib.Core.Bool.{Bool, true, false, _&&_, _||_, or-true, false≢true}
 use mathlib.Core.List.{List, [], _∷_}
 use Prim.Native.Nat.{ℕ, _+_, _-_, _≤_}
 use native.Mathlib.Omega.{arith}
@@ -41,6 +42,19 @@ module _ (m : List ℕ) (c : Change) where
       or-tells (eqb (length (c .old)) (length (c .new)) && leb (c .place + length (c .old)) (length m)) _ e (Stretch m c)
       (λ t. let both = and-both (eqb (length (c .old)) (length (c .new))) _ t in inside (eqb-true _ _ (both .0)) (leb-true _ _ (both .1)))
       (λ t. let both = and-both (eqb (length (c .old)) 0) _ t in on-end (nil-of (c .old) (eqb-true _ _ (both .0))) (eqb-true _ _ (both .1)))
+
+module _ (size place old new : ℕ) where
+  pub stretch-kind : stretchAllowed size place old new ≡ true → (old ≡ new → place + old ≤ size → ⊥) → (old ≡ 0 → place ≡ size → ⊥) → ⊥
+  stretch-kind e no-inside no-end =
+      or-tells (eqb old new && leb (place + old) size) _ e ⊥
+      (λ t. let both = and-both (eqb old new) _ t in no-inside (eqb-true old new (both .0)) (leb-true (place + old) size (both .1)))
+      (λ t. let both = and-both (eqb old 0) _ t in no-end (eqb-true old 0 (both .0)) (eqb-true place size (both .1)))
+
+  pub no-kind : stretchAllowed size place old new ≡ false → (old ≡ new → place + old ≤ size → ⊥) × (old ≡ 0 → place ≡ size → ⊥)
+  no-kind f = (
+    λ e h. let t : stretchAllowed size place old new ≡ true = simp (eq-eqb old new e, le-leb (place + old) size h) in false≢true (sym f ∙ t),
+    λ e h. let t : stretchAllowed size place old new ≡ true = simp (eq-eqb old 0 e, eq-eqb place size h, or-true) in false≢true (sym f ∙ t),
+  )
 
 pub stretch-place : (size place old new : ℕ) → stretchAllowed size place old new ≡ true → place ≤ size + (new - old)
 stretch-place size place old new e =

@@ -107,6 +107,9 @@ module _ (program v : ℕ) (c : Change) (fs : List File) (p : program < 2 ^ 32) 
             ∙ getD-set-other (entriesFor fs) k i (entryFor y) [] q ∙ sym (ap (λ (es : List (List ℕ)). getD es i []) (was .entries-are));
         status-kept = ap (take 16) new-entry ∙ entry-first y ∙ sym (entry-first x) ∙ sym (ap (take 16) old-entry);
         name-kept = ap (drop 56) new-entry ∙ new-name ∙ sym (old-back .name-is) ∙ sym (ap (drop 56) old-entry);
+        size-field =
+            is .size-is ∙ amended-size c fs (a .low) (a .high) (a .change-right .kind)
+            ∙ sym (ap (λ (n : ℕ). max n (length (spliced c (contentsOf fs (c .file))))) (was .size-is));
         data-size =
             ap length (is .data-is) ∙ length-data coefficient v gs ∙ amended-size c fs (a .low) (a .high) (a .change-right .kind)
             ∙ sym (ap (λ (n : ℕ). max n (length (spliced c (contentsOf fs (c .file))))) (ap length (was .data-is) ∙ length-data coefficient v fs));

@@ -4,6 +4,7 @@ mod Amends
 mod ChangeTests
 mod EntryPlaces
 mod Examples
+mod FailedTests
 mod FoundEntries
 mod KeptParts
 mod PatchLaws

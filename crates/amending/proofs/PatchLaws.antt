@@ -89,7 +89,7 @@ module _ (rule : ℕ → ℕ → ℕ) (c : Change) (d vol out : List ℕ) (n : �
       ++ (l ++ dataOf vol)))))) ++ (tail ++ drop total out)) list
       ∙ nested _ _ _ _ _ _ _ _ _ _ _
 
-  pub patched-is : total ≤ length out
+  patched-is : total ≤ length out
       → patched (planFor rule c d vol) n (c .old) (c .new) d out ≡ amendVolume rule c d vol ++ drop total out
   unfolding amendVolume amendedBody
   patched-is fits =

@@ -71,7 +71,7 @@ module _ (vol : List ℕ) {p : Parts} (read : readOf vol ≡ reading.Accepted p)
       pub lone : loneRefusal d ≡ 0
       pub change : changeAllowed place old new (entryIn f (entriesIn vol)) d ≡ true
 
-    pub tests-passed : TestsPassed
+    tests-passed : TestsPassed
     unfolding testsRefusal
     tests-passed =
         let ten = or-none (test 10 (fileAllowed f vol) 0) _ (ap (λ (k : Refusal). k .number) (sym is) ∙ none) in

@@ -3,22 +3,25 @@
 --   change-none      the tests after those of reading pass
 --   amend-is         what the call gives, where its length does not pass the room
 --   amend-read       where the volume is read, too
+--   first-fails, first-of     what a test that fails gives; one fails, or the call is accepted
 --   amend-refused    the first refusal, in the document's order
+--   refused-only     and no other
 --   amendBy          what the call gives, by whether its length passes the room
 --   refused-same, room-kept     what a refused and an accepted call leave of the room
 --   ChangePassed, change-passed     what the tests after those of reading, passed, tell
 -- A test is passed where it does not hold.
 -- Assumes nothing.
-use mathlib.Core.Path.{_≡_, refl, sym, ap, _∙_}
+use mathlib.Core.Path.{_≡_, refl, sym, ap, _∙_, subst}
 use mathlib.Core.Bool.{Bool, true, false, cond}
 use mathlib.Core.List.{List, _++_}
-use Prim.Native.Nat.{ℕ, _≤_, _<_}
+use Prim.Native.Nat.{ℕ, zero, suc, _≤_, _<_}
+use native.Mathlib.Decide.{decLt}
 use native.Mathlib.Omega.{arith}
 use lib.Dec.{leb, eqb}
 use lib.ListN.{length, take, drop, length-append, length-drop}
 use lib.Seq.{drop-append-seam}
 use borrow.Author.Tests.{le-leb, lt-leb}
-use Rattle.lent_bytes.specs.Writing.{refused, accepted, written, writtenUnless}
+use Rattle.lent_bytes.specs.Writing.{refused, accepted, written, writtenUnless, writingRefusal}
 use Rattle.lent_bytes.specs.declared.Writing.{Writing}
 use Rattle.lent_bytes.specs.declared.Writing.the-variants.{Written, Refused}
 use Rattle.lent_bytes.proofs.WritingLaws.{written-short, unless-none, unless-refused, unless-accepted, unless-tells, never}
@@ -30,13 +33,16 @@ use Rattle.par1_read.specs.declared.reading.Reading.the-variants as reading
 use Rattle.par1_read.proofs.ReadingLaws.{refused-some}
 use Rattle.par1_rules.specs.Rules.{lengthAllowed}
 use Rattle.par1_rules.proofs.RuleLaws.{Between, between, long-enough, too-long}
+use Rattle.refusals.specs.Limits.{maxVolumeLength}
 use Rattle.refusals.specs.Tests.{bare, test}
 use Rattle.refusals.specs.declared.Refusal.{Refusal}
 use Rattle.refusals.proofs.TestLaws.{test-passed, or-none}
 use Rattle.amending.specs.Amending.{Change, amendVolume}
 use Rattle.amending.specs.Call.{changeAllowed, entryIn, fileAllowed, changeRefusal, amendRefusal, amendOf}
 use Rattle.amending.specs.Claim as claim
-use Rattle.amending.specs.Claim.{AmendRefused, RoomKept}
+use Rattle.amending.specs.Claim.{AmendRefused, RefusedOnly, RoomKept}
+use Rattle.amending.proofs.FailedTests.{missing-told, missing-not, missing-fails, file-passes}
+use Rattle.amending.proofs.FailedTests.{wrong-told, wrong-not, wrong-fails, right-passes}
 use Rattle.amending.proofs.FoundEntries.{Read, volume-read, found, length-amended}
 
 -- ---- the tests after those of reading
@@ -62,7 +68,7 @@ module _ (rule : ℕ → ℕ → ℕ) (n : ℕ) (c : Change) (d out : List ℕ) 
         simp (le-leb n (length out) h)
         (ap (λ (t : List ℕ). writtenUnless (amendRefusal rule c d t (readOf t)) (amendVolume rule c d t) out) is)
 
-    pub amend-unread : {r : Refusal} → readOf vol ≡ reading.Refused r → amendOf rule n c d out ≡ refused r out
+    amend-unread : {r : Refusal} → readOf vol ≡ reading.Refused r → amendOf rule n c d out ≡ refused r out
     amend-unread {r} e =
         amend-is ∙ sym (unless-refused (amendVolume rule c d vol) out
         (sym (ap (λ (k : Reading). amendRefusal rule c d vol k) e)) (refused-some vol e) refl)
@@ -79,24 +85,87 @@ module _ (rule : ℕ → ℕ → ℕ) (c : Change) (d vol out : List ℕ) (read 
       → writtenUnless (changeRefusal rule c d vol) (amendVolume rule c d vol) out ≡ refused (bare k) out
   number-refused k e some = sym (unless-refused (amendVolume rule c d vol) out (sym e) some refl)
 
+  total-low : fileAllowed (c .file) vol ≡ true → loneRefusal d ≡ 0
+      → changeAllowed (c .place) (length (c .old)) (length (c .new)) (entryIn (c .file) (entriesIn vol)) d ≡ true
+      → 96 ≤ length (amendVolume rule c d vol)
+  total-low f l s =
+      let at = found vol read (c .file) (c .place) (length (c .old)) (length (c .new)) d f l s in
+      let size = length-amended vol read c d at rule in omega arith
+
   first-fails : {k : ℕ} → claim.Fails rule c d vol out k
       → writtenUnless (changeRefusal rule c d vol) (amendVolume rule c d vol) out ≡ refused (bare k) out
   unfolding changeRefusal
-  first-fails (claim.no-file f) = number-refused 10 (simp f) (λ z. omega arith)
-  first-fails (claim.bad-entry {k} f l) = number-refused _ (simp (f, l)) (λ z. omega arith)
-  first-fails (claim.no-stretch f l s) = number-refused 21 (simp (f, l, s)) (λ z. omega arith)
-  first-fails (claim.too-long f l s h) = number-refused 1 (simp (f, l, s, too-long (length (amendVolume rule c d vol)) h)) (λ z. omega arith)
+  first-fails (claim.no-file f) = number-refused 10 (simp (missing-fails (c .file) vol f)) (λ z. omega arith)
+  first-fails (claim.bad-entry {k} f l) = number-refused _ (simp (file-passes (c .file) vol f, l)) (λ z. omega arith)
+  first-fails (claim.bad-change f l s) =
+      number-refused 21 (simp (file-passes (c .file) vol f, l, wrong-fails c (entryIn (c .file) (entriesIn vol)) d s)) (λ z. omega arith)
+  first-fails (claim.too-long f l s h) =
+      let change = right-passes c (entryIn (c .file) (entriesIn vol)) d s in
+      number-refused 1 (simp (file-passes (c .file) vol f, l, change, too-long (length (amendVolume rule c d vol)) h)) (λ z. omega arith)
   first-fails (claim.no-room f l s high h) =
-      let at = found vol read (c .file) (c .place) (length (c .old)) (length (c .new)) d f l s in
-      let size = length-amended vol read c d at rule in
-      let none = change-none rule c d vol f l s (record { low = omega arith; high = high }) in
+      let file = file-passes (c .file) vol f in
+      let change = right-passes c (entryIn (c .file) (entriesIn vol)) d s in
+      let none = change-none rule c d vol file l change (record { low = total-low file l change; high = high }) in
       sym (unless-none (amendVolume rule c d vol) out (sym none) refl (written-short (amendVolume rule c d vol) out h))
+
+  -- one of the tests fails, or the call is accepted
+  first-of : (P : Type 0) → ((k : ℕ) → claim.Fails rule c d vol out k → P)
+      → (writtenUnless (changeRefusal rule c d vol) (amendVolume rule c d vol) out ≡ accepted (amendVolume rule c d vol) out → P) → P
+  first-of P some none =
+      by (fileAllowed (c .file) vol) (loneRefusal d)
+      (changeAllowed (c .place) (length (c .old)) (length (c .new)) (entryIn (c .file) (entriesIn vol)) d) refl refl refl
+    where
+      sized : fileAllowed (c .file) vol ≡ true → loneRefusal d ≡ 0
+          → changeAllowed (c .place) (length (c .old)) (length (c .new)) (entryIn (c .file) (entriesIn vol)) d ≡ true
+          → Dec (maxVolumeLength < length (amendVolume rule c d vol)) → Dec (length out < length (amendVolume rule c d vol)) → P
+      sized f l s (yes h) room =
+          some 1 (claim.too-long (missing-not (c .file) vol f) l (wrong-not c (entryIn (c .file) (entriesIn vol)) d s) h)
+      sized f l s (no h) (yes k) =
+          some 14 (claim.no-room (missing-not (c .file) vol f) l (wrong-not c (entryIn (c .file) (entriesIn vol)) d s) (omega arith) k)
+      sized f l s (no h) (no k) =
+          let passed = change-none rule c d vol f l s (record { low = total-low f l s; high = omega arith }) in
+          let fits : length (amendVolume rule c d vol) ≤ length out = omega arith in
+          none (unless-accepted (changeRefusal rule c d vol) (amendVolume rule c d vol) out (ap (λ (r : Refusal). r .number) passed) fits)
+
+      by : (b : Bool) (k : ℕ) (t : Bool) → fileAllowed (c .file) vol ≡ b → loneRefusal d ≡ k
+          → changeAllowed (c .place) (length (c .old)) (length (c .new)) (entryIn (c .file) (entriesIn vol)) d ≡ t → P
+      by false k t f l s = some 10 (claim.no-file (missing-told (c .file) vol f))
+      by true (suc k) t f l s = some (suc k) (claim.bad-entry (missing-not (c .file) vol f) l)
+      by true zero false f l s =
+          some 21 (claim.bad-change (missing-not (c .file) vol f) l (wrong-told c (entryIn (c .file) (entriesIn vol)) d s))
+      by true zero true f l s =
+          sized f l s (decLt maxVolumeLength (length (amendVolume rule c d vol))) (decLt (length out) (length (amendVolume rule c d vol)))
 
 pub amend-refused : AmendRefused
 amend-refused rule n c d out r (claim.past-room h) = amend-past rule n c d out h
 amend-refused rule n c d out r (claim.unread h e) = amend-unread rule n c d out h refl e
 amend-refused rule n c d out r (claim.fails h e f) =
     amend-read rule n c d out h refl e ∙ first-fails rule c d (take n out) out (volume-read (take n out) e .0) f
+
+refused-is : {q r : Refusal} {out room : List ℕ} → refused q out ≡ (Refused r, room) → q ≡ r
+refused-is e = ap (λ (p : Writing × List ℕ). writingRefusal (p .0)) e
+
+accepted-not : (s out : List ℕ) {room : List ℕ} {r : Refusal} → accepted s out ≡ (Refused r, room) → ⊥
+accepted-not s out {room} {r} e =
+    let answer : Written (length s) ≡ Refused r = ap (λ (p : Writing × List ℕ). p .0) e in
+    let z : _≡_ {A = ℕ} 0 1 = cc in omega arith
+
+module _ (rule : ℕ → ℕ → ℕ) (n : ℕ) (c : Change) (d out : List ℕ) {r : Refusal} {room : List ℕ} (e : amendOf rule n c d out ≡ (Refused r, room)) where
+  refuses-read : n ≤ length out → (k : Reading) → readOf (take n out) ≡ k → claim.Refuses rule n c d out r
+  refuses-read h (reading.Refused q) is =
+      subst (claim.Refuses rule n c d out) (refused-is (sym (amend-unread rule n c d out h refl is) ∙ e)) (claim.unread h is)
+  refuses-read h (reading.Accepted p) is =
+      let vol : List ℕ = take n out in
+      let read = volume-read vol is .0 in
+      let gives : writtenUnless (changeRefusal rule c d vol) (amendVolume rule c d vol) out ≡ (Refused r, room) =
+      sym (amend-read rule n c d out h refl is) ∙ e in
+      first-of rule c d vol out read (claim.Refuses rule n c d out r)
+      (λ k f. subst (claim.Refuses rule n c d out) (refused-is (sym (first-fails rule c d vol out read f) ∙ gives)) (claim.fails h is f))
+      (λ passed. absurd (accepted-not (amendVolume rule c d vol) out (sym passed ∙ gives)))
+
+  refuses-by : Dec (length out < n) → claim.Refuses rule n c d out r
+  refuses-by (yes h) = subst (claim.Refuses rule n c d out) (refused-is (sym (amend-past rule n c d out h) ∙ e)) (claim.past-room h)
+  refuses-by (no h) = refuses-read (omega arith) (readOf (take n out)) refl
 
 -- ---- the room
 
@@ -105,9 +174,7 @@ unfolding writtenUnless written
 unless-same m s out {r} {room} e = by (eqb (m .number) 0) (leb (length s) (length out)) e
   where
     by : (z f : Bool) → cond z (cond f (accepted s out) (refused (bare 14) out)) (refused m out) ≡ (Refused r, room) → room ≡ out
-    by true true e =
-        let answer : Written (length s) ≡ Refused r = ap (λ (p : Writing × List ℕ). p .0) e in
-        absurd (let z : _≡_ {A = ℕ} 0 1 = cc in omega arith)
+    by true true e = absurd (accepted-not s out e)
     by true false e = sym (ap (λ (p : Writing × List ℕ). p .1) e)
     by false f e = sym (ap (λ (p : Writing × List ℕ). p .1) e)
 
@@ -148,6 +215,9 @@ module _ (rule : ℕ → ℕ → ℕ) (n : ℕ) (c : Change) (d out : List ℕ) 
 
 pub room-kept : RoomKept
 room-kept rule n c d out k room e = written-kept rule n c d out e
+
+pub refused-only : RefusedOnly
+refused-only rule n c d out r room e = (refuses-by rule n c d out e (decLt (length out) n), refused-same rule n c d out e)
 
 -- ---- what the tests after those of reading tell
 

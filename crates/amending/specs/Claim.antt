@@ -1,43 +1,47 @@
 -- Request 2026-05: an amended volume is the one written afresh from the files as they are now.
 --
---   AmendRight v c fs      the change c may be made to the files fs and their volume v
+--   AmendRight c fs        the change c may be made to the files fs and their volumes
 --   entryAfter c fs        the changed file's entry as it now is
---   Run v fs vol gs w      amendments, one after another, that take the files fs and the bytes vol to the files gs and the bytes w
+--   Run fs vol gs w        amendments, one after another, that take the files fs and the bytes vol to the files gs and the bytes w
 --   AmendedRight           the files after a change keep the rules
 --   AmendedAfresh          after any run, a volume true at the start equals one written afresh
 --   Kept c k n f g         what an amendment of the volume f to g leaves as it was
---   AmendedKept            every amendment leaves that
+--   AmendedKept            every amendment of a true volume, with a true entry, leaves that
 --   Holds p v fs n out     volume v of the files fs stands in the first n bytes of the room
 --   AmendAccepted          a change that may be made is made
 --   Calls, CallsAfresh     after any run of calls, refused ones too, a volume true at the start equals one written afresh
+--   NoSuchFile f vol       10: the volume vol has no file f, or is an index
+--   WrongChange c e d      21: the change c of the file with the entry e, which is then d
 --   Fails, Refuses         which refusal is the first, in the document's order
 --   AmendRefused           the call gives it, and no byte of the room changes
+--   RefusedOnly            and nothing else is refused: of the new entry no hash is verified
 --   RoomKept               an accepted call leaves the room past the new length
 -- What excludes an empty reading: a volume that is refused is no volume of files that keep the rules, a change that may be made is made
 -- (`AmendAccepted`), and there are changes of both kinds that may be made (proofs/Examples.antt).
 -- The contract of amend cites amendOf.
 -- Assumes nothing.
 use mathlib.Core.Path.{_≡_}
-use mathlib.Core.Bool.{true, false}
+use mathlib.Core.Bool.{true}
 use mathlib.Core.List.{List, []}
-use Prim.Native.Nat.{ℕ, suc, _+_, _^_, _<_, _≤_, max}
+use Prim.Native.Nat.{ℕ, suc, _+_, _-_, _^_, _<_, _≤_, max}
 use lib.ListN.{length, take, drop, getD}
 use Rattle.refusals.specs.Limits.{maxVolumeLength}
 use Rattle.refusals.specs.Tests.{bare}
 use Rattle.refusals.specs.declared.Refusal.{Refusal}
 use Rattle.lent_bytes.specs.Writing.{refused, accepted}
 use Rattle.lent_bytes.specs.declared.Writing.the-variants.{Written, Refused}
-use Rattle.entries.specs.Entry.{fileSizeAllowed}
+use Rattle.entries.specs.Entry.{statusOf, fileSizeOf, nameOf, fileSizeAllowed}
+use Rattle.entries.specs.Numbering.{savedOf}
 use Rattle.par1.specs.Checking.{loneRefusal}
 use Rattle.par1_read.specs.Reading.{entriesIn, readOf}
 use Rattle.par1_read.specs.declared.reading.Parts.{Parts}
 use Rattle.par1_read.specs.declared.reading.Reading.the-variants as reading
-use Rattle.par1_rules.specs.Layout.{version, listOf, dataOf}
+use Rattle.par1_rules.specs.Layout.{version, volumeNumberOf, dataSizeOf, listOf, dataOf}
 use Rattle.par1_set.specs.Files.{File, noFile, fileCount, contentsOf, entryFor, listFor, dataSizeFor}
 use Rattle.par1_set.specs.Volume.{volumeFor, VolumeRight}
 use Rattle.parity.specs.Coefficient.{coefficient}
 use Rattle.amending.specs.Amending.{Change, ChangeRight, spliced, changed, placeOf, amended, amendVolume}
-use Rattle.amending.specs.Call.{changeAllowed, entryIn, fileAllowed, amendOf}
+use Rattle.amending.specs.Call.{entryIn, amendOf}
 
 -- "10", "21 stretch of neither kind", "17", "1"
 pub record AmendRight (c : Change) (fs : List File) : Type 0 where
@@ -78,12 +82,13 @@ pub record Kept (c : Change) (place grown : ℕ) (before after : List ℕ) : Typ
   pub entries-kept : (i : ℕ) → (i ≡ place → ⊥) → getD (entriesIn after) i [] ≡ getD (entriesIn before) i []
   pub status-kept : take 16 (getD (entriesIn after) place []) ≡ take 16 (getD (entriesIn before) place [])
   pub name-kept : drop 56 (getD (entriesIn after) place []) ≡ drop 56 (getD (entriesIn before) place [])
-  -- the data outside the stretch
+  -- the data size, in its field and in bytes; the data outside the stretch
+  pub size-field : dataSizeOf after ≡ max (dataSizeOf before) grown
   pub data-size : length (dataOf after) ≡ max (length (dataOf before)) grown
   pub data-kept : (p : ℕ) → p < length (dataOf before) → (c .place ≤ p → c .place + length (c .new) ≤ p)
       → getD (dataOf after) p 0 ≡ getD (dataOf before) p 0
 
--- proved: proofs/KeptParts.antt, `amended-kept`
+-- of a true volume, with the file's true entry; proved: proofs/KeptParts.antt, `amended-kept`
 abbrev pub AmendedKept : Type 0
 AmendedKept =
     (program v : ℕ) (c : Change) (fs : List File) → program < 2 ^ 32 → VolumeRight v fs → AmendRight c fs
@@ -123,17 +128,28 @@ CallsAfresh =
 -- ---- "Refusals, in this order: 14 if the length passes the room; those of reading; 10, for an index too; 16 to 18 for the new entry; 21 ..;
 -- ---- 1; 14."
 
+-- "10, for an index too"
+pub data NoSuchFile (f : ℕ) (vol : List ℕ) : Type 0 where
+  in-index : volumeNumberOf vol ≡ 0 → NoSuchFile f vol
+  number-none : f ≡ 0 → NoSuchFile f vol
+  number-high : length (savedOf (entriesIn vol)) < f → NoSuchFile f vol
+
+-- "21 stretch of neither kind, or an entry with another name or status, or with a size the stretch does not give"
+pub data WrongChange (c : Change) (e d : List ℕ) : Type 0 where
+  neither-kind : (length (c .old) ≡ length (c .new) → c .place + length (c .old) ≤ fileSizeOf e → ⊥)
+      → (length (c .old) ≡ 0 → c .place ≡ fileSizeOf e → ⊥) → WrongChange c e d
+  another-name : (nameOf d ≡ nameOf e → ⊥) → WrongChange c e d
+  another-status : (statusOf d ≡ statusOf e → ⊥) → WrongChange c e d
+  another-size : (fileSizeOf d ≡ fileSizeOf e + (length (c .new) - length (c .old)) → ⊥) → WrongChange c e d
+
 -- of a volume that is read: each test with those before it passed
 pub data Fails (rule : ℕ → ℕ → ℕ) (c : Change) (d vol out : List ℕ) : ℕ → Type 0 where
-  no-file : fileAllowed (c .file) vol ≡ false → Fails rule c d vol out 10
-  bad-entry : {k : ℕ} → fileAllowed (c .file) vol ≡ true → loneRefusal d ≡ suc k → Fails rule c d vol out (suc k)
-  no-stretch : fileAllowed (c .file) vol ≡ true → loneRefusal d ≡ 0
-      → changeAllowed (c .place) (length (c .old)) (length (c .new)) (entryIn (c .file) (entriesIn vol)) d ≡ false → Fails rule c d vol out 21
-  too-long : fileAllowed (c .file) vol ≡ true → loneRefusal d ≡ 0
-      → changeAllowed (c .place) (length (c .old)) (length (c .new)) (entryIn (c .file) (entriesIn vol)) d ≡ true
+  no-file : NoSuchFile (c .file) vol → Fails rule c d vol out 10
+  bad-entry : {k : ℕ} → (NoSuchFile (c .file) vol → ⊥) → loneRefusal d ≡ suc k → Fails rule c d vol out (suc k)
+  bad-change : (NoSuchFile (c .file) vol → ⊥) → loneRefusal d ≡ 0 → WrongChange c (entryIn (c .file) (entriesIn vol)) d → Fails rule c d vol out 21
+  too-long : (NoSuchFile (c .file) vol → ⊥) → loneRefusal d ≡ 0 → (WrongChange c (entryIn (c .file) (entriesIn vol)) d → ⊥)
       → maxVolumeLength < length (amendVolume rule c d vol) → Fails rule c d vol out 1
-  no-room : fileAllowed (c .file) vol ≡ true → loneRefusal d ≡ 0
-      → changeAllowed (c .place) (length (c .old)) (length (c .new)) (entryIn (c .file) (entriesIn vol)) d ≡ true
+  no-room : (NoSuchFile (c .file) vol → ⊥) → loneRefusal d ≡ 0 → (WrongChange c (entryIn (c .file) (entriesIn vol)) d → ⊥)
       → length (amendVolume rule c d vol) ≤ maxVolumeLength → length out < length (amendVolume rule c d vol) → Fails rule c d vol out 14
 
 pub data Refuses (rule : ℕ → ℕ → ℕ) (n : ℕ) (c : Change) (d out : List ℕ) : Refusal → Type 0 where
@@ -146,6 +162,12 @@ pub data Refuses (rule : ℕ → ℕ → ℕ) (n : ℕ) (c : Change) (d out : Li
 abbrev pub AmendRefused : Type 0
 AmendRefused =
     (rule : ℕ → ℕ → ℕ) (n : ℕ) (c : Change) (d out : List ℕ) (r : Refusal) → Refuses rule n c d out r → amendOf rule n c d out ≡ refused r out
+
+-- proved: proofs/Refusals.antt, `refused-only`
+abbrev pub RefusedOnly : Type 0
+RefusedOnly =
+    (rule : ℕ → ℕ → ℕ) (n : ℕ) (c : Change) (d out : List ℕ) (r : Refusal) (room : List ℕ) → amendOf rule n c d out ≡ (Refused r, room)
+    → Refuses rule n c d out r × (room ≡ out)
 
 -- proved: proofs/Refusals.antt, `room-kept`
 abbrev pub RoomKept : Type 0
