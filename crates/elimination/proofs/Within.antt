@@ -1,9 +1,9 @@
 -- A row added within a width is the row added, where the row and the matrix keep to the width.
 --
---   KeepsTo w u      the row u is 0 from w on
 --   start-apart      the identity
 --   added-within     the row added within w is the row added
 --   added-apart      and the matrix after it keeps to w
+--   in-width         the claim
 -- Assumes nothing.
 use mathlib.Core.Path.{_≡_, refl, sym, ap, ap₂, _∙_, subst}
 use mathlib.Core.Bool.{Bool, cond, _&&_, and-false}
@@ -22,14 +22,12 @@ use Rattle.gf256.specs.Polynomial.{sumBelow}
 use Rattle.gf256.specs.Field.{product, inverse}
 use Rattle.gf256.proofs.Polynomials.{sumBelow-same, sumBelow-none}
 use Rattle.gf256.proofs.Products.{product-zero-l, product-zero-r}
+use Rattle.elimination.specs.Claim.{KeepsTo, AddedWithin}
 use Rattle.elimination.specs.Reduction.{entry, withDiagonal, rowProduct, pivotOf, sweptEntry, swept, columnTaken, rowAdded}
 use Rattle.elimination.specs.Reduction.{rowProductWithin, pivotWithin, sweptWithin, columnTakenWithin, rowAddedWithin, Apart}
 use Rattle.elimination.proofs.Pivots.{IsPivot, pivot-is, pivot-only, pivot-same, pivot-whole}
 use Rattle.elimination.proofs.AddedRow.{row-left, row-taken, left-within, taken-within, swept-same}
 use Rattle.elimination.proofs.Reductions.{identity-at}
-
-abbrev pub KeepsTo : ℕ → List ℕ → Type 0
-KeepsTo w u = (i : ℕ) → w ≤ i → i < 256 → getD u i 0 ≡ 0
 
 pub start-apart : (w : ℕ) → w ≤ 256 → Apart w (withDiagonal 256 (replicate 65536 0))
 start-apart w h =
@@ -179,3 +177,10 @@ module _ (w : ℕ) (hw : w ≤ 256) (u m : List ℕ) (A : Apart w m) (Z : KeepsT
               subst (λ (s : List ℕ × List ℕ). Apart w (s .0)) e (swept-apart l (inverse (rowProduct u m k)))
           | no q ↦ subst (λ (s : List ℕ × List ℕ). Apart w (s .0)) (sym (row-left u number m owners (no-pivot (omega arith)))) A
         ]
+
+pub in-width : AddedWithin
+in-width =
+    record {
+      at-first = start-apart;
+      added = λ w h u m owners apart keeps number. (added-within w h u m apart keeps owners number, added-apart w h u m apart keeps owners number);
+    }

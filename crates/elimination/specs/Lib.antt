@@ -1,3 +1,4 @@
+pub mod Claim
 pub mod Field
 pub mod ByteField
 pub mod Matrix

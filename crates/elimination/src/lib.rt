@@ -2,8 +2,8 @@
 //
 // The state is a square matrix of 256 rows and columns, the identity at first, and an owner for each column: 0, or the
 // number of a row. Rows are numbered 1, 2, .. in the order in which they come; a row of zeros may be left out. Where n
-// columns are wanted, the others are 0 in each row, and a row takes no more time than n columns do. The matrix takes 65,536
-// bytes of the caller's stack.
+// columns are wanted, the others are 0 in each row, and a row takes the time of n columns, rounded up to blocks of 16. The
+// matrix takes 65,536 bytes of the caller's stack.
 ghost use mathlib.Core.Path.{_≡_};
 ghost use Prim.Native.Nat.{ℕ, _+_, _<_, _≤_};
 ghost use lib.ListN.{length, getD};
@@ -25,7 +25,7 @@ pub fn set_diagonal(matrix: &mut [u8; 65536])
     }
 }
 
-// Takes one row more, of this width. It is a sum of multiples of earlier rows where its product with the matrix is 0 in each
+// Takes one row more, of this width in whole blocks. It is a sum of multiples of earlier rows where its product with the matrix is 0 in each
 // column that has no owner; otherwise it becomes the owner of the first such column where it is not.
 pub fn add_row(
     matrix: &mut [u8; 65536],

@@ -30,7 +30,8 @@ use Rattle.mul_add.proofs.MulAdds.{length-mulAdd, mulAdd-at}
 use Rattle.elimination.specs.Reduction.{withDiagonal, rowAdded, inBlocks, rowAddedWithin, Apart, isSolvable, weightOf}
 use Rattle.elimination.proofs.Reductions.{entries, ownerOf, ReducedBytes, ReducedPair, start-reduced, skip-reduced, add-reduced}
 use Rattle.elimination.proofs.Reductions.{weight-value, weight-late, weight-none, solvable-solution, unsolvable-kernel}
-use Rattle.elimination.proofs.Within.{KeepsTo, start-apart, added-within, added-apart}
+use Rattle.elimination.specs.Claim.{KeepsTo}
+use Rattle.elimination.proofs.Within.{start-apart, added-within, added-apart}
 use Rattle.elimination.proofs.Elimination.{rowWeight}
 use Rattle.elimination.specs.ByteField.{Byte, byteField}
 use Rattle.number_sets.specs.Sets.{member}
