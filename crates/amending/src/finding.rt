@@ -12,7 +12,7 @@ pub struct Span {
 }
 
 // Where the entry of file `file` lies in `list`; no bytes at the end of the entries where there is none.
-pub fn entry_of(list: &[u8], file: u64) -> Span
+pub(crate) fn entry_of(list: &[u8], file: u64) -> Span
     ensures { λ r. ⌜ r ≡ spanIn (entriesOf (now (list .entry)) .pieces) (file - 1) ⌝ }
 {
     let mut saved_before = before(file);

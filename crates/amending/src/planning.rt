@@ -37,7 +37,7 @@ pub enum Planned {
 }
 
 // What an amendment of `volume` changes, or the refusal by the first test that holds; the room is not tested.
-pub fn plan_for(
+pub(crate) fn plan_for(
     volume: &[u8],
     file: u64,
     place: u64,

@@ -9,7 +9,14 @@ use par1_rules::hashes;
 use par1_rules::layout;
 
 // Writes what the plan changes of a volume in the first `present` bytes of `volume`, and leaves all else. The control hash is last.
-pub fn patch(volume: &mut [u8], plan: Plan, present: usize, old: &[u8], new: &[u8], entry: &[u8])
+pub(crate) fn patch(
+    volume: &mut [u8],
+    plan: Plan,
+    present: usize,
+    old: &[u8],
+    new: &[u8],
+    entry: &[u8],
+)
     requires { ⌜ (plan .«stretch_at» ≤ plan .total) × (plan .total ≤ length (now volume)) × (32 ≤ plan .total) ⌝ }
     ensures { λ _. ⌜ now (volume .exit) ≡ patched plan present (now (old .entry)) (now (new .entry)) (now (entry .entry)) (now (volume .entry)) ⌝ }
 {
