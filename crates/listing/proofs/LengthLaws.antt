@@ -26,7 +26,7 @@ use Rattle.entries.specs.Entry.{entrySizeAllowed, fileSizeAllowed, bodyAllowed,
 use Rattle.entries.proofs.EntryLaws.{sized}
 use Rattle.entries.proofs.WalkLaws.{saved-most, walk-count, walk-saved}
 use Rattle.text.specs.Ascii.{ascii}
-use Rattle.text.specs.Decimal.{decimal}
+use Rattle.text.specs.Decimal.{decimal, field}
 use Rattle.text.proofs.DecimalLaws.{decimal-length}
 use Rattle.par1_rules.specs.Layout.{volumeNumberOf, countOf, listSizeOf, listOf}
 use Rattle.refusals.specs.Tests.{bare}
@@ -39,7 +39,7 @@ use Rattle.par1_read.specs.declared.reading.Reading.the-variants.{Accepted}
 use Rattle.par1_read.proofs.RangeLaws.{refusal-within}
 use Rattle.par1_read.proofs.ReadingLaws.{refusalOf, partsOf, Passed, read-accepted, read-refused, read-tells}
 use Rattle.listing.specs.Claim.{InputFits}
-use Rattle.listing.specs.Lines.{field, isPlaced, placeField, refusedLine, headLine, label, lineOf, entryLine, entryLines}
+use Rattle.listing.specs.Lines.{isPlaced, placeField, refusedLine, headLine, label, lineOf, entryLine, entryLines}
 use Rattle.listing.specs.Listing.{listingBy, listingOf, inputListing}
 
 -- ---- lines

@@ -22,8 +22,8 @@ use Rattle.entries.specs.Walk.{entriesOf}
 use Rattle.entries.proofs.EntryLaws.{IsEntry}
 use Rattle.entries.proofs.WalkLaws.{entries-more}
 use Rattle.text.specs.Ascii.{ascii}
-use Rattle.text.specs.Decimal.{decimal}
-use Rattle.listing.specs.Lines.{shown, field, label, lineOf, entryLine, entryLines}
+use Rattle.text.specs.Decimal.{decimal, field}
+use Rattle.listing.specs.Lines.{shown, label, lineOf, entryLine, entryLines}
 use Rattle.listing.specs.Claim.{LineNumbered}
 
 pub lines-more : (k : ℕ) {s : List ℕ} {n status size : ℕ} → IsEntry s n status size

@@ -1,7 +1,6 @@
 -- The lines of a listing (document 01, "What comes back"; document 02, 2026-01).
 --
 --   shown u             the character that a name unit u is printed as
---   field s n           the bytes s, then the number n in decimal
 --   isPlaced n          whether a refusal with the number n is listed with its place
 --   placeField r        the place of the refusal r, where it is listed
 --   refusedLine r       the line of a file that is refused with r
@@ -19,14 +18,11 @@ use lib.Dec.{leb}
 use Rattle.entries.specs.Entry.{statusOf, fileSizeOf, nameOf, unitsOf, isSaved, savedCount}
 use Rattle.refusals.specs.declared.Refusal.{Refusal}
 use Rattle.text.specs.Ascii.{ascii}
-use Rattle.text.specs.Decimal.{decimal}
+use Rattle.text.specs.Decimal.{decimal, field}
 
 -- "Name units 32 to 126 are printed, others as "?""
 unfoldable pub shown : ℕ → ℕ
 shown u = cond (leb 32 u && leb u 126) u (code "?")
-
-abbrev pub field : List ℕ → ℕ → List ℕ
-field s n = s ++ decimal n
 
 -- 16 to 19: "For these the listing writes `refused N P`"
 unfoldable pub isPlaced : ℕ → Bool

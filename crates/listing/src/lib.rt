@@ -2,14 +2,12 @@
 ghost use mathlib.Core.Path.{_≡_};
 ghost use Rattle.lent_bytes.specs.Writing.{written};
 ghost use Rattle.text.specs.Buffer.{buffer, put as putOf};
-ghost use Rattle.par1_read.specs.Reading.{readingRefusal};
 ghost use Rattle.listing.specs.Listing.{listingBy, listingOf, inputListing, ListIn};
 
 mod lines;
 
 use lent_bytes::Writing;
 use par1::Reading;
-use par1::Refusal;
 use par1_rules::layout::HEADER_LENGTH;
 use refusals::bare;
 
@@ -49,19 +47,9 @@ fn put_listing<'a, 'b>(out: &'a mut [u8], file: &'b [u8], reading: Reading) -> u
     ensures { λ r. ⌜ buffer (now (out .exit)) r ≡ putOf (buffer (now (out .entry)) 0) (listingBy reading (now (file .entry))) ⌝ }
 {
     let Reading::Accepted(parts) = reading else {
-        return lines::put_refused(out, 0, refusal(reading));
+        return lines::put_refused(out, 0, par1_read::refusal_of(reading));
     };
     let at = lines::put_head(out, 0, parts.number, parts.entries, parts.saved);
     let end = HEADER_LENGTH + parts.list_size as usize;
     lines::put_entries(out, at, &file[HEADER_LENGTH..end])
-}
-
-// The refusal that a reading is, with the number 0 where it is accepted.
-fn refusal(reading: Reading) -> Refusal
-    ensures { λ r. ⌜ r ≡ readingRefusal reading ⌝ }
-{
-    match reading {
-        Reading::Accepted(_) => bare(0),
-        Reading::Refused(refusal) => refusal,
-    }
 }

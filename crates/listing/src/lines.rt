@@ -4,7 +4,7 @@ ghost use mathlib.Core.List.{map};
 ghost use Rattle.entries.specs.Entry.{unitsOf};
 ghost use Rattle.entries.specs.Walk.{entriesOf};
 ghost use Rattle.text.specs.Buffer.{buffer, put as putOf};
-ghost use Rattle.listing.specs.Lines.{shown as shownOf, field, isPlaced, placeField, refusedLine, headLine, label, lineOf, entryLines};
+ghost use Rattle.listing.specs.Lines.{shown as shownOf, isPlaced, placeField, refusedLine, headLine, label, lineOf, entryLines};
 use entries::Item;
 use refusals::Refusal;
 
@@ -12,7 +12,7 @@ use refusals::Refusal;
 pub fn put_refused(out: &mut [u8], at: usize, refusal: Refusal) -> usize
     ensures { λ r. ⌜ buffer (now (out .exit)) r ≡ putOf (buffer (now (out .entry)) at) (refusedLine refusal) ⌝ }
 {
-    let at = put_field(out, at, b"refused ", refusal.number as u64);
+    let at = text::put_field(out, at, b"refused ", refusal.number as u64);
     let at = put_place(out, at, refusal);
     text::put(out, at, b'\n')
 }
@@ -21,9 +21,9 @@ pub fn put_refused(out: &mut [u8], at: usize, refusal: Refusal) -> usize
 pub fn put_head(out: &mut [u8], at: usize, volume: u64, files: u64, saved: u64) -> usize
     ensures { λ r. ⌜ buffer (now (out .exit)) r ≡ putOf (buffer (now (out .entry)) at) (headLine volume files saved) ⌝ }
 {
-    let at = put_field(out, at, b"volume ", volume);
-    let at = put_field(out, at, b" files ", files);
-    let at = put_field(out, at, b" saved ", saved);
+    let at = text::put_field(out, at, b"volume ", volume);
+    let at = text::put_field(out, at, b" files ", files);
+    let at = text::put_field(out, at, b" saved ", saved);
     text::put(out, at, b'\n')
 }
 
@@ -62,7 +62,7 @@ fn put_line<'a, 'b>(
     ensures { λ r. ⌜ buffer (now (out .exit)) r ≡ putOf (buffer (now (out .entry)) at) (lineOf status number size (now (name .entry))) ⌝ }
 {
     let at = put_label(out, at, status, number);
-    let at = put_field(out, at, b" ", size);
+    let at = text::put_field(out, at, b" ", size);
     let at = text::put(out, at, b' ');
     let at = put_name(out, at, name);
     text::put(out, at, b'\n')
@@ -73,7 +73,7 @@ fn put_place(out: &mut [u8], at: usize, refusal: Refusal) -> usize
     ensures { λ r. ⌜ buffer (now (out .exit)) r ≡ putOf (buffer (now (out .entry)) at) (placeField refusal) ⌝ }
 {
     if is_placed(refusal.number) {
-        return put_field(out, at, b" ", refusal.place);
+        return text::put_field(out, at, b" ", refusal.place);
     }
     at
 }
@@ -86,14 +86,6 @@ fn is_placed(number: u32) -> bool
         return false;
     }
     number <= refusals::ENTRY_COUNT
-}
-
-// The bytes `before`, then a number.
-fn put_field<'a, 'b>(out: &'a mut [u8], at: usize, before: &'b [u8], number: u64) -> usize
-    ensures { λ r. ⌜ buffer (now (out .exit)) r ≡ putOf (buffer (now (out .entry)) at) (field (now (before .entry)) number) ⌝ }
-{
-    let at = text::put_bytes(out, at, before);
-    text::put_decimal(out, at, number)
 }
 
 // The file number of a saved entry, "-" for another.

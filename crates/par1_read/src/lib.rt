@@ -5,3 +5,4 @@ pub use reading::Parts;
 pub use reading::Reading;
 pub use reading::read;
 pub use reading::read_from;
+pub use reading::refusal_of;

@@ -1,7 +1,7 @@
 // Reading of index files and volumes (document 01, "What comes back", tests 1 to 9; document 02, 2026-01, has 16 to 19 for 6).
 ghost use mathlib.Core.Path.{_≡_};
 ghost use Rattle.par1_read.specs.Reading.{headerRefusal, controlRefusal, totalsRefusal, listRefusal, refusalFrom};
-ghost use Rattle.par1_read.specs.Reading.{savedIn, partsFrom, readFrom, readOf};
+ghost use Rattle.par1_read.specs.Reading.{savedIn, partsFrom, readFrom, readOf, readingRefusal};
 use entries::Totals;
 use entries::Walked;
 use par1_rules::hashes;
@@ -55,6 +55,16 @@ pub fn read_from(head: &[u8], length: usize, digest: &[u8], set: &[u8], walked: 
         return Reading::Refused(refusal);
     }
     Reading::Accepted(parts_from(head, saved_in(walked)))
+}
+
+// The refusal that a reading is, with the number 0 where it is accepted.
+pub fn refusal_of(reading: Reading) -> Refusal
+    ensures { λ r. ⌜ r ≡ readingRefusal reading ⌝ }
+{
+    match reading {
+        Reading::Accepted(_) => bare(0),
+        Reading::Refused(refusal) => refusal,
+    }
 }
 
 // The refusal by the first test that holds, with the number 0 where none does.

@@ -3,6 +3,7 @@
 --   digit d        the character of the digit d
 --   digitsBy b n front, decimalIn k n     the digits of n, where b says whether it is one digit; at most k of them
 --   decimal n      the digits of n, the greatest place first, with no leading zero; 0 is "0"
+--   field s n      the bytes s, then the digits of n
 --   withDigit v c  the number v with one digit more
 --   valueOf w      the number that the digits w spell
 --   isDigit c, allDigits w     whether a character is a decimal digit, whether all of them are
@@ -31,6 +32,10 @@ decimalIn (suc k) n = digitsBy (ltb n 10) n (λ m. decimalIn k m)
 -- n has no more than n + 1 digits
 unfoldable pub decimal : ℕ → List ℕ
 decimal n = decimalIn (suc n) n
+
+-- the bytes s, then the number n
+abbrev pub field : List ℕ → ℕ → List ℕ
+field s n = s ++ decimal n
 
 -- ---- what digits spell
 

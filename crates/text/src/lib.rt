@@ -4,7 +4,7 @@ ghost use mathlib.Core.Path.{_≡_};
 ghost use mathlib.Core.List.{[], _∷_};
 ghost use Prim.Native.Nat.{_+_, _<_, min};
 ghost use Rattle.text.specs.Buffer.{buffer, usizeMax, put as putOf};
-ghost use Rattle.text.specs.Decimal.{decimal};
+ghost use Rattle.text.specs.Decimal.{decimal, field};
 ghost use Rattle.text.specs.Hex.{hexDigit, hexByte};
 
 // One byte at position `at`. Like every put, it answers the position after what it put.
@@ -40,6 +40,14 @@ pub fn put_decimal(out: &mut [u8], at: usize, n: u64) -> usize
     }
     let last = put_decimal(out, at, n / 10);
     put(out, last, 48 + (n % 10) as u8)
+}
+
+// The bytes `before`, then a number.
+pub fn put_field<'a, 'b>(out: &'a mut [u8], at: usize, before: &'b [u8], number: u64) -> usize
+    ensures { λ r. ⌜ buffer (now (out .exit)) r ≡ putOf (buffer (now (out .entry)) at) (field (now (before .entry)) number) ⌝ }
+{
+    let at = put_bytes(out, at, before);
+    put_decimal(out, at, number)
 }
 
 // The two hexadecimal digits of `byte`, in lower case.

@@ -30,7 +30,7 @@ returns c =
     let a = c .before .before .before .before .before .before .before .before .before .args in
     let here = buffer (now (a .out)) 0 in
     c .before .before .put-refused .ensures
-    ∙ ap (λ (r : Refusal). put here (refusedLine r)) (c .before .before .before .refusal .ensures ∙ ap readingRefusal told)
+    ∙ ap (λ (r : Refusal). put here (refusedLine r)) (c .before .before .before .refusal-of .ensures ∙ ap readingRefusal told)
     ∙ ap (λ (r : Reading). put here (listingBy r (now (a .file)))) (sym told)
 
 add-end : tie.Need-add-end

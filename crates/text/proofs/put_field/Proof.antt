@@ -1,10 +1,10 @@
--- `listing::lines::put_field` meets its contract.
+-- `text::put_field` meets its contract.
 -- Assumes nothing.
 use native.Mathlib.Omega.{arith}
 use Rattle.text.proofs.BufferLaws.{put-then}
 use borrow.Author.Needs.{needs}
-use Rattle.listing.proofs.lines.put_field.Statement.{statement}
-use Rattle.listing.proofs.lines.put_field.Tie as tie
+use Rattle.text.proofs.put_field.Statement.{statement}
+use Rattle.text.proofs.put_field.Tie as tie
 
 returns : tie.Need-returns
 returns c =
