@@ -1,8 +1,9 @@
--- The limits of document 01, "Sizes".
+-- The limits of document 01, "Sizes", and of document 02, 2026-08.
 --
 --   maxFileSize        the greatest size of a listed file
 --   maxVolumeLength    the greatest length of a volume or index file
 --   maxFiles           the greatest number of saved files
+--   maxEntries         the greatest number of entries in a catalog
 --   maxListedLength    the greatest length of what the listing program takes
 -- Assumes nothing.
 use Prim.Native.Nat.{ℕ}
@@ -18,6 +19,10 @@ maxVolumeLength = 33554432
 -- "Saved files n: at most 254"
 abbrev pub maxFiles : ℕ
 maxFiles = 254
+
+-- "At most 1,024 entries."
+abbrev pub maxEntries : ℕ
+maxEntries = 1024
 
 -- "The listing program takes at most 65,536 bytes"
 abbrev pub maxListedLength : ℕ

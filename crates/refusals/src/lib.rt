@@ -1,5 +1,5 @@
-// Refusals: the limits (document 01, "Sizes"), the numbers of the table of refusals (document 01, "What comes back"; document 02, 2026-01 and 2026-05),
-// a refusal with its place, and tests one after another.
+// Refusals: the limits (document 01, "Sizes"; document 02, 2026-08), the numbers of the table of refusals (document 01, "What comes back", and
+// document 02 from 16 on), a refusal with its place, and tests one after another.
 ghost use mathlib.Core.Path.{_≡_};
 ghost use Rattle.refusals.specs.Tests.{bare, test, orElse};
 
@@ -11,6 +11,9 @@ pub const MAX_VOLUME_LENGTH: usize = 33554432;
 
 // The greatest number of saved files.
 pub const MAX_FILES: u64 = 254;
+
+// The greatest number of entries in a catalog.
+pub const MAX_ENTRIES: u64 = 1024;
 
 // The greatest length of what the listing program takes, in bytes.
 pub const MAX_LISTED_LENGTH: usize = 65536;
@@ -75,7 +78,35 @@ pub const ENDED: u32 = 20;
 // The stretch of an amendment is of neither kind, or the new entry has another name or status, or a size that the stretch does not give.
 pub const STRETCH: u32 = 21;
 
-// A refusal: its number, and the place in its list, from 1, of the entry that it is about; 0 where there is none. The number 0 is no refusal.
+// A line of md5sum text is of another shape, or unended.
+pub const LINE: u32 = 22;
+
+// A line of md5sum text has a listed name again, with another sum.
+pub const SUM: u32 = 23;
+
+// A name does not fit a line of md5sum text.
+pub const UNFIT: u32 = 24;
+
+// The list of a volume gives other entry rows than the catalog has.
+pub const ROWS: u32 = 25;
+
+// More entries than a catalog takes.
+pub const ENTRIES: u32 = 26;
+
+// The volume that is added is in quarantine.
+pub const QUARANTINED: u32 = 27;
+
+// A line of a log of arrivals is of another shape, or unended.
+pub const EVENT: u32 = 28;
+
+// The volume that is added is of the other code.
+pub const CODE: u32 = 29;
+
+// No list and volumes give the bytes of a catalog, hashes apart; or they end early.
+pub const CATALOG: u32 = 30;
+
+// A refusal: its number, and the place, from 1, of the entry in its list or of the line in its text that it is about; 0 where there is none. The
+// number 0 is no refusal.
 pub struct Refusal {
     pub number: u32,
     pub place: u64,
