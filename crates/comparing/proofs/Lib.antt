@@ -1,0 +1,6 @@
+mod CallLaws
+mod FieldLaws
+mod ListLaws
+mod RunLaws
+mod ScanLaws
+mod TextLaws

@@ -1,0 +1,103 @@
+-- `comparing::lists::put_all` meets its contract.
+-- Assumes nothing.
+use mathlib.Core.Path.{_≡_, refl, sym, ap, ap₂, _∙_, subst}
+use mathlib.Core.Logic.{⊎-elim}
+use Prim.Native.Nat.{ℕ, _≤_, _<_, _-_, _+_, _*_}
+use native.Mathlib.Omega.{arith}
+use lib.ListN.{length, getD, set, length-set}
+use denote.Ref.{now}
+use Rattle.text.specs.Buffer.{buffer, usizeMax, put}
+use Rattle.text.proofs.BufferLaws.{put-nil, put-rest}
+use lib.ListN.{drop}
+use Rattle.entries.specs.Walk.{entriesOf}
+use Rattle.comparing.specs.Lines.{textOf}
+use Rattle.comparing.specs.Differences.{allLines}
+use Rattle.comparing.proofs.ListLaws.{EntryHere, entry-here, entry-none, none-lacking, more-lacking}
+use borrow.Author.Needs.{needs}
+use Rattle.comparing.proofs.lists.put_all.Statement.{statement}
+use Rattle.comparing.proofs.lists.put_all.Tie as tie
+use Rattle.comparing.proofs.lists.put_all.Reads as reads
+use Rattle.comparing.proofs.lists.put_all.Lts as lts
+use Rattle.comparing.proofs.lines.put_entry.Reads as put-entry-reads
+use Rattle.comparing.proofs.lists.length_at.Reads as length-at-reads
+
+abbrev Inv-loop : tie.InvT-loop
+Inv-loop out₀ to first list start at₀ place₀ from₀ t10 out at place from =
+    (length out ≡ length out₀) × (at ≤ usizeMax) × (place ≤ from + 1)
+    × (put (buffer out at) (textOf (allLines place (entriesOf (drop from list) .pieces))) ≡ put (buffer out₀ to) (textOf (allLines first (entriesOf (drop start list) .pieces))))
+
+abbrev μ-loop : tie.MeasureT-loop
+μ-loop out₀ to first list start at₀ place₀ from₀ t10 out at place from = length list - from
+
+-- the entry at hand
+here : (c : tie.Else1 Inv-loop μ-loop) → EntryHere (now (c .before .before .before .before .before .args .list)) (c .before .before .loop .from) (c .before .length-at .result)
+here c = entry-here _ _ (c .before .length-at .ensures) (c .if1 .left)
+
+-- src/lists.rt:50:5
+loop-holds : tie.Need-loop-holds Inv-loop μ-loop
+loop-holds c = (refl, omega arith, c .before .before .pre, refl)
+
+-- src/lists.rt:51:13
+length-at-requires : tie.Need-length-at-requires Inv-loop μ-loop
+length-at-requires c κs = search needs
+
+-- src/lists.rt:53:13
+same-length : tie.Need-same-length Inv-loop μ-loop
+same-length c = omega arith
+
+-- src/lists.rt:53:13
+returns : tie.Need-returns Inv-loop μ-loop
+returns c = let l = c .before .before .loop in
+    let list = now (c .before .before .before .before .before .args .list) in
+    let none = none-lacking (l .place) (entry-none list (l .from) (c .before .length-at .ensures) (c .if1 .taken)) in
+    sym (put-nil (l .out) (l .at) (l .inv .1)) ∙ ap (put (buffer (l .out) (l .at))) (sym none) ∙ l .inv .3
+
+-- src/lists.rt:55:47
+slice-aggregate-put-entry : tie.Need-slice-aggregate-put-entry Inv-loop μ-loop
+slice-aggregate-put-entry c = omega arith
+
+-- src/lists.rt:55:9
+put-entry-requires : tie.Need-put-entry-requires Inv-loop μ-loop
+put-entry-requires c κs = search needs
+
+-- src/lists.rt:56:9
+add-place : tie.Need-add-place Inv-loop μ-loop
+add-place c = let i = here (c .before .before .before .before .before) in omega (arith, i .low, i .fits)
+
+-- src/lists.rt:57:9
+add-from : tie.Need-add-from Inv-loop μ-loop
+add-from c = let i = here (c .before .before .before .before .before) in omega (arith, i .low, i .fits)
+
+-- src/lists.rt:50:5
+loop-less : tie.Need-loop-less Inv-loop μ-loop
+loop-less c = let i = here (c .before .before .before .before .before) in omega (arith, i .low, i .fits)
+
+-- src/lists.rt:50:5
+loop-again : tie.Need-loop-again Inv-loop μ-loop
+loop-again c = let l = c .before .before .before .before .before .before .before .loop in
+    let i = here (c .before .before .before .before .before) in
+    let put-one = c .before .before .put-entry in (
+      put-one .kept .0 ∙ l .inv .0,
+      omega arith,
+      omega (arith, i .low),
+      put-rest (buffer (l .out) (l .at)) _ _ (omega arith) (put-one .ensures)
+          ∙ ap (put (buffer (l .out) (l .at))) (sym (more-lacking (l .place) (i .pieces-are)))
+          ∙ l .inv .3,
+    )
+
+pub put-all-spec : {M : Type 1} → statement M
+put-all-spec =
+    tie.close
+    (tie.spec
+    Inv-loop
+    μ-loop
+    loop-holds
+    length-at-requires
+    same-length
+    returns
+    slice-aggregate-put-entry
+    put-entry-requires
+    add-place
+    add-from
+    loop-less
+    loop-again)

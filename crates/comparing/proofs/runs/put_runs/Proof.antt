@@ -1,0 +1,128 @@
+-- `comparing::runs::put_runs` meets its contract.
+-- Assumes nothing.
+use mathlib.Core.Path.{_≡_, refl, sym, ap, ap₂, _∙_, subst}
+use mathlib.Core.Logic.{⊎-elim}
+use Prim.Native.Nat.{ℕ, _≤_, _<_, _-_, _+_, _*_}
+use native.Mathlib.Omega.{arith}
+use lib.ListN.{length, getD, set, length-set}
+use denote.Ref.{now}
+use Rattle.text.specs.Buffer.{buffer, usizeMax, put}
+use Rattle.text.proofs.BufferLaws.{put-nil, put-rest}
+use mathlib.Core.List.{List, _∷_, map, flatten}
+use Prim.Native.Nat.{max}
+use Rattle.comparing.specs.Lines.{textOf}
+use Rattle.comparing.specs.Runs.{Run, runOf, runLine, runLines, runsOf, runsFrom, differs}
+use Rattle.comparing.proofs.RunLaws.{runs-next, runs-none}
+use borrow.Author.Needs.{needs}
+use Rattle.comparing.proofs.runs.put_runs.Statement.{statement}
+use Rattle.comparing.proofs.runs.put_runs.Tie as tie
+use Rattle.comparing.proofs.runs.put_runs.Reads as reads
+use Rattle.comparing.proofs.runs.put_runs.Lts as lts
+use Rattle.comparing.proofs.lines.put_run.Reads as put-run-reads
+use Rattle.comparing.proofs.scan.agreement_from.Reads as agreement-from-reads
+use Rattle.comparing.proofs.scan.difference_from.Reads as difference-from-reads
+use Rattle.comparing.proofs.scan.greater.Reads as greater-reads
+
+abbrev Inv-loop : tie.InvT-loop
+Inv-loop out₀ start a b n at₀ from₀ out at from =
+    (n ≡ max (length a) (length b)) × (length out ≡ length out₀) × (at ≤ usizeMax)
+    × (put (buffer out at) (textOf (map (λ r. runLine r) (runsFrom (differs a b) (n - from) from))) ≡ put (buffer out₀ start) (textOf (runLines a b)))
+
+abbrev μ-loop : tie.MeasureT-loop
+μ-loop out₀ start a b n at₀ from₀ out at from = n - from
+
+-- the run at hand
+next : (c : tie.After-agreement-from Inv-loop μ-loop)
+    → let s = c .before .before .before .before .before .before .before .before in
+    let d = differs (now (s .args .a)) (now (s .args .b)) in
+    let n = c .before .before .before .before .greater .result in
+    (c .before .before .difference-from .result < c .agreement-from .result)
+    × (runsFrom d (n - c .before .before .before .loop .from) (c .before .before .before .loop .from)
+    ≡ runOf (c .before .before .difference-from .result) (c .agreement-from .result - 1) ∷ runsFrom d (n - c .agreement-from .result) (c .agreement-from .result))
+next c =
+    let most = c .before .before .before .loop .inv .0 in
+    runs-next _ _ _ (rw (sym most) at (c .before .before .difference-from .ensures)) (c .before .if1 .left) (omega (arith, c .agreement-from .ensures .0))
+    (rw (sym most) at (c .agreement-from .ensures .1))
+
+-- src/runs.rt:14:9
+greater-requires : tie.Need-greater-requires Inv-loop μ-loop
+greater-requires c κs = search needs
+
+-- src/runs.rt:17:5
+loop-holds : tie.Need-loop-holds Inv-loop μ-loop
+unfolding runLines runsOf
+loop-holds c = let s = c .before .before .before .before in
+    let a = now (s .args .a) in
+    let b = now (s .args .b) in
+    let all : c .greater .result - 0 ≡ max (length a) (length b) = omega (arith, c .greater .ensures) in (
+      c .greater .ensures,
+      refl,
+      omega arith,
+      ap (λ (k : ℕ). put (buffer (now (s .args .out)) (s .args .start)) (textOf (map (λ r. runLine r) (runsFrom (differs a b) k 0)))) all,
+    )
+
+-- src/runs.rt:18:13
+difference-from-requires : tie.Need-difference-from-requires Inv-loop μ-loop
+difference-from-requires c κs = search needs
+
+-- src/runs.rt:20:13
+same-length : tie.Need-same-length Inv-loop μ-loop
+same-length c = omega arith
+
+-- src/runs.rt:20:13
+returns : tie.Need-returns Inv-loop μ-loop
+unfolding flatten
+returns c = let l = c .before .before .loop in
+    let s = c .before .before .before .before .before .before .before in
+    let d = differs (now (s .args .a)) (now (s .args .b)) in
+    let n = c .before .before .before .greater .result in
+    let none = runs-none d n (l .from) (rw (sym (l .inv .0)) at (c .before .difference-from .ensures)) (c .if1 .taken) in
+    sym (put-nil (l .out) (l .at) (l .inv .2))
+    ∙ ap (λ (rs : List Run). put (buffer (l .out) (l .at)) (textOf (map (λ r. runLine r) rs))) (sym none)
+    ∙ l .inv .3
+
+-- src/runs.rt:22:13
+agreement-from-requires : tie.Need-agreement-from-requires Inv-loop μ-loop
+agreement-from-requires c κs = search needs
+
+-- src/runs.rt:23:53
+sub-put-run : tie.Need-sub-put-run Inv-loop μ-loop
+sub-put-run c = omega (arith, next (c .before) .0)
+
+-- src/runs.rt:23:9
+put-run-requires : tie.Need-put-run-requires Inv-loop μ-loop
+put-run-requires c κs = search needs
+
+-- src/runs.rt:17:5
+loop-less : tie.Need-loop-less Inv-loop μ-loop
+loop-less c = omega (arith, next (c .before .before .before .before) .0, c .before .before .before .before .before .before .difference-from .ensures .low, c .before .before .before .before .agreement-from .ensures .0)
+
+-- src/runs.rt:17:5
+loop-again : tie.Need-loop-again Inv-loop μ-loop
+unfolding flatten
+loop-again c = let l = c .before .before .before .before .before .before .before .loop in
+    let line = c .before .before .put-run in (
+      l .inv .0,
+      line .kept .0 ∙ l .inv .1,
+      omega arith,
+      put-rest (buffer (l .out) (l .at)) _ _ (omega arith) (line .ensures)
+          ∙ ap (λ (rs : List Run). put (buffer (l .out) (l .at)) (textOf (map (λ r. runLine r) rs))) (sym (next (c .before .before .before .before) .1))
+          ∙ l .inv .3,
+    )
+
+pub put-runs-spec : {M : Type 1} → statement M
+put-runs-spec =
+    tie.close
+    (tie.spec
+    Inv-loop
+    μ-loop
+    greater-requires
+    loop-holds
+    difference-from-requires
+    same-length
+    returns
+    agreement-from-requires
+    sub-put-run
+    put-run-requires
+    loop-less
+    loop-again)
