@@ -1,14 +1,30 @@
 -- The fields that differ.
 --
 --   differing-text    the text of their lines: row by row of the table, nothing where the bytes are equal
+--   IsTable           the bytes of each field, as a table has them
+--   differing-iff     they are exactly the fields whose bytes differ
+--   differing-most    there are no more of them than rows
+--   differing-pairwise     they keep the order of the table
+--   headBytes h, entryBytes e     the bytes of a field of the header, and of an entry
+--   head-table, entry-table       the tables have them
 -- Assumes nothing.
-use mathlib.Core.Path.{_≡_, refl, ap, _∙_}
-use mathlib.Core.Bool.{Bool, true, false, cond}
+use mathlib.Core.Path.{_≡_, refl, sym, ap, _∙_}
+use mathlib.Core.Bool.{Bool, true, false, cond, false≢true}
 use mathlib.Core.List.{List, [], _∷_, _++_, map, flatten}
-use Prim.Native.Nat.{ℕ}
+use mathlib.Core.List.{List·Memᴰ, List·Memᴰ·head, List·Memᴰ·tail, List·Memᴰ·not-nil, List·Memᴰ·cases-cons}
+use mathlib.Core.Logic.{_⊎_, _↔_, inl, inr, ⊎-elim}
+use Prim.Native.Nat.{ℕ, suc, _≤_}
+use native.Mathlib.Omega.{arith}
+use lib.ListN.{length}
+use Rattle.cut_lists.specs.All.{All, all-none, all-more}
 use Rattle.lent_bytes.specs.Equal.{equal}
+use Rattle.lent_bytes.proofs.EqualLaws.{equal-true, equal-same}
+use Rattle.comparing.specs.Claim.{Pairwise, pairwise-none, pairwise-more}
+use Rattle.comparing.specs.Lines.{HeadField, version-field, program-field, control-field, set-field, number-field}
+use Rattle.comparing.specs.Lines.{files-field, list-field, start-field, data-field}
+use Rattle.comparing.specs.Lines.{EntryField, length-field, status-field, size-field, md5-field, md5-16k-field, name-field}
 use Rattle.comparing.specs.Lines.{Line, lineText, textOf}
-use Rattle.comparing.specs.Differences.{Row, differing}
+use Rattle.comparing.specs.Differences.{Row, row, bytesAt, bytesFrom, headTable, entryTable, differing}
 
 module _ {A : Type 0} (line : A → Line) (f g : List ℕ) where
   -- the text of the line on a row's field
@@ -26,3 +42,135 @@ module _ {A : Type 0} (line : A → Line) (f g : List ℕ) where
           ≡ cond b [] (lineText (line (r .field))) ++ textOf (map line (differing t f g))
       by true = refl
       by false = refl
+
+-- ---- which fields they are
+
+-- t is a table in which the bytes of each field a are `bytesOf a`, and which has each field
+pub record IsTable {A : Type 0} (bytesOf : A → List ℕ → List ℕ) (t : List (Row A)) : Type 0 where
+  pub right : All (λ r. (f : List ℕ) → r .bytes f ≡ bytesOf (r .field) f) t
+  pub whole : (a : A) → List·Memᴰ (row a (bytesOf a)) t
+
+module _ {A : Type 0} (bytesOf : A → List ℕ → List ℕ) (f g : List ℕ) {a : A} where
+  differs-in : (t : List (Row A)) → All (λ r. (f : List ℕ) → r .bytes f ≡ bytesOf (r .field) f) t → List·Memᴰ a (differing t f g)
+      → bytesOf a f ≡ bytesOf a g → ⊥
+  unfolding differing
+  differs-in [] all-none m e = List·Memᴰ·not-nil m
+  differs-in (r ∷ t) (all-more is rs) m e = by (equal (r .bytes f) (r .bytes g)) refl (λ m. differs-in t rs m e) m
+    where
+      same : a ≡ r .field → r .bytes f ≡ r .bytes g
+      same q =
+          is f ∙ ap (λ (b : A). bytesOf b f) (sym q) ∙ e ∙ ap (λ (b : A). bytesOf b g) q ∙ sym (is g)
+
+      by : (b : Bool) → equal (r .bytes f) (r .bytes g) ≡ b → (List·Memᴰ a (differing t f g) → ⊥)
+          → List·Memᴰ a (cond b (differing t f g) (r .field ∷ differing t f g)) → ⊥
+      by true z later m = later m
+      by false z later m = ⊎-elim (λ q. false≢true (sym z ∙ equal-same (same q))) later (List·Memᴰ·cases-cons m)
+
+  in-differing : (t : List (Row A)) → List·Memᴰ (row a (bytesOf a)) t → (bytesOf a f ≡ bytesOf a g → ⊥) → List·Memᴰ a (differing t f g)
+  unfolding differing
+  in-differing [] m h = absurd (List·Memᴰ·not-nil m)
+  in-differing (r ∷ t) m h =
+      by (equal (r .bytes f) (r .bytes g)) refl (λ m. in-differing t m h) (List·Memᴰ·cases-cons m)
+    where
+      by : (b : Bool) → equal (r .bytes f) (r .bytes g) ≡ b → (List·Memᴰ (row a (bytesOf a)) t → List·Memᴰ a (differing t f g))
+          → (row a (bytesOf a) ≡ r) ⊎ List·Memᴰ (row a (bytesOf a)) t
+          → List·Memᴰ a (cond b (differing t f g) (r .field ∷ differing t f g))
+      by true z later (inl e) =
+          absurd (h (ap (λ (r : Row A). r .bytes f) e ∙ equal-true (r .bytes f) (r .bytes g) z ∙ ap (λ (r : Row A). r .bytes g) (sym e)))
+      by true z later (inr m) = later m
+      by false z later (inl e) = List·Memᴰ·head (ap (λ (r : Row A). r .field) e)
+      by false z later (inr m) = List·Memᴰ·tail (later m)
+
+  pub differing-iff : {t : List (Row A)} → IsTable bytesOf t → List·Memᴰ a (differing t f g) ↔ (bytesOf a f ≡ bytesOf a g → ⊥)
+  differing-iff {t} i = (differs-in t (i .right), in-differing t (i .whole a))
+
+-- ---- how many, and in which order
+
+module _ {A : Type 0} (f g : List ℕ) where
+  pub differing-most : (t : List (Row A)) → length (differing t f g) ≤ length t
+  unfolding differing
+  differing-most [] = omega arith
+  differing-most (r ∷ t) = by (equal (r .bytes f) (r .bytes g)) (differing-most t)
+    where
+      by : (b : Bool) → length (differing t f g) ≤ length t
+          → length (cond b (differing t f g) (r .field ∷ differing t f g)) ≤ suc (length t)
+      by true h = omega arith
+      by false h = omega arith
+
+  differing-all : {P : A → Type 0} (t : List (Row A)) → All (λ r. P (r .field)) t → All P (differing t f g)
+  unfolding differing
+  differing-all [] all-none = all-none
+  differing-all {P} (r ∷ t) (all-more p ps) = by (equal (r .bytes f) (r .bytes g)) (differing-all t ps)
+    where
+      by : (b : Bool) → All P (differing t f g) → All P (cond b (differing t f g) (r .field ∷ differing t f g))
+      by true qs = qs
+      by false qs = all-more p qs
+
+  pub differing-pairwise : {R : A → A → Type 0} (t : List (Row A)) → Pairwise (λ r q. R (r .field) (q .field)) t → Pairwise R (differing t f g)
+  unfolding differing
+  differing-pairwise [] pairwise-none = pairwise-none
+  differing-pairwise {R} (r ∷ t) (pairwise-more p ps) =
+      by (equal (r .bytes f) (r .bytes g)) (differing-all t p) (differing-pairwise t ps)
+    where
+      by : (b : Bool) → All (R (r .field)) (differing t f g) → Pairwise R (differing t f g)
+          → Pairwise R (cond b (differing t f g) (r .field ∷ differing t f g))
+      by true q qs = qs
+      by false q qs = pairwise-more q qs
+
+-- ---- the two tables
+
+abbrev pub headBytes : HeadField → List ℕ → List ℕ
+headBytes version-field = bytesAt 8 4
+headBytes program-field = bytesAt 12 4
+headBytes control-field = bytesAt 16 16
+headBytes set-field = bytesAt 32 16
+headBytes number-field = bytesAt 48 8
+headBytes files-field = bytesAt 56 8
+headBytes list-field = bytesAt 72 8
+headBytes start-field = bytesAt 80 8
+headBytes data-field = bytesAt 88 8
+
+pub head-table : IsTable headBytes headTable
+head-table = record { right = rows; whole = find }
+  where
+    rows : All (λ r. (f : List ℕ) → r .bytes f ≡ headBytes (r .field) f) headTable
+    rows =
+        all-more (λ f. refl) (all-more (λ f. refl) (all-more (λ f. refl) (all-more (λ f. refl) (all-more (λ f. refl)
+        (all-more (λ f. refl) (all-more (λ f. refl) (all-more (λ f. refl) (all-more (λ f. refl) all-none))))))))
+
+    find : (h : HeadField) → List·Memᴰ (row h (headBytes h)) headTable
+    find version-field = List·Memᴰ·head refl
+    find program-field = List·Memᴰ·tail (List·Memᴰ·head refl)
+    find control-field = List·Memᴰ·tail (List·Memᴰ·tail (List·Memᴰ·head refl))
+    find set-field = List·Memᴰ·tail (List·Memᴰ·tail (List·Memᴰ·tail (List·Memᴰ·head refl)))
+    find number-field = List·Memᴰ·tail (List·Memᴰ·tail (List·Memᴰ·tail (List·Memᴰ·tail (List·Memᴰ·head refl))))
+    find files-field = List·Memᴰ·tail (List·Memᴰ·tail (List·Memᴰ·tail (List·Memᴰ·tail (List·Memᴰ·tail (List·Memᴰ·head refl)))))
+    find list-field =
+        List·Memᴰ·tail (List·Memᴰ·tail (List·Memᴰ·tail (List·Memᴰ·tail (List·Memᴰ·tail (List·Memᴰ·tail (List·Memᴰ·head refl))))))
+    find start-field =
+        List·Memᴰ·tail (List·Memᴰ·tail (List·Memᴰ·tail (List·Memᴰ·tail (List·Memᴰ·tail (List·Memᴰ·tail (List·Memᴰ·tail (List·Memᴰ·head refl)))))))
+    find data-field =
+        List·Memᴰ·tail (List·Memᴰ·tail (List·Memᴰ·tail (List·Memᴰ·tail (List·Memᴰ·tail (List·Memᴰ·tail (List·Memᴰ·tail (List·Memᴰ·tail (List·Memᴰ·head refl))))))))
+
+abbrev pub entryBytes : EntryField → List ℕ → List ℕ
+entryBytes length-field = bytesAt 0 8
+entryBytes status-field = bytesAt 8 8
+entryBytes size-field = bytesAt 16 8
+entryBytes md5-field = bytesAt 24 16
+entryBytes md5-16k-field = bytesAt 40 16
+entryBytes name-field = bytesFrom 56
+
+pub entry-table : IsTable entryBytes entryTable
+entry-table = record { right = rows; whole = find }
+  where
+    rows : All (λ r. (f : List ℕ) → r .bytes f ≡ entryBytes (r .field) f) entryTable
+    rows =
+        all-more (λ f. refl) (all-more (λ f. refl) (all-more (λ f. refl) (all-more (λ f. refl) (all-more (λ f. refl) (all-more (λ f. refl) all-none)))))
+
+    find : (e : EntryField) → List·Memᴰ (row e (entryBytes e)) entryTable
+    find length-field = List·Memᴰ·head refl
+    find status-field = List·Memᴰ·tail (List·Memᴰ·head refl)
+    find size-field = List·Memᴰ·tail (List·Memᴰ·tail (List·Memᴰ·head refl))
+    find md5-field = List·Memᴰ·tail (List·Memᴰ·tail (List·Memᴰ·tail (List·Memᴰ·head refl)))
+    find md5-16k-field = List·Memᴰ·tail (List·Memᴰ·tail (List·Memᴰ·tail (List·Memᴰ·tail (List·Memᴰ·head refl))))
+    find name-field = List·Memᴰ·tail (List·Memᴰ·tail (List·Memᴰ·tail (List·Memᴰ·tail (List·Memᴰ·tail (List·Memᴰ·head refl)))))

@@ -1,6 +1,14 @@
 mod CallLaws
+mod CoverLaws
+mod EntryLineLaws
 mod FieldLaws
 mod ListLaws
+mod MemberLaws
+mod Named
+mod NoLine
+mod OrderLaws
+mod RefusedLaws
 mod RunLaws
 mod ScanLaws
+mod SectionLaws
 mod TextLaws

@@ -1,6 +1,7 @@
 -- Runs of places.
 --
---   begin-from       no run begins before the place from which on runs are looked for
+--   Apart p rs       the runs rs begin at p or later, and are apart
+--   runs-apart       runs from a place on are
 --   skipped, joined  runs from a place on, where no place of some holds, and where all of some do
 --   runs-next        the first run, from its first place and the first place after it at which nothing holds
 --   runs-none        there is none where no place holds
@@ -13,33 +14,37 @@ use Prim.Native.Nat.{ℕ, zero, suc, _+_, _-_, _≤_, _<_}
 use native.Mathlib.Nat.{eq-or-lt-of-le}
 use native.Mathlib.Omega.{arith}
 use lib.Dec.{eqb}
-use borrow.Author.Tests.{eq-eqb, ne-eqb, not-true, not-false}
-use Rattle.cut_lists.specs.All.{All, all-none, all-more}
-use Rattle.cut_lists.proofs.AllLaws.{all-map}
+use borrow.Author.Tests.{eqb-false, eq-eqb, ne-eqb, not-true, not-false}
 use Rattle.comparing.specs.Runs.{Run, runOf, withPlace, runsFrom, FirstFrom}
+
+-- ---- runs that are apart
+
+-- the runs rs begin at p or later, each ends where it begins or later, and a place lies between two of them
+pub data Apart : ℕ → List Run → Type 0 where
+  apart-none : {p : ℕ} → Apart p []
+  apart-more : {p : ℕ} {r : Run} {rs : List Run} → p ≤ r .first → r .first ≤ r .last → Apart (r .last + 2) rs → Apart p (r ∷ rs)
+
+apart-less : (p : ℕ) {rs : List Run} → Apart (suc p) rs → Apart p rs
+apart-less p apart-none = apart-none
+apart-less p (apart-more {r = r} low right later) = apart-more {p = p} {r = r} (omega arith) right later
 
 -- ---- a place before runs
 
--- the runs rs begin at p or after it
-abbrev pub From : ℕ → List Run → Type 0
-From p rs = All (λ r. p ≤ r .first) rs
-
-from-less : (p : ℕ) {rs : List Run} → From (suc p) rs → From p rs
-from-less p hs = all-map (λ r h. omega arith) hs
-
-with-from : (p : ℕ) {rs : List Run} → From (suc p) rs → From p (withPlace p rs)
+with-apart : (p : ℕ) {rs : List Run} → Apart (suc p) rs → Apart p (withPlace p rs)
 unfolding withPlace
-with-from p all-none = all-more {x = runOf p p} (omega arith) all-none
-with-from p (all-more {x = r} {xs = rs} h hs) = by (eqb (r .first) (suc p))
+with-apart p apart-none = apart-more {p = p} {r = runOf p p} (omega arith) (omega arith) apart-none
+with-apart p (apart-more {r = r} {rs = rs} low right later) = by (eqb (r .first) (suc p)) refl
   where
-    by : (b : Bool) → From p (cond b (runOf p (r .last) ∷ rs) (runOf p p ∷ r ∷ rs))
-    by true = all-more {x = runOf p (r .last)} (omega arith) (from-less p hs)
-    by false = all-more {x = runOf p p} (omega arith) (all-more {x = r} (omega arith) (from-less p hs))
+    by : (b : Bool) → eqb (r .first) (suc p) ≡ b → Apart p (cond b (runOf p (r .last) ∷ rs) (runOf p p ∷ r ∷ rs))
+    by true e = apart-more {p = p} {r = runOf p (r .last)} (omega arith) (omega arith) later
+    by false e =
+        let other = eqb-false (r .first) (suc p) e in
+        apart-more {p = p} {r = runOf p p} (omega arith) (omega arith) (apart-more {p = p + 2} {r = r} (omega arith) right later)
 
-with-apart : (p : ℕ) {rs : List Run} → From (suc (suc p)) rs → withPlace p rs ≡ runOf p p ∷ rs
+with-gap : (p : ℕ) {rs : List Run} → Apart (suc (suc p)) rs → withPlace p rs ≡ runOf p p ∷ rs
 unfolding withPlace
-with-apart p all-none = refl
-with-apart p (all-more {x = r} {xs = rs} h hs) = simp (ne-eqb (r .first) (suc p) (λ e. omega arith))
+with-gap p apart-none = refl
+with-gap p (apart-more {r = r} low right later) = simp (ne-eqb (r .first) (suc p) (λ e. omega arith))
 
 with-touching : (p q : ℕ) (rs : List Run) → withPlace p (runOf (suc p) q ∷ rs) ≡ runOf p q ∷ rs
 unfolding withPlace
@@ -48,17 +53,17 @@ with-touching p q rs = simp (eq-eqb (suc p) (suc p) refl)
 -- ---- runs from a place on
 
 module _ (d : ℕ → Bool) where
-  pub begin-from : (k p : ℕ) → From p (runsFrom d k p)
+  pub runs-apart : (k p : ℕ) → Apart p (runsFrom d k p)
   unfolding runsFrom
-  begin-from zero p = all-none
-  begin-from (suc k) p = by (d p) (begin-from k (suc p))
+  runs-apart zero p = apart-none
+  runs-apart (suc k) p = by (d p) (runs-apart k (suc p))
     where
       rest : List Run
       rest = runsFrom d k (suc p)
 
-      by : (b : Bool) → From (suc p) rest → From p (cond b (withPlace p rest) rest)
-      by true h = with-from p h
-      by false h = from-less p h
+      by : (b : Bool) → Apart (suc p) rest → Apart p (cond b (withPlace p rest) rest)
+      by true h = with-apart p h
+      by false h = apart-less p h
 
   runs-skip : (k p : ℕ) → d p ≡ false → runsFrom d (suc k) p ≡ runsFrom d k (suc p)
   unfolding runsFrom
@@ -78,11 +83,11 @@ module _ (d : ℕ → Bool) where
       ∙ skipped j k (suc p) (λ q high low. h q (omega arith) (omega arith)) ∙ ap (runsFrom d k) place
 
   -- the place after a run does not hold, or there is none
-  after-run : (k p : ℕ) → (k ≡ 0) ⊎ (d (suc p) ≡ false) → From (suc (suc p)) (runsFrom d k (suc p))
+  after-run : (k p : ℕ) → (k ≡ 0) ⊎ (d (suc p) ≡ false) → Apart (suc (suc p)) (runsFrom d k (suc p))
   unfolding runsFrom
-  after-run zero p h = all-none
+  after-run zero p h = apart-none
   after-run (suc k) p (inl z) = absurd (omega arith)
-  after-run (suc k) p (inr e) = rw (runs-skip k (suc p) e) (begin-from k (suc (suc p)))
+  after-run (suc k) p (inr e) = rw (runs-skip k (suc p) e) (runs-apart k (suc (suc p)))
 
   -- j + 1 places at which it holds
   pub joined : (j k p : ℕ) → ((q : ℕ) → q < p + suc j → p ≤ q → d q ≡ true) → (k ≡ 0) ⊎ (d (p + suc j) ≡ false)
@@ -92,7 +97,7 @@ module _ (d : ℕ → Bool) where
       let here : p + 0 ≡ p = omega arith in
       let next : p + suc 0 ≡ suc p = omega arith in
       ap (λ (m : ℕ). runsFrom d m p) more ∙ runs-with k p (h p (omega arith) (omega arith))
-      ∙ with-apart p (after-run k p (rw next at e))
+      ∙ with-gap p (after-run k p (rw next at e))
       ∙ ap₂ (λ (x y : ℕ). runOf p x ∷ runsFrom d k y) (sym here) (sym next)
   joined (suc j) k p h e =
       let more : suc (suc j) + k ≡ suc (suc j + k) = omega arith in
