@@ -2,7 +2,8 @@
 --
 --   Covers p rs     the place p lies in one of the runs rs
 --   runs-cover      in the runs of the places at which d holds, exactly these lie
---   in-run          the same of the lines on the runs
+--   linesOn rs      the lines on the runs rs
+--   line-covers, in-run     the same of the lines on the runs
 -- Assumes nothing.
 use mathlib.Core.Path.{_≡_, refl, sym, ap, _∙_}
 use mathlib.Core.Bool.{Bool, true, false, cond, false≢true}
@@ -106,7 +107,7 @@ module _ (d : ℕ → Bool) (p : ℕ) where
 
 -- ---- the lines
 
-abbrev linesOn : List Run → List Line
+abbrev pub linesOn : List Run → List Line
 linesOn rs = map (λ r. runLine r) rs
 
 covers-line : {p : ℕ} {rs : List Run} → Covers p rs → InRun p (linesOn rs)
@@ -116,7 +117,7 @@ covers-line (covers-later c) =
     let i = covers-line c in
     record { first = i .first; last = i .last; listed = List·Memᴰ·tail (i .listed); from = i .from; to = i .to }
 
-line-covers : {p a b : ℕ} (rs : List Run) → a ≤ p → p ≤ b → List·Memᴰ (run a b) (linesOn rs) → Covers p rs
+pub line-covers : {p a b : ℕ} (rs : List Run) → a ≤ p → p ≤ b → List·Memᴰ (run a b) (linesOn rs) → Covers p rs
 line-covers [] low high m = absurd (List·Memᴰ·not-nil m)
 line-covers {p} {a} {b} (r ∷ rs) low high m = by (line-covers rs low high) (List·Memᴰ·cases-cons m)
   where

@@ -1,7 +1,9 @@
 mod CallLaws
 mod CoverLaws
 mod EntryLineLaws
+mod Examples
 mod FieldLaws
+pub mod LengthLaws
 mod ListLaws
 mod MemberLaws
 mod Named

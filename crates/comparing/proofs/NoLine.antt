@@ -28,8 +28,6 @@ use Rattle.entries.specs.declared.Totals.{Totals}
 use Rattle.entries.specs.declared.Walked.the-variants as walked
 use Rattle.par1_rules.specs.Layout.{programOf, volumeNumberOf, dataSizeOf, listOf, dataOf}
 use Rattle.par1_read.specs.Reading.{entriesIn, readOf}
-use Rattle.par1_read.specs.declared.reading.Reading.{Reading}
-use Rattle.par1_read.specs.declared.reading.Reading.the-variants.{Accepted, Refused}
 use Rattle.par1_read.proofs.ReadingLaws.{Passed, read-tells}
 use Rattle.par1_write.specs.VolumeWriting.{volumeBytes}
 use Rattle.par1.proofs.WrittenRead.{volume-again}
@@ -44,7 +42,7 @@ use Rattle.comparing.proofs.EntryLineLaws.{entry-iff}
 use Rattle.comparing.proofs.MemberLaws.{none-in}
 use Rattle.comparing.proofs.Named.{head-named, entry-named, all-named, data-named, data-length, data-byte}
 use Rattle.comparing.proofs.OrderLaws.{ordered}
-use Rattle.comparing.proofs.RefusedLaws.{refused-named, not-both}
+use Rattle.comparing.proofs.RefusedLaws.{refused-named, not-both, read-either}
 use Rattle.comparing.proofs.ScanLaws.{order}
 use Rattle.comparing.proofs.SectionLaws.{in-list}
 
@@ -214,13 +212,6 @@ module _ (f g : List ℕ) (c : Compared f g) (none : linesOf f g ≡ []) where
       ∙ volume-again g (c .bytes-two) two
 
 -- ---- the claim
-
-read-either : (f : List ℕ) → IsAccepted f ⊎ ((n : ℕ) × RefusedWith f n)
-read-either f = by (readOf f) refl
-  where
-    by : (r : Reading) → readOf f ≡ r → IsAccepted f ⊎ ((n : ℕ) × RefusedWith f n)
-    by (Accepted p) e = inl (p, e)
-    by (Refused r) e = inr (r .number, (r, e, refl))
 
 -- a refused file has a line
 none-accepted : (f g : List ℕ) → linesOf f g ≡ [] → IsAccepted f × IsAccepted g

@@ -1,7 +1,7 @@
 -- Refused files.
 --
 --   refused-named, refused-only     the claims
---   not-both                        no file is accepted and refused
+--   not-both, read-either           a file is accepted or refused, and not both
 -- Assumes nothing.
 use mathlib.Core.Path.{_≡_, refl, sym, _∙_}
 use mathlib.Core.List.{List, [], _∷_, _++_, List·Memᴰ, List·Memᴰ·head, List·Memᴰ·tail, List·Memᴰ·cases-cons}
@@ -33,6 +33,13 @@ never e = absurd (let z : _≡_ {A = ℕ} 0 1 = cc in omega arith)
 
 pub not-both : (f : List ℕ) {n : ℕ} → IsAccepted f → RefusedWith f n → ⊥
 not-both f a r = never (sym (a .1) ∙ r .1)
+
+pub read-either : (f : List ℕ) → IsAccepted f ⊎ ((n : ℕ) × RefusedWith f n)
+read-either f = by (readOf f) refl
+  where
+    by : (r : Reading) → readOf f ≡ r → IsAccepted f ⊎ ((n : ℕ) × RefusedWith f n)
+    by (Accepted p) e = inl (p, e)
+    by (Refused r) e = inr (r .number, (r, e, refl))
 
 -- ---- the lines on refused files
 

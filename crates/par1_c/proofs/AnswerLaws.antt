@@ -3,19 +3,21 @@
 --   Answerable, answerable    a refusal of a list whose length is a u64, in numbers
 --   read-within               which refusals reading gives
 --   read-answerable, volume-answerable, read-end-answerable    those of reading, of writing a volume and of the end of a running read
---   amend-answerable          those of amending, or the length
---   read-asked, volume-asked, read-end-asked, amend-asked    the same, as what `answer` requires
---   read-told, volume-told, read-end-told, amend-told        the claims
+--   amend-answerable, compare-answerable     those of amending and comparing, or the length
+--   read-asked, volume-asked, read-end-asked, amend-asked, compare-asked    the same, as what `answer` requires
+--   read-told, volume-told, read-end-told, amend-told, compare-told         the claims
 -- Assumes nothing.
-use mathlib.Core.Path.{_≡_, refl, sym, ap}
+use mathlib.Core.Path.{_≡_, refl, sym, ap, _∙_}
+use mathlib.Core.Bool.{Bool, true, false, cond}
 use mathlib.Core.List.{List}
 use Prim.Native.Nat.{ℕ, zero, suc, _+_, _/_, _^_, _<_}
 use native.Mathlib.Omega.{arith}
+use lib.Dec.{leb}
 use lib.ListN.{length}
 use Rattle.refusals.specs.Tests.{bare}
 use Rattle.refusals.specs.declared.Refusal.{Refusal}
 use Rattle.refusals.proofs.RangeLaws.{Within, bare-within}
-use Rattle.lent_bytes.specs.Writing.{withRefusal, writtenUnless}
+use Rattle.lent_bytes.specs.Writing.{refused, accepted, written, withRefusal, writtenUnless}
 use Rattle.lent_bytes.proofs.WritingLaws.{unless-within}
 use Rattle.answer_bytes.specs.Results.{partsBytes, readInto}
 use Rattle.job_bytes.specs.Reads.{readEnded}
@@ -31,8 +33,10 @@ use Rattle.lent_bytes.specs.declared.Writing.the-variants.{Written, Refused}
 use Rattle.amending.specs.Amending.{Change}
 use Rattle.amending.specs.Call.{amendOf}
 use Rattle.amending.proofs.RangeLaws.{accepted-most, refused-most}
+use Rattle.comparing.specs.Comparing.{comparisonOf}
+use Rattle.comparing.proofs.LengthLaws.{comparison-most}
 use Rattle.par1_c.specs.Answers.{lengthTold, Told}
-use Rattle.par1_c.specs.Claim.{ReadTold, VolumeTold, ReadEndTold, AmendTold}
+use Rattle.par1_c.specs.Claim.{ReadTold, VolumeTold, ReadEndTold, AmendTold, CompareTold}
 
 pub record Answerable (r : Refusal) : Type 0 where
   pub number-most : r .number < 32
@@ -78,6 +82,14 @@ module _ (n : ℕ) (c : Change) (d out : List ℕ) (h : length out < 2 ^ 64) whe
       let most = refused-most coefficient n c d out e in
       record { number-most = omega (arith, most .number-most); place-most = omega (arith, most .place-most) }
 
+compare-answerable : (f g out : List ℕ) → Answerable (lengthTold (written (comparisonOf f g) out .0))
+unfolding written
+compare-answerable f g out = by (leb (length (comparisonOf f g)) (length out))
+  where
+    by : (b : Bool) → Answerable (lengthTold (cond b (accepted (comparisonOf f g) out) (refused (bare 14) out) .0))
+    by true = record { number-most = omega arith; place-most = comparison-most f g }
+    by false = record { number-most = omega arith; place-most = omega arith }
+
 asked : {r q : Refusal} → r ≡ q → Answerable q → (r .number < 32) × (r .place < 2 ^ 59)
 asked e a = rw e (a .number-most, a .place-most)
 
@@ -97,6 +109,10 @@ pub amend-asked : (n : ℕ) (c : Change) (d out : List ℕ) {w : Writing} {t : L
     → (w, t) ≡ amendOf coefficient n c d out → r ≡ lengthTold w → (r .number < 32) × (r .place < 2 ^ 59)
 amend-asked n c d out {w} {t} h e is = asked is (amend-answerable n c d out h w t (sym e))
 
+pub compare-asked : (f g out : List ℕ) {w : Writing} {t : List ℕ} {r : Refusal} → (w, t) ≡ written (comparisonOf f g) out → r ≡ lengthTold w
+    → (r .number < 32) × (r .place < 2 ^ 59)
+compare-asked f g out e is = asked (is ∙ ap (λ (p : Writing × List ℕ). lengthTold (p .0)) e) (compare-answerable f g out)
+
 pub read-told : ReadTold
 read-told f out h = told _ (read-answerable f out h)
 
@@ -108,3 +124,6 @@ read-end-told b out = told _ (read-end-answerable b out)
 
 pub amend-told : AmendTold
 amend-told n c d out h = told _ (amend-answerable n c d out h (amendOf coefficient n c d out .0) (amendOf coefficient n c d out .1) refl)
+
+pub compare-told : CompareTold
+compare-told f g out = told _ (compare-answerable f g out)

@@ -5,6 +5,7 @@
 --   VolumeTold           so is that of a volume that is written
 --   ReadEndTold          so is that of the end of a running read, whatever its bytes are
 --   AmendTold            and that of an amendment, or the volume's new length
+--   CompareTold          and the length of a comparison
 --   OnBytes step s k     a call that changes s: its number, and the bytes of the inventory that it hands back, which bytes can hold again
 --   OpenedOnBytes        an opening with the bytes of the sizes is one with the sizes, and bytes can hold what it gives
 --   ChangedOnBytes       so are the calls that add and remove
@@ -19,7 +20,7 @@ use Prim.Native.Nat.{ℕ, _^_, _<_}
 use lib.ListN.{length, getD}
 use Rattle.answer_bytes.specs.Results.{readInto}
 use Rattle.job_bytes.specs.Reads.{readEnded}
-use Rattle.lent_bytes.specs.Writing.{withRefusal}
+use Rattle.lent_bytes.specs.Writing.{written, withRefusal}
 use Rattle.parity.specs.Coefficient.{coefficient}
 use Rattle.par1_read.specs.Reading.{readOf}
 use Rattle.par1_write.specs.VolumeWriting.{writeVolumeOf}
@@ -34,6 +35,7 @@ use Rattle.inventory_bytes.specs.Inventories.{inventoryBytes, storedBy, counted
 use Rattle.little_endian.specs.Bytes.{numbers}
 use Rattle.amending.specs.Amending as amending
 use Rattle.amending.specs.Call.{amendOf}
+use Rattle.comparing.specs.Comparing.{comparisonOf}
 use Rattle.par1_c.specs.Answers.{lengthTold, Told}
 use Rattle.par1_c.specs.Inventories.{openInto, changedBy, countInto, QueryInto}
 
@@ -54,6 +56,10 @@ ReadEndTold = (b out : List ℕ) → Told (readEnded b out .0)
 abbrev pub AmendTold : Type 0
 AmendTold =
     (n : ℕ) (c : amending.Change) (d out : List ℕ) → length out < 2 ^ 64 → Told (lengthTold (amendOf coefficient n c d out .0))
+
+-- any two files have fewer than 2^59 bytes of lines; proved: proofs/AnswerLaws.antt, `compare-told`
+abbrev pub CompareTold : Type 0
+CompareTold = (f g out : List ℕ) → Told (lengthTold (written (comparisonOf f g) out .0))
 
 pub record OnBytes (step : Inventory → ℕ → Outcome) (s : Inventory) (k : ℕ) : Type 0 where
   pub gives : changedBy step k (inventoryBytes s) ≡ (step s k .number, inventoryBytes (step s k .next))
