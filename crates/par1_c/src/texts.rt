@@ -8,7 +8,7 @@ use crate::length_told;
 
 // Writes a line for each difference of two index files or volumes; the value of the answer is their length.
 #[no_mangle]
-pub extern "C" fn par1_compare(one: &[u8], two: &[u8], out: &mut [u8]) -> u64
+pub extern "C" fn par1_compare<'a, 'b>(one: &'a [u8], two: &'a [u8], out: &'b mut [u8]) -> u64
     ensures { λ r. ⌜ (r, now (out .exit)) ≡ answeredLength (written (comparisonOf (now (one .entry)) (now (two .entry))) (now (out .entry))) ⌝ }
 {
     answer(length_told(comparing::compare(one, two, out)))
