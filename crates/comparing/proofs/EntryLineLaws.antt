@@ -4,7 +4,7 @@
 --   all-iff         of two lists: an entry as a whole, exactly where one of them alone has it
 --   entry-iff       and a field of an entry, exactly where both have it and the bytes of the field differ
 -- Assumes nothing.
-use mathlib.Core.Path.{_≡_, refl, sym, ap, subst}
+use mathlib.Core.Path.{_≡_, sym, ap, subst}
 use mathlib.Core.List.{List, [], _∷_, _++_, map, List·Memᴰ, List·Memᴰ·head, List·Memᴰ·tail, List·Memᴰ·not-nil, List·Memᴰ·cases-cons}
 use mathlib.Core.List.{List·Memᴰ·append-cases, Memᴰ·append-left, Memᴰ·append-right, Memᴰ·map, Memᴰ·of-map, Memᴰ·cast}
 use mathlib.Core.Logic.{_⊎_, _↔_, inl, inr, ⊎-elim}
@@ -13,7 +13,7 @@ use native.Mathlib.Nat.{eq-or-lt-of-le}
 use native.Mathlib.Omega.{arith}
 use lib.ListN.{length, getD}
 use Rattle.comparing.specs.Claim.{OnlyOne}
-use Rattle.comparing.specs.Lines.{EntryField, Line, entry, all}
+use Rattle.comparing.specs.Lines.{EntryField, entry, all}
 use Rattle.comparing.specs.Differences.{entryTable, differing, allLines, entryLines}
 use Rattle.comparing.proofs.FieldLaws.{entryBytes, entry-table, differing-iff}
 

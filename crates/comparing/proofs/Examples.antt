@@ -2,15 +2,13 @@
 -- Assumes nothing.
 use mathlib.Core.Path.{_≡_, refl}
 use mathlib.Core.List.{List, [], _∷_, _++_, map, flatten}
-use Prim.Native.Nat.{ℕ}
 use Rattle.text.specs.Ascii.{ascii}
 use Rattle.text.specs.Decimal.{decimal, decimalIn}
 use Rattle.lent_bytes.specs.Equal.{equal}
-use Rattle.comparing.specs.Lines.{version-field, program-field, control-field, set-field, number-field}
-use Rattle.comparing.specs.Lines.{files-field, list-field, start-field, data-field}
+use Rattle.comparing.specs.Lines.{version-field, program-field, control-field, set-field, number-field, files-field, list-field, start-field, data-field}
 use Rattle.comparing.specs.Lines.{length-field, status-field, size-field, md5-field, md5-16k-field, name-field}
 use Rattle.comparing.specs.Lines.{Line, head, entry, all, run, refused, headText, entryText, runText, refusedText, lineText}
-use Rattle.comparing.specs.Differences.{entryTable, differing, allLines, entryLines}
+use Rattle.comparing.specs.Differences.{differing, allLines, entryLines}
 use Rattle.comparing.specs.Runs.{runOf, differs, withPlace, runsFrom, runsOf}
 
 -- ---- the text of each line

@@ -10,8 +10,7 @@
 -- Assumes nothing.
 use mathlib.Core.Path.{_≡_, refl, sym, ap, _∙_}
 use mathlib.Core.Bool.{Bool, true, false, cond, false≢true}
-use mathlib.Core.List.{List, [], _∷_, _++_, map, flatten}
-use mathlib.Core.List.{List·Memᴰ, List·Memᴰ·head, List·Memᴰ·tail, List·Memᴰ·not-nil, List·Memᴰ·cases-cons}
+use mathlib.Core.List.{List, [], _∷_, _++_, map, flatten, List·Memᴰ, List·Memᴰ·head, List·Memᴰ·tail, List·Memᴰ·not-nil, List·Memᴰ·cases-cons}
 use mathlib.Core.Logic.{_⊎_, _↔_, inl, inr, ⊎-elim}
 use Prim.Native.Nat.{ℕ, suc, _≤_}
 use native.Mathlib.Omega.{arith}
@@ -22,8 +21,7 @@ use Rattle.lent_bytes.proofs.EqualLaws.{equal-true, equal-same}
 use Rattle.comparing.specs.Claim.{Pairwise, pairwise-none, pairwise-more}
 use Rattle.comparing.specs.Lines.{HeadField, version-field, program-field, control-field, set-field, number-field}
 use Rattle.comparing.specs.Lines.{files-field, list-field, start-field, data-field}
-use Rattle.comparing.specs.Lines.{EntryField, length-field, status-field, size-field, md5-field, md5-16k-field, name-field}
-use Rattle.comparing.specs.Lines.{Line, lineText, textOf}
+use Rattle.comparing.specs.Lines.{EntryField, length-field, status-field, size-field, md5-field, md5-16k-field, name-field, Line, lineText, textOf}
 use Rattle.comparing.specs.Differences.{Row, row, bytesAt, bytesFrom, headTable, entryTable, differing}
 
 module _ {A : Type 0} (line : A → Line) (f g : List ℕ) where

@@ -11,7 +11,7 @@ use mathlib.Core.Logic.{_⊎_, inl, inr, ⊎-elim}
 use Prim.Native.Nat.{ℕ, zero, suc, _+_, _*_, _^_, _≤_, _<_, max}
 use native.Mathlib.Omega.{arith}
 use lib.Dec.{eqb}
-use lib.ListN.{length, take, drop, length-append, length-take, length-drop, length-map}
+use lib.ListN.{length, drop, length-append, length-take, length-drop, length-map}
 use Rattle.cut_lists.specs.All.{All, all-none, all-more}
 use Rattle.cut_lists.proofs.CutLaws.{cut-count}
 use Rattle.refusals.specs.Limits.{maxVolumeLength}

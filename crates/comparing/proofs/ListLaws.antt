@@ -14,12 +14,12 @@ use native.Mathlib.Numerals.{add-one}
 use native.Mathlib.Omega.{arith}
 use lib.ListN.{length, take, drop, length-drop}
 use lib.Seq.{drop-drop}
-use Rattle.cut_lists.specs.Pieces.{Cut, before}
+use Rattle.cut_lists.specs.Pieces.{Cut}
 use Rattle.cut_lists.proofs.CutLaws.{cut-stop, cut-more}
 use Rattle.entries.specs.Entry.{lengthOf}
 use Rattle.entries.specs.Walk.{entriesOf}
 use Rattle.entries.proofs.EntryLaws.{length-sized}
-use Rattle.comparing.specs.Lines.{Line, entry, all, lineText, entryText, textOf}
+use Rattle.comparing.specs.Lines.{entry, all, lineText, textOf}
 use Rattle.comparing.specs.Differences.{entryTable, differing, allLines, entryLines}
 use Rattle.comparing.proofs.TextLaws.{text-append}
 

@@ -7,14 +7,13 @@
 -- Assumes nothing.
 use mathlib.Core.Path.{_≡_, refl, sym, ap, _∙_, subst}
 use mathlib.Core.Bool.{true, false, false≢true}
-use mathlib.Core.List.{List, [], _∷_, List·Memᴰ, Memᴰ·map, Memᴰ·of-map, Memᴰ·cast}
+use mathlib.Core.List.{List, [], List·Memᴰ, Memᴰ·map, Memᴰ·of-map, Memᴰ·cast}
 use mathlib.Core.Logic.{_⊎_, _↔_, inl, inr, ⊎-elim}
 use Prim.Native.Nat.{ℕ, _+_, _-_, _≤_, _<_, max}
 use native.Mathlib.Omega.{arith}
 use lib.ListN.{length, take, drop, getD, length-drop}
 use lib.Seq.{getD-drop, length-take-le}
 use Rattle.cut_lists.specs.All.{All, all-none, all-more}
-use Rattle.cut_lists.specs.Pieces.{Cut}
 use Rattle.cut_lists.proofs.AllLaws.{all-at}
 use Rattle.cut_lists.proofs.CutLaws.{cut-induct}
 use Rattle.little_endian.specs.Bytes.{Bytes, fromLe, toLe, leAt}
@@ -23,19 +22,17 @@ use Rattle.little_endian.proofs.Reading.{to-leAt}
 use Rattle.entries.specs.Entry.{lengthOf}
 use Rattle.entries.specs.Walk.{entriesOf}
 use Rattle.entries.proofs.EntryLaws.{length-sized}
-use Rattle.par1_rules.specs.Layout.{listSizeOf, dataStartOf, dataSizeOf, listOf, dataOf}
+use Rattle.par1_rules.specs.Layout.{listSizeOf, dataSizeOf, listOf, dataOf}
 use Rattle.par1_read.specs.Reading.{entriesIn}
 use Rattle.par1_read.proofs.ReadingLaws.{read-tells}
-use Rattle.comparing.specs.Claim.{IsAccepted, Compared, HeadDiffers, EntryDiffers, OnlyOne, HasByte, byteAt, DataDiffers, InRun}
-use Rattle.comparing.specs.Claim.{HeadNamed, EntryNamed, AllNamed, DataNamed}
+use Rattle.comparing.specs.Claim.{IsAccepted, Compared, HeadDiffers, EntryDiffers, OnlyOne, byteAt, InRun, HeadNamed, EntryNamed, AllNamed, DataNamed}
 use Rattle.comparing.specs.Lines.{HeadField, version-field, program-field, control-field, set-field, number-field}
 use Rattle.comparing.specs.Lines.{files-field, list-field, start-field, data-field}
-use Rattle.comparing.specs.Lines.{EntryField, length-field, status-field, size-field, md5-field, md5-16k-field, name-field}
-use Rattle.comparing.specs.Lines.{Line, head, entry, all, run}
+use Rattle.comparing.specs.Lines.{EntryField, length-field, status-field, size-field, md5-field, md5-16k-field, name-field, head, entry, all}
 use Rattle.comparing.specs.Differences.{headTable, differing, headLines}
 use Rattle.comparing.specs.Runs.{differs, runsFrom, runsOf, runLines}
-use Rattle.comparing.proofs.CoverLaws.{Covers, Holds, runs-cover, in-run}
-use Rattle.comparing.proofs.EntryLineLaws.{FieldDiffers, all-iff, entry-iff}
+use Rattle.comparing.proofs.CoverLaws.{runs-cover, in-run}
+use Rattle.comparing.proofs.EntryLineLaws.{all-iff, entry-iff}
 use Rattle.comparing.proofs.FieldLaws.{headBytes, head-table, entryBytes, differing-iff}
 use Rattle.comparing.proofs.ScanLaws.{order, same-byte, other-byte, one-side}
 use Rattle.comparing.proofs.SectionLaws.{in-head, in-list, in-data}

@@ -7,18 +7,15 @@
 -- Assumes nothing.
 use mathlib.Core.Path.{_≡_, refl, sym, ap, ap₂, _∙_, subst}
 use mathlib.Core.Bool.{Bool, true, false}
-use mathlib.Core.List.{List, [], _∷_, _++_, append-nil, map, flatten, List·Memᴰ, List·Memᴰ·not-nil}
-use mathlib.Core.Logic.{_⊎_, _↔_, inl, inr, ⊎-elim}
-use Prim.Native.Nat.{ℕ, suc, _+_, _-_, _≤_, _<_}
-use native.Mathlib.Nat.{eq-or-lt-of-le}
+use mathlib.Core.List.{List, [], _∷_, _++_, append-nil, flatten, List·Memᴰ, List·Memᴰ·not-nil}
+use mathlib.Core.Logic.{_⊎_, inl, inr, ⊎-elim}
+use Prim.Native.Nat.{ℕ, _+_, _-_, _≤_, _<_}
 use native.Mathlib.Omega.{arith}
 use lib.Dec.{eqb}
 use lib.ListN.{length, take, drop, getD, length-append}
 use lib.Seq.{ext-getD}
 use borrow.Author.Tests.{eqb-true, eqb-false}
-use Rattle.cut_lists.specs.Pieces.{Cut}
 use Rattle.cut_lists.proofs.CutLaws.{cut-joins}
-use Rattle.little_endian.specs.Bytes.{Bytes}
 use Rattle.lent_bytes.specs.Equal.{equal}
 use Rattle.lent_bytes.proofs.EqualLaws.{equal-true, equal-same}
 use Rattle.lent_bytes.proofs.PartLaws.{split}
@@ -27,11 +24,11 @@ use Rattle.entries.specs.Walk.{entriesOf, totalsOf, walkedTo, walkOf}
 use Rattle.entries.specs.declared.Totals.{Totals}
 use Rattle.entries.specs.declared.Walked.the-variants as walked
 use Rattle.par1_rules.specs.Layout.{programOf, volumeNumberOf, dataSizeOf, listOf, dataOf}
-use Rattle.par1_read.specs.Reading.{entriesIn, readOf}
+use Rattle.par1_read.specs.Reading.{entriesIn}
 use Rattle.par1_read.proofs.ReadingLaws.{Passed, read-tells}
 use Rattle.par1_write.specs.VolumeWriting.{volumeBytes}
 use Rattle.par1.proofs.WrittenRead.{volume-again}
-use Rattle.comparing.specs.Claim.{IsAccepted, RefusedWith, Compared, HeadDiffers, HasEntry, entryAt, EntryDiffers, byteAt, DataDiffers, NoLine}
+use Rattle.comparing.specs.Claim.{IsAccepted, RefusedWith, Compared, HeadDiffers, entryAt, EntryDiffers, byteAt, DataDiffers, NoLine}
 use Rattle.comparing.specs.Lines.{HeadField, version-field, program-field, control-field, set-field, number-field}
 use Rattle.comparing.specs.Lines.{files-field, list-field, start-field, data-field}
 use Rattle.comparing.specs.Lines.{EntryField, length-field, status-field, size-field, md5-field, md5-16k-field, name-field}

@@ -3,7 +3,7 @@
 --   ordered     the claim
 -- Assumes nothing.
 use mathlib.Core.Path.{_≡_, refl, sym}
-use mathlib.Core.Bool.{Bool, true, false, _&&_}
+use mathlib.Core.Bool.{Bool, true, _&&_}
 use mathlib.Core.List.{List, [], _∷_, _++_, map}
 use Prim.Native.Nat.{ℕ, suc, _+_, _≤_, _<_, max}
 use native.Mathlib.Omega.{arith}
@@ -20,14 +20,14 @@ use Rattle.par1_read.specs.declared.reading.Reading.the-variants.{Accepted, Ref
 use Rattle.comparing.specs.Claim.{headPlace, entryPlace, Before, Pairwise, pairwise-none, pairwise-more, Ordered}
 use Rattle.comparing.specs.Claim.{head-head, head-entry, head-all, head-run, same-entry, entry-entry, entry-all, entry-run}
 use Rattle.comparing.specs.Claim.{all-all, all-run, run-run, refused-refused}
-use Rattle.comparing.specs.Lines.{HeadField, EntryField, Line, head, entry, all, run, refused}
-use Rattle.comparing.specs.Differences.{Row, headTable, entryTable, differing, headLines, allLines, entryLines}
-use Rattle.comparing.specs.Runs.{Run, runLine, differs, runsFrom, runsOf, runLines}
+use Rattle.comparing.specs.Lines.{EntryField, Line, head, entry, all, run, refused}
+use Rattle.comparing.specs.Differences.{headTable, entryTable, differing, headLines, allLines, entryLines}
+use Rattle.comparing.specs.Runs.{Run, runLine, differs, runsOf, runLines}
 use Rattle.comparing.specs.Comparing.{linesBy, linesOf}
 use Rattle.comparing.proofs.FieldLaws.{differing-pairwise}
 use Rattle.comparing.proofs.MemberLaws.{all-mem, mem-all, all-append, all-mapped, pairwise-append, pairwise-mapped}
 use Rattle.comparing.proofs.RunLaws.{Apart, apart-none, apart-more, runs-apart}
-use Rattle.comparing.proofs.SectionLaws.{kindOf, Kind, head-kind, list-kind, run-kind}
+use Rattle.comparing.proofs.SectionLaws.{kindOf, head-kind, list-kind, run-kind}
 
 -- ---- a table in layout order, by one test
 

@@ -6,14 +6,13 @@
 --   in-head, in-list, in-data         a line of a kind is a line of the part
 -- Assumes nothing.
 use mathlib.Core.Path.{_≡_, refl, sym, ap₂, _∙_, subst}
-use mathlib.Core.List.{List, [], _∷_, _++_, map, List·Memᴰ}
-use mathlib.Core.List.{List·Memᴰ·append-cases, Memᴰ·append-left, Memᴰ·append-right}
-use mathlib.Core.Logic.{_⊎_, _↔_, ⊎-elim}
+use mathlib.Core.List.{List, [], _∷_, _++_, List·Memᴰ, List·Memᴰ·append-cases, Memᴰ·append-left, Memᴰ·append-right}
+use mathlib.Core.Logic.{_↔_, ⊎-elim}
 use Prim.Native.Nat.{ℕ, suc}
 use native.Mathlib.Omega.{arith}
 use Rattle.cut_lists.specs.All.{All, all-none, all-more}
 use Rattle.par1_rules.specs.Layout.{dataOf}
-use Rattle.par1_read.specs.Reading.{entriesIn, readOf}
+use Rattle.par1_read.specs.Reading.{entriesIn}
 use Rattle.par1_read.specs.declared.reading.Reading.{Reading}
 use Rattle.comparing.specs.Claim.{IsAccepted}
 use Rattle.comparing.specs.Lines.{Line, head, entry, all, run, refused}

@@ -1,14 +1,13 @@
--- `comparing::lists::put_all` meets its contract.
+-- `comparing::lists::put_all` meets its contract. The loop's invariant: the lines on the entries that remain, put after those so far, are all of
+-- them.
 -- Assumes nothing.
-use mathlib.Core.Path.{_≡_, refl, sym, ap, ap₂, _∙_, subst}
-use mathlib.Core.Logic.{⊎-elim}
-use Prim.Native.Nat.{ℕ, _≤_, _<_, _-_, _+_, _*_}
+use mathlib.Core.Path.{_≡_, refl, sym, ap, _∙_}
+use Prim.Native.Nat.{_≤_, _-_, _+_}
 use native.Mathlib.Omega.{arith}
-use lib.ListN.{length, getD, set, length-set}
+use lib.ListN.{length, drop}
 use denote.Ref.{now}
 use Rattle.text.specs.Buffer.{buffer, usizeMax, put}
 use Rattle.text.proofs.BufferLaws.{put-nil, put-rest}
-use lib.ListN.{drop}
 use Rattle.entries.specs.Walk.{entriesOf}
 use Rattle.comparing.specs.Lines.{textOf}
 use Rattle.comparing.specs.Differences.{allLines}
@@ -16,10 +15,6 @@ use Rattle.comparing.proofs.ListLaws.{EntryHere, entry-here, entry-none
 use borrow.Author.Needs.{needs}
 use Rattle.comparing.proofs.lists.put_all.Statement.{statement}
 use Rattle.comparing.proofs.lists.put_all.Tie as tie
-use Rattle.comparing.proofs.lists.put_all.Reads as reads
-use Rattle.comparing.proofs.lists.put_all.Lts as lts
-use Rattle.comparing.proofs.lines.put_entry.Reads as put-entry-reads
-use Rattle.comparing.proofs.lists.length_at.Reads as length-at-reads
 
 abbrev Inv-loop : tie.InvT-loop
 Inv-loop out₀ to first list start at₀ place₀ from₀ t10 out at place from =
@@ -33,48 +28,28 @@ abbrev μ-loop : tie.MeasureT-loop
 here : (c : tie.Else1 Inv-loop μ-loop) → EntryHere (now (c .before .before .before .before .before .args .list)) (c .before .before .loop .from) (c .before .length-at .result)
 here c = entry-here _ _ (c .before .length-at .ensures) (c .if1 .left)
 
--- src/lists.rt:50:5
 loop-holds : tie.Need-loop-holds Inv-loop μ-loop
 loop-holds c = (refl, omega arith, c .before .before .pre, refl)
 
--- src/lists.rt:51:13
-length-at-requires : tie.Need-length-at-requires Inv-loop μ-loop
-length-at-requires c κs = search needs
-
--- src/lists.rt:53:13
-same-length : tie.Need-same-length Inv-loop μ-loop
-same-length c = omega arith
-
--- src/lists.rt:53:13
 returns : tie.Need-returns Inv-loop μ-loop
-returns c = let l = c .before .before .loop in
+returns c =
+    let l = c .before .before .loop in
     let list = now (c .before .before .before .before .before .args .list) in
     let none = none-lacking (l .place) (entry-none list (l .from) (c .before .length-at .ensures) (c .if1 .taken)) in
     sym (put-nil (l .out) (l .at) (l .inv .1)) ∙ ap (put (buffer (l .out) (l .at))) (sym none) ∙ l .inv .3
 
--- src/lists.rt:55:47
-slice-aggregate-put-entry : tie.Need-slice-aggregate-put-entry Inv-loop μ-loop
-slice-aggregate-put-entry c = omega arith
-
--- src/lists.rt:55:9
-put-entry-requires : tie.Need-put-entry-requires Inv-loop μ-loop
-put-entry-requires c κs = search needs
-
--- src/lists.rt:56:9
 add-place : tie.Need-add-place Inv-loop μ-loop
 add-place c = let i = here (c .before .before .before .before .before) in omega (arith, i .low, i .fits)
 
--- src/lists.rt:57:9
 add-from : tie.Need-add-from Inv-loop μ-loop
 add-from c = let i = here (c .before .before .before .before .before) in omega (arith, i .low, i .fits)
 
--- src/lists.rt:50:5
 loop-less : tie.Need-loop-less Inv-loop μ-loop
 loop-less c = let i = here (c .before .before .before .before .before) in omega (arith, i .low, i .fits)
 
--- src/lists.rt:50:5
 loop-again : tie.Need-loop-again Inv-loop μ-loop
-loop-again c = let l = c .before .before .before .before .before .before .before .loop in
+loop-again c =
+    let l = c .before .before .before .before .before .before .before .loop in
     let i = here (c .before .before .before .before .before) in
     let put-one = c .before .before .put-entry in (
       put-one .kept .0 ∙ l .inv .0,
@@ -92,11 +67,11 @@ put-all-spec =
     Inv-loop
     μ-loop
     loop-holds
-    length-at-requires
-    same-length
+    (λ c κs. search needs)
+    (λ c. omega arith)
     returns
-    slice-aggregate-put-entry
-    put-entry-requires
+    (λ c. omega arith)
+    (λ c κs. search needs)
     add-place
     add-from
     loop-less

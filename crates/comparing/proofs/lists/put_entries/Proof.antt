@@ -1,28 +1,21 @@
--- `comparing::lists::put_entries` meets its contract.
+-- `comparing::lists::put_entries` meets its contract. The loop's invariant: the lines on the entries that remain, put after those so far, are
+-- all of them.
 -- Assumes nothing.
-use mathlib.Core.Path.{_≡_, refl, sym, ap, ap₂, _∙_, subst}
-use mathlib.Core.Logic.{⊎-elim}
-use Prim.Native.Nat.{ℕ, _≤_, _<_, _-_, _+_, _*_}
+use mathlib.Core.Path.{_≡_, refl, sym, ap, ap₂, _∙_}
+use Prim.Native.Nat.{ℕ, _≤_, _-_, _+_}
 use native.Mathlib.Omega.{arith}
-use lib.ListN.{length, getD, set, length-set}
+use lib.ListN.{length, drop}
 use denote.Ref.{now}
 use Rattle.text.specs.Buffer.{buffer, usizeMax, put}
 use Rattle.text.proofs.BufferLaws.{put-rest}
-use lib.ListN.{drop}
 use mathlib.Core.List.{List, map, _++_}
 use Rattle.entries.specs.Walk.{entriesOf}
 use Rattle.comparing.specs.Lines.{Line, entry, textOf}
-use Rattle.comparing.specs.Differences.{entryTable, differing, allLines, entryLines}
+use Rattle.comparing.specs.Differences.{entryTable, differing, entryLines}
 use Rattle.comparing.proofs.ListLaws.{EntryHere, entry-here, entry-none, lines-left, lines-right, lines-more}
 use borrow.Author.Needs.{needs}
 use Rattle.comparing.proofs.lists.put_entries.Statement.{statement}
 use Rattle.comparing.proofs.lists.put_entries.Tie as tie
-use Rattle.comparing.proofs.lists.put_entries.Reads as reads
-use Rattle.comparing.proofs.lists.put_entries.Lts as lts
-use Rattle.comparing.proofs.fields.put_fields.Reads as put-fields-reads
-use Rattle.comparing.proofs.lists.length_at.Reads as length-at-reads
-use Rattle.comparing.proofs.lists.put_all.Reads as put-all-reads
-use Rattle.par1_rules.proofs.layout.part.Reads as part-reads
 
 abbrev Inv-loop : tie.InvT-loop
 Inv-loop out₀ start one two at₀ place₀ i₀ j₀ out at place i j =
@@ -40,83 +33,42 @@ one-here c = entry-here _ _ (c .before .before .before .length-at .ensures) (c .
 two-here : (c : tie.Else2 Inv-loop μ-loop) → EntryHere (now (c .before .before .before .before .before .before .before .before .args .two)) (c .before .before .before .before .loop .j) (c .before .length-at2 .result)
 two-here c = entry-here _ _ (c .before .length-at2 .ensures) (c .if2 .left)
 
--- src/lists.rt:25:5
 loop-holds : tie.Need-loop-holds Inv-loop μ-loop
 loop-holds c = (refl, omega arith, omega arith, omega arith, refl)
 
--- src/lists.rt:26:13
-length-at-requires : tie.Need-length-at-requires Inv-loop μ-loop
-length-at-requires c κs = search needs
-
--- src/lists.rt:28:13
-put-all-requires : tie.Need-put-all-requires Inv-loop μ-loop
-put-all-requires c κs = search needs
-
--- src/lists.rt:28:13
-same-length : tie.Need-same-length Inv-loop μ-loop
-same-length c = omega arith
-
--- src/lists.rt:28:13
 returns : tie.Need-returns Inv-loop μ-loop
-returns c = let l = c .before .before .before .before .before .before .loop in
+returns c =
+    let l = c .before .before .before .before .before .before .loop in
     let s = c .before .before .before .before .before .before .before .before .before .before in
     let none = entry-none (now (s .args .one)) (l .i) (c .before .before .before .before .before .length-at .ensures) (c .before .before .before .before .if1 .taken) in
     c .before .before .put-all .ensures
     ∙ ap (λ (ls : List Line). put (buffer (l .out) (l .at)) (textOf ls)) (sym (lines-left (l .place) _ none))
     ∙ l .inv .4
 
--- src/lists.rt:30:13
-length-at-requires-2 : tie.Need-length-at-requires-2 Inv-loop μ-loop
-length-at-requires-2 c κs = search needs
-
--- src/lists.rt:32:13
-put-all-requires-2 : tie.Need-put-all-requires-2 Inv-loop μ-loop
-put-all-requires-2 c κs = search needs
-
--- src/lists.rt:32:13
-same-length-2 : tie.Need-same-length-2 Inv-loop μ-loop
-same-length-2 c = omega arith
-
--- src/lists.rt:32:13
 returns-2 : tie.Need-returns-2 Inv-loop μ-loop
-returns-2 c = let l = c .before .before .before .before .before .before .before .before .loop in
+returns-2 c =
+    let l = c .before .before .before .before .before .before .before .before .loop in
     let s = c .before .before .before .before .before .before .before .before .before .before .before .before in
     let none = entry-none (now (s .args .two)) (l .j) (c .before .before .before .before .before .length-at2 .ensures) (c .before .before .before .before .if2 .taken) in
     c .before .before .put-all2 .ensures
     ∙ ap (λ (ls : List Line). put (buffer (l .out) (l .at)) (textOf ls)) (sym (lines-right (l .place) _ none))
     ∙ l .inv .4
 
--- src/lists.rt:34:49
-part-requires : tie.Need-part-requires Inv-loop μ-loop
-part-requires c κs = search needs
-
--- src/lists.rt:34:66
-part-requires-2 : tie.Need-part-requires-2 Inv-loop μ-loop
-part-requires-2 c κs = search needs
-
--- src/lists.rt:34:9
-put-fields-requires : tie.Need-put-fields-requires Inv-loop μ-loop
-put-fields-requires c κs = search needs
-
--- src/lists.rt:35:9
 add-place : tie.Need-add-place Inv-loop μ-loop
 add-place c = let i = one-here (c .before .before .before .before .before .before) in omega (arith, i .low, i .fits)
 
--- src/lists.rt:36:9
 add-i : tie.Need-add-i Inv-loop μ-loop
 add-i c = let i = one-here (c .before .before .before .before .before .before) in omega (arith, i .low, i .fits)
 
--- src/lists.rt:37:9
 add-j : tie.Need-add-j Inv-loop μ-loop
 add-j c = let j = two-here (c .before .before .before .before .before .before) in omega (arith, j .low, j .fits)
 
--- src/lists.rt:25:5
 loop-less : tie.Need-loop-less Inv-loop μ-loop
 loop-less c = let i = one-here (c .before .before .before .before .before .before) in omega (arith, i .low, i .fits)
 
--- src/lists.rt:25:5
 loop-again : tie.Need-loop-again Inv-loop μ-loop
-loop-again c = let l = c .before .before .before .before .before .before .before .before .before .before .loop in
+loop-again c =
+    let l = c .before .before .before .before .before .before .before .before .before .before .loop in
     let s = c .before .before .before .before .before .before .before .before .before .before .before .before .before .before in
     let i = one-here (c .before .before .before .before .before .before) in
     let j = two-here (c .before .before .before .before .before .before) in
@@ -139,17 +91,17 @@ put-entries-spec =
     Inv-loop
     μ-loop
     loop-holds
-    length-at-requires
-    put-all-requires
-    same-length
+    (λ c κs. search needs)
+    (λ c κs. search needs)
+    (λ c. omega arith)
     returns
-    length-at-requires-2
-    put-all-requires-2
-    same-length-2
+    (λ c κs. search needs)
+    (λ c κs. search needs)
+    (λ c. omega arith)
     returns-2
-    part-requires
-    part-requires-2
-    put-fields-requires
+    (λ c κs. search needs)
+    (λ c κs. search needs)
+    (λ c κs. search needs)
     add-place
     add-i
     add-j

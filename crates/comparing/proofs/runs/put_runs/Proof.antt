@@ -1,27 +1,20 @@
--- `comparing::runs::put_runs` meets its contract.
+-- `comparing::runs::put_runs` meets its contract. The loop's invariant: the lines on the runs from the position on, put after those so far, are all of
+-- them.
 -- Assumes nothing.
-use mathlib.Core.Path.{_≡_, refl, sym, ap, ap₂, _∙_, subst}
-use mathlib.Core.Logic.{⊎-elim}
-use Prim.Native.Nat.{ℕ, _≤_, _<_, _-_, _+_, _*_}
+use mathlib.Core.Path.{_≡_, refl, sym, ap, _∙_}
+use Prim.Native.Nat.{ℕ, _≤_, _<_, _-_, max}
 use native.Mathlib.Omega.{arith}
-use lib.ListN.{length, getD, set, length-set}
+use lib.ListN.{length}
 use denote.Ref.{now}
 use Rattle.text.specs.Buffer.{buffer, usizeMax, put}
 use Rattle.text.proofs.BufferLaws.{put-nil, put-rest}
 use mathlib.Core.List.{List, _∷_, map, flatten}
-use Prim.Native.Nat.{max}
 use Rattle.comparing.specs.Lines.{textOf}
 use Rattle.comparing.specs.Runs.{Run, runOf, runLine, runLines, runsOf, runsFrom, differs}
 use Rattle.comparing.proofs.RunLaws.{runs-next, runs-none}
 use borrow.Author.Needs.{needs}
 use Rattle.comparing.proofs.runs.put_runs.Statement.{statement}
 use Rattle.comparing.proofs.runs.put_runs.Tie as tie
-use Rattle.comparing.proofs.runs.put_runs.Reads as reads
-use Rattle.comparing.proofs.runs.put_runs.Lts as lts
-use Rattle.comparing.proofs.lines.put_run.Reads as put-run-reads
-use Rattle.comparing.proofs.scan.agreement_from.Reads as agreement-from-reads
-use Rattle.comparing.proofs.scan.difference_from.Reads as difference-from-reads
-use Rattle.comparing.proofs.scan.greater.Reads as greater-reads
 
 abbrev Inv-loop : tie.InvT-loop
 Inv-loop out₀ start a b n at₀ from₀ out at from =
@@ -44,14 +37,10 @@ next c =
     runs-next _ _ _ (rw (sym most) at (c .before .before .difference-from .ensures)) (c .before .if1 .left) (omega (arith, c .agreement-from .ensures .0))
     (rw (sym most) at (c .agreement-from .ensures .1))
 
--- src/runs.rt:14:9
-greater-requires : tie.Need-greater-requires Inv-loop μ-loop
-greater-requires c κs = search needs
-
--- src/runs.rt:17:5
 loop-holds : tie.Need-loop-holds Inv-loop μ-loop
 unfolding runLines runsOf
-loop-holds c = let s = c .before .before .before .before in
+loop-holds c =
+    let s = c .before .before .before .before in
     let a = now (s .args .a) in
     let b = now (s .args .b) in
     let all : c .greater .result - 0 ≡ max (length a) (length b) = omega (arith, c .greater .ensures) in (
@@ -61,18 +50,10 @@ loop-holds c = let s = c .before .before .before .before in
       ap (λ (k : ℕ). put (buffer (now (s .args .out)) (s .args .start)) (textOf (map (λ r. runLine r) (runsFrom (differs a b) k 0)))) all,
     )
 
--- src/runs.rt:18:13
-difference-from-requires : tie.Need-difference-from-requires Inv-loop μ-loop
-difference-from-requires c κs = search needs
-
--- src/runs.rt:20:13
-same-length : tie.Need-same-length Inv-loop μ-loop
-same-length c = omega arith
-
--- src/runs.rt:20:13
 returns : tie.Need-returns Inv-loop μ-loop
 unfolding flatten
-returns c = let l = c .before .before .loop in
+returns c =
+    let l = c .before .before .loop in
     let s = c .before .before .before .before .before .before .before in
     let d = differs (now (s .args .a)) (now (s .args .b)) in
     let n = c .before .before .before .greater .result in
@@ -81,26 +62,16 @@ returns c = let l = c .before .before .loop in
     ∙ ap (λ (rs : List Run). put (buffer (l .out) (l .at)) (textOf (map (λ r. runLine r) rs))) (sym none)
     ∙ l .inv .3
 
--- src/runs.rt:22:13
-agreement-from-requires : tie.Need-agreement-from-requires Inv-loop μ-loop
-agreement-from-requires c κs = search needs
-
--- src/runs.rt:23:53
 sub-put-run : tie.Need-sub-put-run Inv-loop μ-loop
 sub-put-run c = omega (arith, next (c .before) .0)
 
--- src/runs.rt:23:9
-put-run-requires : tie.Need-put-run-requires Inv-loop μ-loop
-put-run-requires c κs = search needs
-
--- src/runs.rt:17:5
 loop-less : tie.Need-loop-less Inv-loop μ-loop
 loop-less c = omega (arith, next (c .before .before .before .before) .0, c .before .before .before .before .before .before .difference-from .ensures .low, c .before .before .before .before .agreement-from .ensures .0)
 
--- src/runs.rt:17:5
 loop-again : tie.Need-loop-again Inv-loop μ-loop
 unfolding flatten
-loop-again c = let l = c .before .before .before .before .before .before .before .loop in
+loop-again c =
+    let l = c .before .before .before .before .before .before .before .loop in
     let line = c .before .before .put-run in (
       l .inv .0,
       line .kept .0 ∙ l .inv .1,
@@ -116,13 +87,13 @@ put-runs-spec =
     (tie.spec
     Inv-loop
     μ-loop
-    greater-requires
+    (λ c κs. search needs)
     loop-holds
-    difference-from-requires
-    same-length
+    (λ c κs. search needs)
+    (λ c. omega arith)
     returns
-    agreement-from-requires
+    (λ c κs. search needs)
     sub-put-run
-    put-run-requires
+    (λ c κs. search needs)
     loop-less
     loop-again)

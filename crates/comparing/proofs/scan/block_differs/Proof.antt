@@ -1,17 +1,14 @@
--- `comparing::scan::block_differs` meets its contract.
+-- `comparing::scan::block_differs` meets its contract. The loop's invariant: while nothing was found, the bytes passed agree.
 -- Assumes nothing.
-use mathlib.Core.Path.{_≡_, refl, sym, ap, ap₂, _∙_, subst}
+use mathlib.Core.Path.{_≡_}
 use mathlib.Core.Logic.{⊎-elim}
-use Prim.Native.Nat.{ℕ, _≤_, _<_, _-_, _+_, _*_}
+use Prim.Native.Nat.{ℕ, _≤_, _<_, _-_, _+_}
 use native.Mathlib.Omega.{arith}
-use lib.ListN.{length, getD, set, length-set}
+use lib.ListN.{getD}
 use denote.Ref.{now}
 use borrow.Author.Count.{below-more}
-use borrow.Author.Needs.{needs}
 use Rattle.comparing.proofs.scan.block_differs.Statement.{statement}
 use Rattle.comparing.proofs.scan.block_differs.Tie as tie
-use Rattle.comparing.proofs.scan.block_differs.Reads as reads
-use Rattle.comparing.proofs.scan.block_differs.Lts as lts
 
 abbrev Inv-loop : tie.InvT-loop
 Inv-loop a b at found₀ i₀ found i = (i ≤ 256) × (found ≡ 0 → (p : ℕ) → p < at + i → at ≤ p → getD a p 0 ≡ getD b p 0)
@@ -19,37 +16,12 @@ Inv-loop a b at found₀ i₀ found i = (i ≤ 256) × (found ≡ 0 → (p : ℕ
 abbrev μ-loop : tie.MeasureT-loop
 μ-loop a b at found₀ i₀ found i = 256 - i
 
--- src/scan.rt:68:5
 loop-holds : tie.Need-loop-holds Inv-loop μ-loop
 loop-holds c = (omega arith, λ z p high low. absurd (omega arith))
 
--- src/scan.rt:69:14
-add-if1 : tie.Need-add-if1 Inv-loop μ-loop
-add-if1 c = omega arith
-
--- src/scan.rt:69:12
-shared-slice-read-if1 : tie.Need-shared-slice-read-if1 Inv-loop μ-loop
-shared-slice-read-if1 c = omega arith
-
--- src/scan.rt:69:27
-add-if1-2 : tie.Need-add-if1-2 Inv-loop μ-loop
-add-if1-2 c = omega arith
-
--- src/scan.rt:69:25
-shared-slice-read-if1-2 : tie.Need-shared-slice-read-if1-2 Inv-loop μ-loop
-shared-slice-read-if1-2 c = omega arith
-
--- src/scan.rt:72:9
-add-i : tie.Need-add-i Inv-loop μ-loop
-add-i c = omega arith
-
--- src/scan.rt:68:5
-loop-less : tie.Need-loop-less Inv-loop μ-loop
-loop-less c = omega arith
-
--- src/scan.rt:68:5
 loop-again : tie.Need-loop-again Inv-loop μ-loop
-loop-again c = let l = c .before .before .before .before .loop in
+loop-again c =
+    let l = c .before .before .before .before .loop in
     let s = c .before .before .before .before .before in
     let a = now (s .args .a) in
     let b = now (s .args .b) in
@@ -58,7 +30,6 @@ loop-again c = let l = c .before .before .before .before .loop in
     (λ w. (omega arith, λ z p high low. below-more (λ p. at ≤ p → getD a p 0 ≡ getD b p 0) (at + l .i) (l .inv .1 (omega arith)) (λ low. w .0 .left) p (omega arith) low))
     (c .if1 .came)
 
--- src/scan.rt:62:1
 returns : tie.Need-returns Inv-loop μ-loop
 returns c = let l = c .before .loop in λ z p high low. l .inv .1 z p (omega arith) low
 
@@ -69,11 +40,11 @@ block-differs-spec =
     Inv-loop
     μ-loop
     loop-holds
-    add-if1
-    shared-slice-read-if1
-    add-if1-2
-    shared-slice-read-if1-2
-    add-i
-    loop-less
+    (λ c. omega arith)
+    (λ c. omega arith)
+    (λ c. omega arith)
+    (λ c. omega arith)
+    (λ c. omega arith)
+    (λ c. omega arith)
     loop-again
     returns)
