@@ -14,7 +14,7 @@ use mathlib.Core.List.{List, [], _∷_, _++_, map, flatten, List·Memᴰ, List·
 use mathlib.Core.Logic.{_⊎_, _↔_, inl, inr, ⊎-elim}
 use Prim.Native.Nat.{ℕ, suc, _≤_}
 use native.Mathlib.Omega.{arith}
-use lib.ListN.{length}
+use lib.ListN.{length, getD}
 use Rattle.cut_lists.specs.All.{All, all-none, all-more}
 use Rattle.lent_bytes.specs.Equal.{equal}
 use Rattle.lent_bytes.proofs.EqualLaws.{equal-true, equal-same}
@@ -22,7 +22,8 @@ use Rattle.comparing.specs.Claim.{Pairwise, pairwise-none, pairwise-more
 use Rattle.comparing.specs.Lines.{HeadField, version-field, program-field, control-field, set-field, number-field}
 use Rattle.comparing.specs.Lines.{files-field, list-field, start-field, data-field}
 use Rattle.comparing.specs.Lines.{EntryField, length-field, status-field, size-field, md5-field, md5-16k-field, name-field, Line, lineText, textOf}
-use Rattle.comparing.specs.Differences.{Row, row, bytesAt, bytesFrom, headTable, entryTable, differing}
+use Rattle.comparing.specs.Differences.{Row, row, bytesFrom, headTable, entryTable, differing}
+use Rattle.comparing.proofs.MemberLaws.{mem-at}
 
 module _ {A : Type 0} (line : A → Line) (f g : List ℕ) where
   -- the text of the line on a row's field
@@ -115,48 +116,50 @@ module _ {A : Type 0} (f g : List ℕ) where
       by true q qs = qs
       by false q qs = pairwise-more q qs
 
--- ---- the two tables
+-- ---- the two tables, with the bytes of a field as its row has them
+
+abbrev headAt : HeadField → Row HeadField
+headAt version-field = getD headTable 0 (row version-field (bytesFrom 0))
+headAt program-field = getD headTable 1 (row program-field (bytesFrom 0))
+headAt control-field = getD headTable 2 (row control-field (bytesFrom 0))
+headAt set-field = getD headTable 3 (row set-field (bytesFrom 0))
+headAt number-field = getD headTable 4 (row number-field (bytesFrom 0))
+headAt files-field = getD headTable 5 (row files-field (bytesFrom 0))
+headAt list-field = getD headTable 6 (row list-field (bytesFrom 0))
+headAt start-field = getD headTable 7 (row start-field (bytesFrom 0))
+headAt data-field = getD headTable 8 (row data-field (bytesFrom 0))
 
 abbrev pub headBytes : HeadField → List ℕ → List ℕ
-headBytes version-field = bytesAt 8 4
-headBytes program-field = bytesAt 12 4
-headBytes control-field = bytesAt 16 16
-headBytes set-field = bytesAt 32 16
-headBytes number-field = bytesAt 48 8
-headBytes files-field = bytesAt 56 8
-headBytes list-field = bytesAt 72 8
-headBytes start-field = bytesAt 80 8
-headBytes data-field = bytesAt 88 8
+headBytes h = headAt h .bytes
 
 pub head-table : IsTable headBytes headTable
 head-table = record { right = rows; whole = find }
   where
     rows : All (λ r. (f : List ℕ) → r .bytes f ≡ headBytes (r .field) f) headTable
     rows =
-        all-more (λ f. refl) (all-more (λ f. refl) (all-more (λ f. refl) (all-more (λ f. refl) (all-more (λ f. refl)
-        (all-more (λ f. refl) (all-more (λ f. refl) (all-more (λ f. refl) (all-more (λ f. refl) all-none))))))))
+        all-more (λ f. refl) (all-more (λ f. refl) (all-more (λ f. refl) (all-more (λ f. refl) (all-more (λ f. refl) (all-more (λ f. refl) (all-more (λ f. refl) (all-more (λ f. refl) (all-more (λ f. refl) all-none))))))))
 
     find : (h : HeadField) → List·Memᴰ (row h (headBytes h)) headTable
-    find version-field = List·Memᴰ·head refl
-    find program-field = List·Memᴰ·tail (List·Memᴰ·head refl)
-    find control-field = List·Memᴰ·tail (List·Memᴰ·tail (List·Memᴰ·head refl))
-    find set-field = List·Memᴰ·tail (List·Memᴰ·tail (List·Memᴰ·tail (List·Memᴰ·head refl)))
-    find number-field = List·Memᴰ·tail (List·Memᴰ·tail (List·Memᴰ·tail (List·Memᴰ·tail (List·Memᴰ·head refl))))
-    find files-field = List·Memᴰ·tail (List·Memᴰ·tail (List·Memᴰ·tail (List·Memᴰ·tail (List·Memᴰ·tail (List·Memᴰ·head refl)))))
-    find list-field =
-        List·Memᴰ·tail (List·Memᴰ·tail (List·Memᴰ·tail (List·Memᴰ·tail (List·Memᴰ·tail (List·Memᴰ·tail (List·Memᴰ·head refl))))))
-    find start-field =
-        List·Memᴰ·tail (List·Memᴰ·tail (List·Memᴰ·tail (List·Memᴰ·tail (List·Memᴰ·tail (List·Memᴰ·tail (List·Memᴰ·tail (List·Memᴰ·head refl)))))))
-    find data-field =
-        List·Memᴰ·tail (List·Memᴰ·tail (List·Memᴰ·tail (List·Memᴰ·tail (List·Memᴰ·tail (List·Memᴰ·tail (List·Memᴰ·tail (List·Memᴰ·tail (List·Memᴰ·head refl))))))))
+    find version-field = mem-at (row version-field (bytesFrom 0)) headTable 0 (omega arith)
+    find program-field = mem-at (row program-field (bytesFrom 0)) headTable 1 (omega arith)
+    find control-field = mem-at (row control-field (bytesFrom 0)) headTable 2 (omega arith)
+    find set-field = mem-at (row set-field (bytesFrom 0)) headTable 3 (omega arith)
+    find number-field = mem-at (row number-field (bytesFrom 0)) headTable 4 (omega arith)
+    find files-field = mem-at (row files-field (bytesFrom 0)) headTable 5 (omega arith)
+    find list-field = mem-at (row list-field (bytesFrom 0)) headTable 6 (omega arith)
+    find start-field = mem-at (row start-field (bytesFrom 0)) headTable 7 (omega arith)
+    find data-field = mem-at (row data-field (bytesFrom 0)) headTable 8 (omega arith)
+
+abbrev entryAt : EntryField → Row EntryField
+entryAt length-field = getD entryTable 0 (row length-field (bytesFrom 0))
+entryAt status-field = getD entryTable 1 (row status-field (bytesFrom 0))
+entryAt size-field = getD entryTable 2 (row size-field (bytesFrom 0))
+entryAt md5-field = getD entryTable 3 (row md5-field (bytesFrom 0))
+entryAt md5-16k-field = getD entryTable 4 (row md5-16k-field (bytesFrom 0))
+entryAt name-field = getD entryTable 5 (row name-field (bytesFrom 0))
 
 abbrev pub entryBytes : EntryField → List ℕ → List ℕ
-entryBytes length-field = bytesAt 0 8
-entryBytes status-field = bytesAt 8 8
-entryBytes size-field = bytesAt 16 8
-entryBytes md5-field = bytesAt 24 16
-entryBytes md5-16k-field = bytesAt 40 16
-entryBytes name-field = bytesFrom 56
+entryBytes e = entryAt e .bytes
 
 pub entry-table : IsTable entryBytes entryTable
 entry-table = record { right = rows; whole = find }
@@ -166,9 +169,9 @@ entry-table = record { right = rows; whole = find }
         all-more (λ f. refl) (all-more (λ f. refl) (all-more (λ f. refl) (all-more (λ f. refl) (all-more (λ f. refl) (all-more (λ f. refl) all-none)))))
 
     find : (e : EntryField) → List·Memᴰ (row e (entryBytes e)) entryTable
-    find length-field = List·Memᴰ·head refl
-    find status-field = List·Memᴰ·tail (List·Memᴰ·head refl)
-    find size-field = List·Memᴰ·tail (List·Memᴰ·tail (List·Memᴰ·head refl))
-    find md5-field = List·Memᴰ·tail (List·Memᴰ·tail (List·Memᴰ·tail (List·Memᴰ·head refl)))
-    find md5-16k-field = List·Memᴰ·tail (List·Memᴰ·tail (List·Memᴰ·tail (List·Memᴰ·tail (List·Memᴰ·head refl))))
-    find name-field = List·Memᴰ·tail (List·Memᴰ·tail (List·Memᴰ·tail (List·Memᴰ·tail (List·Memᴰ·tail (List·Memᴰ·head refl)))))
+    find length-field = mem-at (row length-field (bytesFrom 0)) entryTable 0 (omega arith)
+    find status-field = mem-at (row status-field (bytesFrom 0)) entryTable 1 (omega arith)
+    find size-field = mem-at (row size-field (bytesFrom 0)) entryTable 2 (omega arith)
+    find md5-field = mem-at (row md5-field (bytesFrom 0)) entryTable 3 (omega arith)
+    find md5-16k-field = mem-at (row md5-16k-field (bytesFrom 0)) entryTable 4 (omega arith)
+    find name-field = mem-at (row name-field (bytesFrom 0)) entryTable 5 (omega arith)

@@ -1,6 +1,7 @@
 -- Elements of lists.
 --
 --   none-in              a list without elements is empty
+--   mem-at               the element at a place is one
 --   all-mem, mem-all     what holds of all elements, and of each
 --   all-append, all-mapped     it holds of all elements of two lists, and of all images
 --   pairwise-append, pairwise-mapped     so with what holds of each two elements
@@ -8,6 +9,9 @@
 use mathlib.Core.Path.{_≡_, refl, sym, subst}
 use mathlib.Core.List.{List, [], _∷_, _++_, map, List·Memᴰ, List·Memᴰ·head, List·Memᴰ·tail, List·Memᴰ·not-nil, List·Memᴰ·cases-cons}
 use mathlib.Core.Logic.{_⊎_, inl, inr}
+use Prim.Native.Nat.{ℕ, zero, suc, _<_}
+use native.Mathlib.Omega.{arith}
+use lib.ListN.{length, getD}
 use Rattle.cut_lists.specs.All.{All, all-none, all-more}
 use Rattle.comparing.specs.Claim.{Pairwise, pairwise-none, pairwise-more}
 
@@ -15,6 +19,11 @@ module _ {A : Type 0} where
   pub none-in : (xs : List A) → ((x : A) → List·Memᴰ x xs → ⊥) → xs ≡ []
   none-in [] h = refl
   none-in (x ∷ xs) h = absurd (h x (List·Memᴰ·head refl))
+
+  pub mem-at : (d : A) (xs : List A) (i : ℕ) → i < length xs → List·Memᴰ (getD xs i d) xs
+  mem-at d [] i h = absurd (omega arith)
+  mem-at d (x ∷ xs) zero h = List·Memᴰ·head refl
+  mem-at d (x ∷ xs) (suc i) h = List·Memᴰ·tail (mem-at d xs i (omega arith))
 
   pub all-mem : {P : A → Type 0} {xs : List A} {x : A} → All P xs → List·Memᴰ x xs → P x
   all-mem all-none m = absurd (List·Memᴰ·not-nil m)
