@@ -137,7 +137,8 @@ head-table = record { right = rows; whole = find }
   where
     rows : All (λ r. (f : List ℕ) → r .bytes f ≡ headBytes (r .field) f) headTable
     rows =
-        all-more (λ f. refl) (all-more (λ f. refl) (all-more (λ f. refl) (all-more (λ f. refl) (all-more (λ f. refl) (all-more (λ f. refl) (all-more (λ f. refl) (all-more (λ f. refl) (all-more (λ f. refl) all-none))))))))
+        all-more (λ f. refl) (all-more (λ f. refl) (all-more (λ f. refl) (all-more (λ f. refl) (all-more (λ f. refl)
+        (all-more (λ f. refl) (all-more (λ f. refl) (all-more (λ f. refl) (all-more (λ f. refl) all-none))))))))
 
     find : (h : HeadField) → List·Memᴰ (row h (headBytes h)) headTable
     find version-field = mem-at (row version-field (bytesFrom 0)) headTable 0 (omega arith)

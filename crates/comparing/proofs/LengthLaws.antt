@@ -156,8 +156,19 @@ module _ (f g : List ℕ) (a : IsAccepted f) (b : IsAccepted g) where
       let t = sizes g b in
       let lists : List Line = entryLines 1 (entriesIn f) (entriesIn g) in
       let runs : List Line = runLines (dataOf f) (dataOf g) in
-      omega
-      (arith, ap length (lines-are f g a b), length-append (headLines f g) (lists ++ runs), length-append lists runs, heads-count f g, list-count 1 (entriesIn f) (entriesIn g), runs-count (dataOf f) (dataOf g), s .entries-most, s .data-most, t .entries-most, t .data-most)
+      omega (
+        arith,
+        ap length (lines-are f g a b),
+        length-append (headLines f g) (lists ++ runs),
+        length-append lists runs,
+        heads-count f g,
+        list-count 1 (entriesIn f) (entriesIn g),
+        runs-count (dataOf f) (dataOf g),
+        s .entries-most,
+        s .data-most,
+        t .entries-most,
+        t .data-most,
+      )
 
   place-most : (p : ℕ) → (p < 1 + length (entriesIn f)) ⊎ (p < 1 + length (entriesIn g)) → p < 2 ^ 64
   place-most p (inl h) = omega (arith, sizes f a .entries-most)

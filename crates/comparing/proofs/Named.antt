@@ -25,7 +25,7 @@ use Rattle.entries.proofs.EntryLaws.{length-sized}
 use Rattle.par1_rules.specs.Layout.{listSizeOf, dataSizeOf, listOf, dataOf}
 use Rattle.par1_read.specs.Reading.{entriesIn}
 use Rattle.par1_read.proofs.ReadingLaws.{read-tells}
-use Rattle.comparing.specs.Claim.{IsAccepted, Compared, HeadDiffers, EntryDiffers, OnlyOne, byteAt, InRun, HeadNamed, EntryNamed, AllNamed, DataNamed}
+use Rattle.comparing.specs.Claim.{IsAccepted, Compared, HeadDiffers, entryAt, EntryDiffers, OnlyOne, byteAt, InRun, HeadNamed, EntryNamed, AllNamed, DataNamed}
 use Rattle.comparing.specs.Lines.{HeadField, version-field, program-field, control-field, set-field, number-field}
 use Rattle.comparing.specs.Lines.{files-field, list-field, start-field, data-field}
 use Rattle.comparing.specs.Lines.{EntryField, length-field, status-field, size-field, md5-field, md5-16k-field, name-field, head, entry, all}
@@ -124,9 +124,10 @@ pub entry-named : EntryNamed
 entry-named f g c p e =
     let lines = in-list f g (c .accepted-one) (c .accepted-two) {l = entry p e} refl in
     let fields = entry-iff p e 1 (entriesIn f) (entriesIn g) in
-    let values : (p - 1 < length (entriesIn f)) → (p - 1 < length (entriesIn g))
-    → (entryBytes e (getD (entriesIn f) (p - 1) []) ≡ entryBytes e (getD (entriesIn g) (p - 1) []) → ⊥) ↔ EntryDiffers e (getD (entriesIn f) (p - 1) []) (getD (entriesIn g) (p - 1) []) =
-    λ a b. entry-differs _ _ (all-at [] (list-right f (c .bytes-one)) (p - 1) a) (all-at [] (list-right g (c .bytes-two)) (p - 1) b) e in (
+    let x : List ℕ = entryAt f p in
+    let y : List ℕ = entryAt g p in
+    let values : (p - 1 < length (entriesIn f)) → (p - 1 < length (entriesIn g)) → (entryBytes e x ≡ entryBytes e y → ⊥) ↔ EntryDiffers e x y =
+    λ a b. entry-differs x y (all-at [] (list-right f (c .bytes-one)) (p - 1) a) (all-at [] (list-right g (c .bytes-two)) (p - 1) b) e in (
       λ m.
           let h = fields .0 (lines .0 m) in
           let low = h .low in
@@ -149,7 +150,8 @@ all-named f g c p =
       λ m.
           let h = alls .0 (lines .0 m) in
           let low = h .0 in
-          ⊎-elim (λ o. inl ((low, omega (arith, o .0)), λ q. o .1 (omega (arith, q .1)))) (λ o. inr (λ q. o .0 (omega (arith, q .1)), (low, omega (arith, o .1)))) (h .1),
+          ⊎-elim (λ o. inl ((low, omega (arith, o .0)), λ q. o .1 (omega (arith, q .1))))
+          (λ o. inr (λ q. o .0 (omega (arith, q .1)), (low, omega (arith, o .1)))) (h .1),
       λ h.
           lines .1 (alls .1
           (⊎-elim (λ o. (o .0 .0, inl (omega (arith, o .0 .1), λ q. o .1 (o .0 .0, omega (arith, q)))))

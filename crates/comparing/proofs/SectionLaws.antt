@@ -66,7 +66,8 @@ module _ (f g : List ℕ) (accepted-one : IsAccepted f) (accepted-two : IsAccept
     pub in-head : kindOf l ≡ 0 → List·Memᴰ l (linesOf f g) ↔ List·Memᴰ l (headLines f g)
     in-head is = (
       λ m. ⊎-elim (λ m. m)
-          (λ m. absurd (⊎-elim (part-of (λ e. omega arith) (list-kind 1 (entriesIn f) (entriesIn g)) is) (part-of (λ e. omega arith) (run-kind (dataOf f) (dataOf g)) is)
+          (λ m. absurd (⊎-elim (part-of (λ e. omega arith) (list-kind 1 (entriesIn f) (entriesIn g)) is)
+          (part-of (λ e. omega arith) (run-kind (dataOf f) (dataOf g)) is)
           (List·Memᴰ·append-cases (entryLines 1 (entriesIn f) (entriesIn g)) m)))
           (List·Memᴰ·append-cases (headLines f g) (subst (List·Memᴰ l) lines-are m)),
       λ m. subst (List·Memᴰ l) (sym lines-are) (Memᴰ·append-left _ m),

@@ -1,6 +1,6 @@
 // What C sees: the libraries' calls on numbers, byte slices and a running hash, as include/par1.h declares them. Each answers 0, or the
-// document's number of a refusal; five of them tell the place of the refusal, or the length that they wrote, too, in one number. A refusal changes no byte, save that the end
-// of a job ends it also where it is refused, unless with 20.
+// document's number of a refusal; five of them tell the place of the refusal too, or the length that they wrote, in one number. A refusal
+// changes no byte, save that the end of a job ends it also where it is refused, unless with 20.
 ghost use mathlib.Core.Path.{_≡_};
 ghost use Prim.Native.Nat.{_^_, _<_};
 ghost use Rattle.gf256.specs.Answer.{inverseAnswer};

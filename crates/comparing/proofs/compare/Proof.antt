@@ -17,9 +17,11 @@ returns c =
 
 returns-2 : tie.Need-returns-2
 returns-2 c =
-    let s = c .before .before .before .before .before .before .before .before .before .before .before .before .before .before .before in
-    fit-written (comparisonOf (now (s .args .one)) (now (s .args .two))) (now (s .args .out)) (c .before .before .before .before .before .before .before .before .put-comparison .ensures)
-    (omega arith) (c .before .before .before .before .if2 .taken) (c .before .before .put-comparison2 .ensures)
+    let test = c .before .before .before .before in
+    let measured = test .before .before .before .before in
+    let s = measured .before .before .before .before .before .before .before in
+    fit-written (comparisonOf (now (s .args .one)) (now (s .args .two))) (now (s .args .out)) (measured .put-comparison .ensures) (omega arith)
+    (test .if2 .taken) (c .before .before .put-comparison2 .ensures)
 
 returns-3 : tie.Need-returns-3
 returns-3 c =

@@ -20,37 +20,52 @@ use Rattle.comparing.proofs.put_comparison.Tie as tie
 
 returns : tie.Need-returns
 returns c =
-    let s = c .before .before .before .before .before .before .before .before .before .before .before .before .before in
+    let second = c .before .before in
+    let first = second .before .before .before .before in
+    let told = first .before .before in
+    let s = told .before .before .before .before .before in
     let here = buffer (now (s .args .out)) 0 in
-    let first = sym (s .pre .0) ∙ c .before .before .before .before .before .before .before .before .enum-told .given .1 in
-    put-then here _ _ (omega (arith, s .good .0 .0)) (c .before .before .before .before .before .before .put-refusal .ensures) (c .before .before .put-refusal2 .ensures)
+    put-then here _ _ (omega (arith, s .good .0 .0)) (first .put-refusal .ensures) (second .put-refusal2 .ensures)
     ∙ ap₂ (λ (r q : Reading). put here (textOf (refusalLines 1 r) ++ textOf (refusalLines 2 q))) (s .pre .0) (s .pre .1)
-    ∙ ap (put here) (sym (comparison-refused (now (s .args .one)) (now (s .args .two)) first))
+    ∙ ap (put here) (sym (comparison-refused (now (s .args .one)) (now (s .args .two)) (sym (s .pre .0) ∙ told .enum-told .given .1)))
 
 returns-2 : tie.Need-returns-2
 returns-2 c =
-    let s = c .before .before .before .before .before .before .before .before .before .before .before .before in
+    let told = c .before .before .before .before in
+    let accepted = told .before .before .before in
+    let s = accepted .before .before .before .before .before in
     let here = buffer (now (s .args .out)) 0 in
-    let first = sym (s .pre .0) ∙ c .before .before .before .before .before .before .before .first .given .1 in
-    let second = sym (s .pre .1) ∙ c .before .before .before .before .enum-told2 .given .1 in
+    let first = sym (s .pre .0) ∙ accepted .first .given .1 in
+    let second = sym (s .pre .1) ∙ told .enum-told2 .given .1 in
     c .before .before .put-refusal3 .ensures
     ∙ ap (λ (q : Reading). put here (textOf (refusalLines 2 q))) (s .pre .1)
     ∙ ap (put here) (sym (comparison-refused-2 (now (s .args .one)) (now (s .args .two)) first second))
 
 returns-3 : tie.Need-returns-3
 returns-3 c =
-    let s = c .before .before .before .before .before .before .before .before .before .before .before .before .before .before .before .before .before .before .before .before .before .before .before .before .before in
+    let runs = c .before .before in
+    let lists = runs .before .before .before .before .before .before in
+    let header = lists .before .before .before .before .before .before in
+    let two-accepted = header .before .before .before in
+    let one-accepted = two-accepted .before .before .before in
+    let s = one-accepted .before .before .before .before .before in
     let one : List ℕ = now (s .args .one) in
     let two : List ℕ = now (s .args .two) in
     let here = buffer (now (s .args .out)) 0 in
-    let first = sym (s .pre .0) ∙ c .before .before .before .before .before .before .before .before .before .before .before .before .before .before .before .before .before .before .before .before .first .given .1 in
-    let second = sym (s .pre .1) ∙ c .before .before .before .before .before .before .before .before .before .before .before .before .before .before .before .before .before .second .given .1 in
-    let lists = ap₂ (λ (a b : List ℕ). textOf (entryLines 1 (entriesOf a .pieces) (entriesOf b .pieces))) (c .before .before .before .before .before .before .before .before .before .before .before .part .ensures ∙ list-part one first) (c .before .before .before .before .before .before .before .before .before .before .part2 .ensures ∙ list-part two second) in
-    let runs = ap₂ (λ (a b : List ℕ). textOf (runLines a b)) (c .before .before .before .before .before .part3 .ensures ∙ data-part one first) (c .before .before .before .before .part4 .ensures ∙ data-part two second) in
-    let header = c .before .before .before .before .before .before .before .before .before .before .before .before .before .before .put-header in
-    let rest = put-then (buffer (header .last .0) (header .result)) _ _ (omega (arith, s .good .0 .0, header .kept .0)) (c .before .before .before .before .before .before .before .before .put-entries .ensures) (c .before .before .put-runs .ensures) in
-    put-then here _ _ (omega (arith, s .good .0 .0)) (header .ensures) rest
-    ∙ ap (put here) (ap₂ (λ (x y : List ℕ). textOf (headLines one two) ++ (x ++ y)) lists runs ∙ sym (comparison-accepted one two first second))
+    let there = buffer (header .put-header .last .0) (header .put-header .result) in
+    let first = sym (s .pre .0) ∙ one-accepted .first .given .1 in
+    let second = sym (s .pre .1) ∙ two-accepted .second .given .1 in
+    let list-text =
+    ap₂ (λ (a b : List ℕ). textOf (entryLines 1 (entriesOf a .pieces) (entriesOf b .pieces))) (lists .before .before .before .part .ensures ∙ list-part one first)
+    (lists .before .before .part2 .ensures ∙ list-part two second) in
+    let data-text =
+    ap₂ (λ (a b : List ℕ). textOf (runLines a b)) (runs .before .before .before .part3 .ensures ∙ data-part one first)
+    (runs .before .before .part4 .ensures ∙ data-part two second) in
+    let rest =
+    put-then there _ _ (omega (arith, s .good .0 .0, header .put-header .kept .0)) (lists .put-entries .ensures) (runs .put-runs .ensures) in
+    put-then here _ _ (omega (arith, s .good .0 .0)) (header .put-header .ensures) rest
+    ∙ ap (put here)
+    (ap₂ (λ (x y : List ℕ). textOf (headLines one two) ++ (x ++ y)) list-text data-text ∙ sym (comparison-accepted one two first second))
 
 pub put-comparison-spec : {M : Type 1} → statement M
 put-comparison-spec =

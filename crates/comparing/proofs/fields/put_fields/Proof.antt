@@ -26,7 +26,12 @@ same-length c =
     let c3 = c4 .before .before .before .before .before in
     let c2 = c3 .before .before .before .before .before in
     let c1 = c2 .before .before .before .before .before in
-    c6 .put-entry-field6 .kept .0 ∙ c5 .put-entry-field5 .kept .0 ∙ c4 .put-entry-field4 .kept .0 ∙ c3 .put-entry-field3 .kept .0 ∙ c2 .put-entry-field2 .kept .0 ∙ c1 .put-entry-field .kept .0
+    c6 .put-entry-field6 .kept .0
+    ∙ c5 .put-entry-field5 .kept .0
+    ∙ c4 .put-entry-field4 .kept .0
+    ∙ c3 .put-entry-field3 .kept .0
+    ∙ c2 .put-entry-field2 .kept .0
+    ∙ c1 .put-entry-field .kept .0
 
 returns : tie.Need-returns
 returns c =

@@ -14,7 +14,8 @@ returns c =
     simp (sym (c .before .same-part .ensures) ∙ c .if1 .taken) (sym (put-nil (now (s .args .out)) (s .args .at) (omega (arith, s .fits .at))))
 
 returns-2 : tie.Need-returns-2
-returns-2 c = simp (sym (c .before .before .before .before .before .same-part .ensures) ∙ c .before .before .before .before .if1 .left) (c .before .before .put-head .ensures)
+returns-2 c =
+    let other = c .before .before .before .before in simp (sym (other .before .same-part .ensures) ∙ other .if1 .left) (c .before .before .put-head .ensures)
 
 pub put-head-field-spec : {M : Type 1} → statement M
 put-head-field-spec =

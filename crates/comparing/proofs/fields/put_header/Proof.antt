@@ -23,7 +23,15 @@ same-length c =
     let c3 = c4 .before .before .before .before .before in
     let c2 = c3 .before .before .before .before .before in
     let c1 = c2 .before .before .before .before .before in
-    c9 .put-head-field9 .kept .0 ∙ c8 .put-head-field8 .kept .0 ∙ c7 .put-head-field7 .kept .0 ∙ c6 .put-head-field6 .kept .0 ∙ c5 .put-head-field5 .kept .0 ∙ c4 .put-head-field4 .kept .0 ∙ c3 .put-head-field3 .kept .0 ∙ c2 .put-head-field2 .kept .0 ∙ c1 .put-head-field .kept .0
+    c9 .put-head-field9 .kept .0
+    ∙ c8 .put-head-field8 .kept .0
+    ∙ c7 .put-head-field7 .kept .0
+    ∙ c6 .put-head-field6 .kept .0
+    ∙ c5 .put-head-field5 .kept .0
+    ∙ c4 .put-head-field4 .kept .0
+    ∙ c3 .put-head-field3 .kept .0
+    ∙ c2 .put-head-field2 .kept .0
+    ∙ c1 .put-head-field .kept .0
 
 returns : tie.Need-returns
 unfolding headLines

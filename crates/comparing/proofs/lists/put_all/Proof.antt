@@ -19,13 +19,16 @@ use Rattle.comparing.proofs.lists.put_all.Tie as tie
 abbrev Inv-loop : tie.InvT-loop
 Inv-loop out₀ to first list start at₀ place₀ from₀ t10 out at place from =
     (length out ≡ length out₀) × (at ≤ usizeMax) × (place ≤ from + 1)
-    × (put (buffer out at) (textOf (allLines place (entriesOf (drop from list) .pieces))) ≡ put (buffer out₀ to) (textOf (allLines first (entriesOf (drop start list) .pieces))))
+    × (put (buffer out at) (textOf (allLines place (entriesOf (drop from list) .pieces)))
+    ≡ put (buffer out₀ to) (textOf (allLines first (entriesOf (drop start list) .pieces))))
 
 abbrev μ-loop : tie.MeasureT-loop
 μ-loop out₀ to first list start at₀ place₀ from₀ t10 out at place from = length list - from
 
 -- the entry at hand
-here : (c : tie.Else1 Inv-loop μ-loop) → EntryHere (now (c .before .before .before .before .before .args .list)) (c .before .before .loop .from) (c .before .length-at .result)
+here : (c : tie.Else1 Inv-loop μ-loop)
+    → let l = c .before .before in
+    EntryHere (now (l .before .before .before .args .list)) (l .loop .from) (c .before .length-at .result)
 here c = entry-here _ _ (c .before .length-at .ensures) (c .if1 .left)
 
 loop-holds : tie.Need-loop-holds Inv-loop μ-loop

@@ -27,10 +27,14 @@ abbrev μ-loop : tie.MeasureT-loop
 μ-loop out₀ start one two at₀ place₀ i₀ j₀ out at place i j = length one - i
 
 -- the entries at hand
-one-here : (c : tie.Else2 Inv-loop μ-loop) → EntryHere (now (c .before .before .before .before .before .before .before .before .args .one)) (c .before .before .before .before .loop .i) (c .before .before .before .length-at .result)
+one-here : (c : tie.Else2 Inv-loop μ-loop)
+    → let l = c .before .before .before .before in
+    EntryHere (now (l .before .before .before .before .args .one)) (l .loop .i) (c .before .before .before .length-at .result)
 one-here c = entry-here _ _ (c .before .before .before .length-at .ensures) (c .before .before .if1 .left)
 
-two-here : (c : tie.Else2 Inv-loop μ-loop) → EntryHere (now (c .before .before .before .before .before .before .before .before .args .two)) (c .before .before .before .before .loop .j) (c .before .length-at2 .result)
+two-here : (c : tie.Else2 Inv-loop μ-loop)
+    → let l = c .before .before .before .before in
+    EntryHere (now (l .before .before .before .before .args .two)) (l .loop .j) (c .before .length-at2 .result)
 two-here c = entry-here _ _ (c .before .length-at2 .ensures) (c .if2 .left)
 
 loop-holds : tie.Need-loop-holds Inv-loop μ-loop
@@ -38,18 +42,18 @@ loop-holds c = (refl, omega arith, omega arith, omega arith, refl)
 
 returns : tie.Need-returns Inv-loop μ-loop
 returns c =
-    let l = c .before .before .before .before .before .before .loop in
-    let s = c .before .before .before .before .before .before .before .before .before .before in
-    let none = entry-none (now (s .args .one)) (l .i) (c .before .before .before .before .before .length-at .ensures) (c .before .before .before .before .if1 .taken) in
+    let over = c .before .before .before .before in
+    let l = over .before .before .loop in
+    let none = entry-none (now (over .before .before .before .before .before .before .args .one)) (l .i) (over .before .length-at .ensures) (over .if1 .taken) in
     c .before .before .put-all .ensures
     ∙ ap (λ (ls : List Line). put (buffer (l .out) (l .at)) (textOf ls)) (sym (lines-left (l .place) _ none))
     ∙ l .inv .4
 
 returns-2 : tie.Need-returns-2 Inv-loop μ-loop
 returns-2 c =
-    let l = c .before .before .before .before .before .before .before .before .loop in
-    let s = c .before .before .before .before .before .before .before .before .before .before .before .before in
-    let none = entry-none (now (s .args .two)) (l .j) (c .before .before .before .before .before .length-at2 .ensures) (c .before .before .before .before .if2 .taken) in
+    let over = c .before .before .before .before in
+    let l = over .before .before .before .before .loop in
+    let none = entry-none (now (over .before .before .before .before .before .before .before .before .args .two)) (l .j) (over .before .length-at2 .ensures) (over .if2 .taken) in
     c .before .before .put-all2 .ensures
     ∙ ap (λ (ls : List Line). put (buffer (l .out) (l .at)) (textOf ls)) (sym (lines-right (l .place) _ none))
     ∙ l .inv .4
@@ -68,19 +72,26 @@ loop-less c = let i = one-here (c .before .before .before .before .before .befor
 
 loop-again : tie.Need-loop-again Inv-loop μ-loop
 loop-again c =
-    let l = c .before .before .before .before .before .before .before .before .before .before .loop in
-    let s = c .before .before .before .before .before .before .before .before .before .before .before .before .before .before in
-    let i = one-here (c .before .before .before .before .before .before) in
-    let j = two-here (c .before .before .before .before .before .before) in
+    let known = c .before .before .before .before .before .before in
+    let n : ℕ = known .before .before .before .length-at .result in
+    let m : ℕ = known .before .length-at2 .result in
+    let l = known .before .before .before .before .loop in
+    let s = known .before .before .before .before .before .before .before .before in
+    let i = one-here known in
+    let j = two-here known in
     let fields = c .before .before .put-fields in
-    let parts = ap₂ (λ (e d : List ℕ). textOf (map (entry (l .place)) (differing entryTable e d))) (c .before .before .before .before .part .ensures) (c .before .before .before .part2 .ensures) in
-    let rest : List ℕ = textOf (entryLines (l .place + 1) (entriesOf (drop (l .i + c .before .before .before .before .before .before .before .before .before .length-at .result) (now (s .args .one))) .pieces) (entriesOf (drop (l .j + c .before .before .before .before .before .before .before .length-at2 .result) (now (s .args .two))) .pieces)) in (
+    let here = buffer (l .out) (l .at) in
+    let parts =
+    ap₂ (λ (e d : List ℕ). textOf (map (entry (l .place)) (differing entryTable e d))) (c .before .before .before .before .part .ensures) (c .before .before .before .part2 .ensures) in
+    let ones = entriesOf (drop (l .i + n) (now (s .args .one))) .pieces in
+    let twos = entriesOf (drop (l .j + m) (now (s .args .two))) .pieces in
+    let rest : List ℕ = textOf (entryLines (l .place + 1) ones twos) in (
       fields .kept .0 ∙ l .inv .0,
       omega arith,
       omega (arith, i .low),
       omega (arith, j .low),
-      put-rest (buffer (l .out) (l .at)) _ _ (omega arith) (fields .ensures)
-          ∙ ap (put (buffer (l .out) (l .at))) (ap (λ (t : List ℕ). t ++ rest) parts ∙ sym (lines-more (l .place) (i .pieces-are) (j .pieces-are)))
+      put-rest here _ _ (omega arith) (fields .ensures)
+          ∙ ap (put here) (ap (λ (t : List ℕ). t ++ rest) parts ∙ sym (lines-more (l .place) (i .pieces-are) (j .pieces-are)))
           ∙ l .inv .4,
     )
 

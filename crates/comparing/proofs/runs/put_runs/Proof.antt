@@ -26,12 +26,12 @@ abbrev μ-loop : tie.MeasureT-loop
 
 -- the run at hand
 next : (c : tie.After-agreement-from Inv-loop μ-loop)
-    → let s = c .before .before .before .before .before .before .before .before in
-    let d = differs (now (s .args .a)) (now (s .args .b)) in
-    let n = c .before .before .before .before .greater .result in
-    (c .before .before .difference-from .result < c .agreement-from .result)
-    × (runsFrom d (n - c .before .before .before .loop .from) (c .before .before .before .loop .from)
-    ≡ runOf (c .before .before .difference-from .result) (c .agreement-from .result - 1) ∷ runsFrom d (n - c .agreement-from .result) (c .agreement-from .result))
+    → let l = c .before .before .before in
+    let d = differs (now (l .before .before .before .before .before .args .a)) (now (l .before .before .before .before .before .args .b)) in
+    let n = l .before .greater .result in
+    let first = c .before .before .difference-from .result in
+    let end = c .agreement-from .result in
+    (first < end) × (runsFrom d (n - l .loop .from) (l .loop .from) ≡ runOf first (end - 1) ∷ runsFrom d (n - end) end)
 next c =
     let most = c .before .before .before .loop .inv .0 in
     runs-next _ _ _ (rw (sym most) at (c .before .before .difference-from .ensures)) (c .before .if1 .left) (omega (arith, c .agreement-from .ensures .0))
@@ -66,7 +66,8 @@ sub-put-run : tie.Need-sub-put-run Inv-loop μ-loop
 sub-put-run c = omega (arith, next (c .before) .0)
 
 loop-less : tie.Need-loop-less Inv-loop μ-loop
-loop-less c = omega (arith, next (c .before .before .before .before) .0, c .before .before .before .before .before .before .difference-from .ensures .low, c .before .before .before .before .agreement-from .ensures .0)
+loop-less c =
+    let end = c .before .before .before .before in omega (arith, next end .0, end .before .before .difference-from .ensures .low, end .agreement-from .ensures .0)
 
 loop-again : tie.Need-loop-again Inv-loop μ-loop
 unfolding flatten

@@ -27,7 +27,11 @@ loop-again c =
     let b = now (s .args .b) in
     let at = s .args .at in
     ⊎-elim (λ w. (omega arith, λ z. absurd (omega arith)))
-    (λ w. (omega arith, λ z p high low. below-more (λ p. at ≤ p → getD a p 0 ≡ getD b p 0) (at + l .i) (l .inv .1 (omega arith)) (λ low. w .0 .left) p (omega arith) low))
+    (λ w. (
+      omega arith,
+      λ z p high low.
+          below-more (λ p. at ≤ p → getD a p 0 ≡ getD b p 0) (at + l .i) (l .inv .1 (omega arith)) (λ low. w .0 .left) p (omega arith) low,
+    ))
     (c .if1 .came)
 
 returns : tie.Need-returns Inv-loop μ-loop
