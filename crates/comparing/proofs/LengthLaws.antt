@@ -19,7 +19,6 @@ use Rattle.refusals.specs.declared.Refusal.{Refusal}
 use Rattle.entries.specs.Entry.{lengthOf}
 use Rattle.par1_rules.specs.Layout.{listSizeOf, listOf, dataOf}
 use Rattle.par1_read.specs.Reading.{entriesIn, readOf}
-use Rattle.par1_read.specs.declared.reading.Parts.{Parts}
 use Rattle.par1_read.specs.declared.reading.Reading.{Reading}
 use Rattle.par1_read.specs.declared.reading.Reading.the-variants.{Accepted, Refused}
 use Rattle.par1_read.proofs.RangeLaws.{refusal-within}
@@ -39,7 +38,7 @@ use Rattle.comparing.proofs.EntryLineLaws.{all-iff, entry-iff}
 use Rattle.comparing.proofs.FieldLaws.{differing-most}
 use Rattle.comparing.proofs.MemberLaws.{mem-all}
 use Rattle.comparing.proofs.OrderLaws.{ordered}
-use Rattle.comparing.proofs.RefusedLaws.{refused-named, refused-only, read-either}
+use Rattle.comparing.proofs.RefusedLaws.{never, refused-named, refused-only, read-either}
 use Rattle.comparing.proofs.SectionLaws.{lines-are, in-list, in-data}
 
 -- ---- a line
@@ -213,9 +212,6 @@ refused-lines f g n w l m =
     subst Small (sym (found .2)) (refusal-small f g (found .0) (found .1) (Memᴰ·cast (sym (found .2)) m))
 
 -- ---- the comparison
-
-never : {A : Type 0} {p : Parts} {r : Refusal} → Accepted p ≡ Refused r → A
-never e = absurd (let z : _≡_ {A = ℕ} 0 1 = cc in omega arith)
 
 few-lines : (f g : List ℕ) (n : ℕ) (r q : Reading) → ((t : Refusal) × (r ≡ Refused t)) ⊎ ((t : Refusal) × (q ≡ Refused t))
     → length (linesBy r q f g) ≤ 2

@@ -6,10 +6,10 @@ mod FieldLaws
 pub mod LengthLaws
 mod ListLaws
 mod MemberLaws
-mod Named
-mod NoLine
-mod OrderLaws
-mod RefusedLaws
+pub mod Named
+pub mod NoLine
+pub mod OrderLaws
+pub mod RefusedLaws
 mod RunLaws
 mod ScanLaws
 mod SectionLaws

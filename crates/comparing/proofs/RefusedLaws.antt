@@ -1,7 +1,8 @@
 -- Refused files.
 --
---   refused-named, refused-only     the claims
+--   never                           an acceptance is no refusal
 --   not-both, read-either           a file is accepted or refused, and not both
+--   refused-named, refused-only     the claims
 -- Assumes nothing.
 use mathlib.Core.Path.{_≡_, refl, sym, _∙_}
 use mathlib.Core.List.{List, _++_, List·Memᴰ, List·Memᴰ·head, List·Memᴰ·tail, List·Memᴰ·cases-cons, List·Memᴰ·eq-of-singleton}
@@ -27,7 +28,7 @@ use Rattle.comparing.proofs.SectionLaws.{kindOf, head-kind, list-kind, 
 abbrev With : Reading → ℕ → Type 0
 With r n = (q : Refusal) × (r ≡ Refused q) × (q .number ≡ n)
 
-never : {A : Type 0} {p : Parts} {r : Refusal} → Accepted p ≡ Refused r → A
+pub never : {A : Type 0} {p : Parts} {r : Refusal} → Accepted p ≡ Refused r → A
 never e = absurd (let z : _≡_ {A = ℕ} 0 1 = cc in omega arith)
 
 pub not-both : (f : List ℕ) {n : ℕ} → IsAccepted f → RefusedWith f n → ⊥

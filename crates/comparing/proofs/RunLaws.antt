@@ -30,6 +30,11 @@ apart-less p (apart-more {r = r} low right later) = apart-more {p = p} {r = r} (
 
 -- ---- a place before runs
 
+-- "joined where they touch"
+with-touching : (p q : ℕ) (rs : List Run) → withPlace p (runOf (suc p) q ∷ rs) ≡ runOf p q ∷ rs
+unfolding withPlace
+with-touching p q rs = simp (eq-eqb (suc p) (suc p) refl)
+
 with-apart : (p : ℕ) {rs : List Run} → Apart (suc p) rs → Apart p (withPlace p rs)
 unfolding withPlace
 with-apart p apart-none = apart-more {p = p} {r = runOf p p} (omega arith) (omega arith) apart-none
@@ -45,10 +50,6 @@ with-gap : (p : ℕ) {rs : List Run} → Apart (suc (suc p)) rs → withPlace p 
 unfolding withPlace
 with-gap p apart-none = refl
 with-gap p (apart-more {r = r} low right later) = simp (ne-eqb (r .first) (suc p) (λ e. omega arith))
-
-with-touching : (p q : ℕ) (rs : List Run) → withPlace p (runOf (suc p) q ∷ rs) ≡ runOf p q ∷ rs
-unfolding withPlace
-with-touching p q rs = simp (eq-eqb (suc p) (suc p) refl)
 
 -- ---- runs from a place on
 

@@ -11,6 +11,7 @@ use crate::lines;
 use crate::scan::greater;
 use lent_bytes::same;
 use par1_rules::layout;
+use par1_rules::layout::HASH_LENGTH;
 use par1_rules::layout::part;
 
 // The lines on the fields of the headers of `one` and `two` that differ.
@@ -30,18 +31,10 @@ pub(crate) fn put_header<'a, 'b>(
         one,
         two,
         layout::CONTROL_HASH_AT,
-        layout::HASH_LENGTH,
+        HASH_LENGTH,
         b"control",
     );
-    let at = put_head_field(
-        out,
-        at,
-        one,
-        two,
-        layout::SET_HASH_AT,
-        layout::HASH_LENGTH,
-        b"set",
-    );
+    let at = put_head_field(out, at, one, two, layout::SET_HASH_AT, HASH_LENGTH, b"set");
     let at = put_head_field(out, at, one, two, layout::NUMBER_AT, 8, b"number");
     let at = put_head_field(out, at, one, two, layout::COUNT_AT, 8, b"files");
     let at = put_head_field(out, at, one, two, layout::LIST_SIZE_AT, 8, b"list");
@@ -71,7 +64,7 @@ pub(crate) fn put_fields<'a, 'b>(
         one,
         two,
         entries::MD5_AT,
-        layout::HASH_LENGTH,
+        HASH_LENGTH,
         b"md5",
     );
     let at = put_entry_field(
@@ -81,7 +74,7 @@ pub(crate) fn put_fields<'a, 'b>(
         one,
         two,
         entries::MD5_16K_AT,
-        layout::HASH_LENGTH,
+        HASH_LENGTH,
         b"16k",
     );
     put_entry_field(out, at, place, one, two, entries::NAME_AT, longer, b"name")
