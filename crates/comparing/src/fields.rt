@@ -42,7 +42,7 @@ pub(crate) fn put_header<'a, 'b>(
     put_head_field(out, at, one, two, layout::DATA_SIZE_AT, 8, b"data")
 }
 
-// The lines on the fields of the entries `one` and `two`, both at `place`, that differ.
+// The lines on the fields of the entries `one` and `two`, both at `place`, that differ. The name goes to the end of the longer one.
 pub(crate) fn put_fields<'a, 'b>(
     out: &'a mut [u8],
     at: usize,
