@@ -9,8 +9,8 @@
  * a length; bytes past those written stay as they were. The pointer is not NULL, also where the length is 0: lend the address of any byte. Bytes
  * that a call writes must not overlap others that it is lent. Numbers in lent bytes are 64 bits wide, lowest byte first.
  *
- * Stack: par1_query takes 67 KiB; par1_md5, par1_read, par1_write_entry, par1_write_volume, par1_amend, par1_check, par1_open, par1_hash_push,
- * par1_hash_end and the calls on a reading in chunks less than 4 KiB; the others less than 1 KiB (measured, docs/BENCHMARKS.md).
+ * Stack: par1_query takes 67 KiB; par1_md5, par1_read, par1_write_entry, par1_write_volume, par1_amend, par1_compare, par1_check, par1_open,
+ * par1_hash_push, par1_hash_end and the calls on a reading in chunks less than 4 KiB; the others less than 1 KiB (measured, docs/BENCHMARKS.md).
  */
 #ifndef PAR1_H
 #define PAR1_H
@@ -49,7 +49,7 @@ enum {
 
 /* An answer that has more to say than a number: the number, and a value that goes with it. The value of a refusal 16 to 18 is the place of
  * the entry in its list, from 1, and 0 where it stands in none; of any other refusal it is 0, so that a refusal without a place is its bare number.
- * The value of an accepted par1_amend is the volume's new length; any other accepted call answers 0. */
+ * The value of an accepted par1_amend is the volume's new length, of a par1_compare the length of its lines; any other accepted call answers 0. */
 typedef uint64_t par1_answer;
 #define PAR1_NUMBER(a) ((uint32_t)((a) % 32))
 #define PAR1_VALUE(a) ((a) / 32)
@@ -149,6 +149,19 @@ par1_answer par1_write_volume(uint32_t program, uint64_t number, const uint8_t *
  * control hash each go over all of it. No copy of the volume is made. */
 par1_answer par1_amend(uint8_t *volume, size_t volume_len, uint64_t length, uint64_t file, uint64_t place, const uint8_t *old, size_t old_len,
                        const uint8_t *new_, size_t new_len, const uint8_t *entry, size_t entry_len);
+
+/* Which bytes of two index files or volumes differ, as text over the first bytes of `out`: a line for each difference, ended by byte 10, in layout
+ * order. The value is the length of the lines; it is 0 exactly where both are accepted by par1_read and have the same bytes.
+ *
+ *   head NAME     a field of the header: version, program, control, set, number, files, list (its size), start (of the data), data (its size)
+ *   entry P NAME  a field of entry P, from 1: length, status, size, md5, 16k, name
+ *   entry P all   only one of the two has an entry P
+ *   data A B      of the data the bytes from place A to place B, both included, from 0: each differs, or only one of the two has it; the bytes
+ *                 before A and after B are alike
+ *   refused S N   par1_read refuses `one` (S is 1) or `two` (S is 2) with the number N; then nothing else is written but such a line for the other
+ *
+ * Refuses with 14 where `out` is shorter than the lines, and with nothing else: a file that is refused is a line. */
+par1_answer par1_compare(const uint8_t *one, size_t one_len, const uint8_t *two, size_t two_len, uint8_t *out, size_t out_len);
 
 /* Whether `contents` are those of the file that `entry` describes. Refuses with 16, 17 or 18, the first that holds, where the entry
  * breaks a rule (16 also where it does not fill its bytes), then with 15 where length, MD5 or 16k MD5 differ. */

@@ -4,7 +4,7 @@ use crate::amend::{self, Amendment};
 use crate::inventory::Inventory;
 use crate::jobs::{self, Hash};
 use crate::par1::Refusal;
-use crate::{field, md5, par1};
+use crate::{differences, field, md5, par1};
 
 /// A refusal changes nothing; 14 where the room is shorter than what is to be written; else 0, and the room's first bytes.
 fn written<A: From<u32>>(value: Result<Vec<u8>, A>, room: &[u8]) -> (A, Vec<u8>) {
@@ -13,6 +13,13 @@ fn written<A: From<u32>>(value: Result<Vec<u8>, A>, room: &[u8]) -> (A, Vec<u8>)
         Ok(bytes) if room.len() < bytes.len() => (14.into(), room.to_vec()),
         Ok(bytes) => (0.into(), [&bytes, &room[bytes.len()..]].concat()),
     }
+}
+
+/// The same, and the answer of an accepted call has the length of what it wrote as its value.
+fn length_told(value: Result<Vec<u8>, u64>, room: &[u8]) -> (u64, Vec<u8>) {
+    let length = value.as_ref().map_or(0, Vec::len) as u64;
+    let (answer, after) = written(value, room);
+    (if answer == 0 { 32 * length } else { answer }, after)
 }
 
 pub fn md5(bytes: &[u8], room: &[u8]) -> (u32, Vec<u8>) {
@@ -57,10 +64,12 @@ pub fn write_volume(program: u32, number: u64, list: &[u8], data: &[u8], room: &
 
 /// The value of an accepted amendment is the volume's new length.
 pub fn amend(room: &[u8], length: u64, a: &Amendment) -> (u64, Vec<u8>) {
-    let amended = amend::amend(room, length, a).map_err(Refusal::answer);
-    let new_length = amended.as_ref().map_or(0, Vec::len) as u64;
-    let (answer, after) = written(amended, room);
-    (if answer == 0 { 32 * new_length } else { answer }, after)
+    length_told(amend::amend(room, length, a).map_err(Refusal::answer), room)
+}
+
+/// The value is the length of the lines; no pair of files is refused but for the room.
+pub fn compare(one: &[u8], two: &[u8], room: &[u8]) -> (u64, Vec<u8>) {
+    length_told(Ok(differences::compare(one, two)), room)
 }
 
 /// The sizes are numbers of 64 bits; bytes left over make their number another one than n.

@@ -1,8 +1,8 @@
 //! A second program, written from the documents alone: it compares its own answers with those of the C library's calls.
 //!
-//! `md5`, `field`, `par1`, `inventory`, `jobs`, `amend` work the answers out; `expected` gives each call's number and lent bytes from them; `calls` and
-//! `job_calls` make the library's calls, on lent bytes with guards on both sides; `cuts` has ways of cutting an input, `files` sets of files and their
-//! volumes; `compare_*` are the comparisons.
+//! `md5`, `field`, `par1`, `inventory`, `jobs`, `amend`, `differences` work the answers out; `expected` gives each call's number and lent bytes
+//! from them; `calls` and `job_calls` make the library's calls, on lent bytes with guards on both sides; `cuts` has ways of cutting an input,
+//! `files` sets of files and their volumes; `compare_*` are the comparisons.
 
 mod amend;
 mod calls;
@@ -10,6 +10,7 @@ mod compare_amend;
 mod compare_amend_refusals;
 mod compare_amend_stretch;
 mod compare_data_size;
+mod compare_differences;
 mod compare_entries;
 mod compare_faults;
 mod compare_field;
@@ -22,6 +23,7 @@ mod compare_parity;
 mod compare_read_cuts;
 mod compare_read_job;
 mod cuts;
+mod differences;
 mod expected;
 mod field;
 mod files;
@@ -76,7 +78,7 @@ impl Random {
 fn main() {
     let mut counts = Counts { passed: 0, failed: 0 };
     let mut random = Random(2026);
-    let parts: [(&str, fn(&mut Counts, &mut Random)); 15] = [
+    let parts: [(&str, fn(&mut Counts, &mut Random)); 16] = [
         ("md5", compare_md5::run),
         ("field", compare_field::run),
         ("parity", compare_parity::run),
@@ -92,6 +94,7 @@ fn main() {
         ("amendments", compare_amend::run),
         ("stretches amended", compare_amend_stretch::run),
         ("amendments refused", compare_amend_refusals::run),
+        ("files compared", compare_differences::run),
     ];
     for (name, run) in parts {
         let before = counts.passed + counts.failed;

@@ -14,7 +14,7 @@ fn number(bytes: &[u8]) -> u64 {
 /// A refusal: its number, and the place in its list, from 1, of the entry at fault; 0 where there is none.
 #[derive(Debug)]
 pub struct Refusal {
-    number: u32,
+    pub number: u32,
     place: u64,
 }
 
