@@ -1,4 +1,4 @@
-/* Two boats made volumes of what should be one set, and the shore asks where they differ: the same files written by two programs; a log that was
+/* Two boats made volumes of what should be one set, and the shore asks where they differ: the same files written by one program and by two; a log that was
  * not the same on both boats; a volume that came damaged. Each time the lines of par1_compare are printed as they are. */
 #include "../include/par1.h"
 #include <stdio.h>

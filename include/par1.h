@@ -151,7 +151,8 @@ par1_answer par1_amend(uint8_t *volume, size_t volume_len, uint64_t length, uint
                        const uint8_t *new_, size_t new_len, const uint8_t *entry, size_t entry_len);
 
 /* Which bytes of two index files or volumes differ, as text over the first bytes of `out`: a line for each difference, ended by byte 10, in layout
- * order. The value is the length of the lines; it is 0 exactly where both are accepted by par1_read and have the same bytes.
+ * order. The value is the length of the lines. The answer is 0 exactly where both are accepted by par1_read and have the same bytes; the value
+ * alone does not tell, for it is 0 with 14 too.
  *
  *   head NAME     a field of the header: version, program, control, set, number, files, list (its size), start (of the data), data (its size)
  *   entry P NAME  a field of entry P, from 1: length, status, size, md5, 16k, name
@@ -160,7 +161,8 @@ par1_answer par1_amend(uint8_t *volume, size_t volume_len, uint64_t length, uint
  *                 before A and after B are alike
  *   refused S N   par1_read refuses `one` (S is 1) or `two` (S is 2) with the number N; then nothing else is written but such a line for the other
  *
- * Refuses with 14 where `out` is shorter than the lines, and with nothing else: a file that is refused is a line. */
+ * Refuses with 14 where `out` is shorter than the lines, and with nothing else: a file that is refused is a line. The lines of files that are nearly alike are
+ * short; in the worst case, every second byte of the data differing, they are some eleven times as long as a file. */
 par1_answer par1_compare(const uint8_t *one, size_t one_len, const uint8_t *two, size_t two_len, uint8_t *out, size_t out_len);
 
 /* Whether `contents` are those of the file that `entry` describes. Refuses with 16, 17 or 18, the first that holds, where the entry

@@ -1,4 +1,4 @@
-//! Two files compared (document 02, 2026-06): pairs whose lines are written here by hand; all pairs of a dozen small files; one bit changed at a
+//! Two files compared (document 02, 2026-06): pairs whose lines are written here by hand; all pairs of fourteen small files; one bit changed at a
 //! time, the hashes right or not; lists of unequal length; every short pattern of data, and runs round the ends of blocks; every refusal on
 //! either side and on both; rooms of every length up to that of the lines.
 
@@ -85,7 +85,7 @@ fn by_hand(counts: &mut Counts) {
     gives(counts, "another volume", &afresh(&empty, 1), &afresh(&empty, 254), "head control | head number");
 }
 
-/// A dozen files of which four are refused, each with each.
+/// Fourteen files of which four are refused, each with each.
 fn all_pairs(counts: &mut Counts) {
     let set = files();
     let mut other = files();
@@ -95,7 +95,7 @@ fn all_pairs(counts: &mut Counts) {
     let volume = afresh(&set, 1);
     let mut data = volume.clone();
     *data.last_mut().unwrap() ^= 1;
-    let dozen = [
+    let files = [
         index(7, &set, b""),
         index(7, &set, b"comment!"),
         index(8, &set[..1], b"commend!!!"),
@@ -111,9 +111,9 @@ fn all_pairs(counts: &mut Counts) {
         vec![],
         rehashed([&volume[..], b"x"].concat()),
     ];
-    for (i, one) in dozen.iter().enumerate() {
-        for (j, two) in dozen.iter().enumerate() {
-            pair(counts, &format!("file {i} with file {j} of a dozen"), one, two);
+    for (i, one) in files.iter().enumerate() {
+        for (j, two) in files.iter().enumerate() {
+            pair(counts, &format!("file {i} with file {j} of fourteen"), one, two);
         }
     }
 }

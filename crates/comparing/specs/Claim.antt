@@ -14,6 +14,7 @@
 --   Before l m              the line l comes before the line m
 --   Pairwise R xs           R holds of each two of the elements xs, the earlier one first
 -- The claims:
+--   LinesWritten            the text is that of the lines, one after another
 --   HeadNamed               a line names a field of the header exactly where it differs
 --   EntryNamed              a line names a field of an entry exactly where both files have the entry and the field differs
 --   AllNamed                a line names an entry as a whole exactly where one file alone has it
@@ -27,7 +28,7 @@
 -- Assumes nothing.
 use mathlib.Core.Path.{_≡_}
 use mathlib.Core.Logic.{_⊎_, _↔_}
-use mathlib.Core.List.{List, [], _∷_, List·Memᴰ}
+use mathlib.Core.List.{List, [], _∷_, map, flatten, List·Memᴰ}
 use Prim.Native.Nat.{ℕ, _+_, _-_, _≤_, _<_}
 use lib.ListN.{length, getD}
 use Rattle.cut_lists.specs.All.{All}
@@ -41,7 +42,7 @@ use Rattle.par1_read.specs.declared.reading.Reading.the-variants.{Accepted, Ref
 use Rattle.comparing.specs.Lines.{HeadField, version-field, program-field, control-field, set-field, number-field}
 use Rattle.comparing.specs.Lines.{files-field, list-field, start-field, data-field}
 use Rattle.comparing.specs.Lines.{EntryField, length-field, status-field, size-field, md5-field, md5-16k-field, name-field}
-use Rattle.comparing.specs.Lines.{Line, head, entry, all, run, refused}
+use Rattle.comparing.specs.Lines.{Line, head, entry, all, run, refused, lineText}
 use Rattle.comparing.specs.Comparing.{linesOf, comparisonOf}
 
 abbrev pub IsAccepted : List ℕ → Type 0
@@ -55,6 +56,10 @@ pub record Compared (f g : List ℕ) : Type 0 where
   pub bytes-two : Bytes g
   pub accepted-one : IsAccepted f
   pub accepted-two : IsAccepted g
+
+-- "writes each difference as a line"; what the lines are is said below; proved: proofs/TextLaws.antt, `lines-written`
+abbrev pub LinesWritten : Type 0
+LinesWritten = (f g : List ℕ) → comparisonOf f g ≡ flatten (map lineText (linesOf f g))
 
 -- ---- the header: "`head NAME` (version, program, control, set, number, files, list, start, data)"
 
