@@ -1,14 +1,23 @@
 -- What hexadecimal digits are.
 --
 --   hex-spells     the two digits of a byte spell the byte
+--   hex-none, hex-more     the digits of the bytes from a position on: none at the end, else those of the byte there and those of the others
+--   hex-length     two digits for each byte
+--   hex-lower      they are digits in lower case
+--   lower-none, lower-more     whether characters are digits, from a position on
 -- Assumes nothing.
-use mathlib.Core.Path.{_≡_, refl}
-use mathlib.Core.Bool.{Bool, true, false}
-use Prim.Native.Nat.{ℕ, _+_, _/_, _%_, _<_}
+use mathlib.Core.Path.{_≡_, refl, ap, _∙_}
+use mathlib.Core.Bool.{Bool, true, false, _&&_}
+use mathlib.Core.List.{List, [], _∷_, _++_}
+use Prim.Native.Nat.{ℕ, zero, suc, _+_, _*_, _/_, _%_, _≤_, _<_}
+use native.Mathlib.Numerals.{add-one}
 use native.Mathlib.Omega.{arith}
-use borrow.Author.Tests.{ltb-true, ltb-false, lt-ltb, le-ltb}
+use borrow.Author.Tests.{ltb-true, ltb-false, lt-ltb, le-ltb, le-leb, lt-leb}
 use lib.Dec.{ltb}
-use Rattle.text.specs.Hex.{hexDigit, hexDigitValue, hexValue}
+use lib.ListN.{length, drop, getD, drop-of-length-le}
+use lib.Seq.{drop-cons}
+use Rattle.little_endian.specs.Bytes.{Bytes}
+use Rattle.text.specs.Hex.{hexDigit, hexByte, hexBytes, isHexDigit, allHexDigits, hexDigitValue, hexValue}
 use Rattle.text.specs.Claim.{HexSpells}
 
 digit-value : (d : ℕ) → d < 16 → hexDigitValue (hexDigit d) ≡ d
@@ -22,3 +31,46 @@ digit-value d h = by (ltb d 10) refl
 pub hex-spells : HexSpells
 unfolding hexValue
 hex-spells b h = simp (digit-value (b / 16) (omega arith), digit-value (b % 16) (omega arith)) (omega arith)
+
+-- ---- the digits of bytes
+
+pub hex-more : (s : List ℕ) (i : ℕ) → i < length s → hexBytes (drop i s) ≡ hexByte (getD s i 0) ++ hexBytes (drop (i + 1) s)
+unfolding hexBytes
+hex-more s i h = simp (drop-cons s i 0 h, add-one)
+
+pub hex-none : (s : List ℕ) (i : ℕ) → length s ≤ i → hexBytes (drop i s) ≡ []
+unfolding hexBytes
+hex-none s i h = ap hexBytes (drop-of-length-le s h)
+
+pub hex-length : (s : List ℕ) → length (hexBytes s) ≡ 2 * length s
+unfolding hexBytes
+hex-length [] = refl
+hex-length (b ∷ s) = omega (arith, hex-length s)
+
+lower-digit : (d : ℕ) → d < 16 → isHexDigit (hexDigit d) ≡ true
+unfolding hexDigit isHexDigit
+lower-digit d h = by (ltb d 10) refl
+  where
+    by : (b : Bool) → ltb d 10 ≡ b → isHexDigit (hexDigit d) ≡ true
+    by true e = let g = ltb-true d 10 e in simp (e, le-leb 48 (48 + d) (omega arith), le-leb (48 + d) 57 (omega arith))
+    by false e =
+        let g = ltb-false d 10 e in
+        simp (e, lt-leb (87 + d) 57 (omega arith), le-leb 48 (87 + d) (omega arith), le-leb 97 (87 + d) (omega arith), le-leb (87 + d) 102 (omega arith))
+
+pub hex-lower : (s : List ℕ) → Bytes s → allHexDigits (hexBytes s) ≡ true
+unfolding hexBytes allHexDigits
+hex-lower [] h = refl
+hex-lower (b ∷ s) h =
+    let small : b < 256 = h 0 in
+    simp (lower-digit (b / 16) (omega arith), lower-digit (b % 16) (omega arith), hex-lower s (λ i. h (suc i)))
+
+-- ---- whether characters are digits
+
+module _ (w : List ℕ) (i : ℕ) where
+  pub lower-none : length w ≤ i → allHexDigits (drop i w) ≡ true
+  unfolding allHexDigits
+  lower-none h = ap allHexDigits (drop-of-length-le w h)
+
+  pub lower-more : {r : Bool} → i < length w → r ≡ isHexDigit (getD w i 0) → allHexDigits (drop i w) ≡ (r && allHexDigits (drop (i + 1) w))
+  unfolding allHexDigits
+  lower-more h e = simp (drop-cons w i 0 h, add-one, e)

@@ -2,4 +2,4 @@ pub mod BufferLaws
 pub mod DecimalLaws
 mod Examples
 pub mod FitLaws
-mod HexLaws
+pub mod HexLaws

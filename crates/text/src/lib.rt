@@ -5,7 +5,7 @@ ghost use mathlib.Core.List.{[], _∷_};
 ghost use Prim.Native.Nat.{_+_, _<_, min};
 ghost use Rattle.text.specs.Buffer.{buffer, usizeMax, put as putOf};
 ghost use Rattle.text.specs.Decimal.{decimal, field};
-ghost use Rattle.text.specs.Hex.{hexDigit, hexByte};
+ghost use Rattle.text.specs.Hex.{hexDigit, hexByte, hexBytes, isHexDigit, allHexDigits};
 
 // One byte at position `at`. Like every put, it answers the position after what it put.
 pub fn put(out: &mut [u8], at: usize, byte: u8) -> usize
@@ -56,6 +56,49 @@ pub fn put_hex(out: &mut [u8], at: usize, byte: u8) -> usize
 {
     let second = put(out, at, hex_digit(byte / 16));
     put(out, second, hex_digit(byte % 16))
+}
+
+// The hexadecimal digits of `bytes`, two each, in lower case.
+pub fn put_hex_bytes<'a, 'b>(out: &'a mut [u8], start: usize, bytes: &'b [u8]) -> usize
+    ensures { λ r. ⌜ buffer (now (out .exit)) r ≡ putOf (buffer (now (out .entry)) start) (hexBytes (now (bytes .entry))) ⌝ }
+{
+    let mut at = start;
+    let mut i: usize = 0;
+    while i < bytes.len() {
+        at = put_hex(out, at, bytes[i]);
+        i += 1;
+    }
+    at
+}
+
+// Whether each byte of `word` is a hexadecimal digit in lower case.
+pub fn all_hex_digits(word: &[u8]) -> bool
+    ensures { λ r. ⌜ r ≡ allHexDigits (now (word .entry)) ⌝ }
+{
+    let mut i: usize = 0;
+    while i < word.len() {
+        if !is_hex_digit(word[i]) {
+            return false;
+        }
+        i += 1;
+    }
+    true
+}
+
+// Whether `byte` is a hexadecimal digit in lower case.
+fn is_hex_digit(byte: u8) -> bool
+    ensures { λ r. ⌜ r ≡ isHexDigit byte ⌝ }
+{
+    if byte < 48 {
+        return false;
+    }
+    if byte <= 57 {
+        return true;
+    }
+    if byte < 97 {
+        return false;
+    }
+    byte <= 102
 }
 
 // The position after `at`; the greatest one is followed by itself.

@@ -1,0 +1,5 @@
+mod CallLaws
+mod LineLaws
+mod NameLaws
+mod SumLaws
+mod WalkLaws

@@ -1,0 +1,88 @@
+-- `md5sum_text::sums::again_in` meets its contract. The loop's invariant: the entries that remain, held against the lines before the first one
+-- found, give the first of all.
+-- Assumes nothing.
+use denote.Ref.{now}
+use mathlib.Core.Path.{_≡_, refl, sym, ap, _∙_}
+use mathlib.Core.List.{List, [], _∷_}
+use Prim.Native.Nat.{ℕ, _+_, _-_, _≤_}
+use native.Mathlib.Omega.{arith}
+use lib.ListN.{length, take, drop}
+use borrow.Author.Needs.{needs}
+use Rattle.computed_tests.specs.Lists.{firstBelow}
+use Rattle.computed_tests.proofs.Lists.{first-is}
+use Rattle.entries.specs.Walk.{entriesOf}
+use Rattle.entries.proofs.EntryLaws.{EntryAt, entry-at}
+use Rattle.entries.proofs.WalkLaws.{entries-none}
+use Rattle.md5sum_text.specs.Lines.{linesOf}
+use Rattle.md5sum_text.specs.Import.{isAgain, againIn}
+use Rattle.md5sum_text.proofs.SumLaws.{again-end, again-more}
+use Rattle.md5sum_text.proofs.WalkLaws.{entries-at}
+use Rattle.md5sum_text.proofs.sums.again_in.Statement.{statement}
+use Rattle.md5sum_text.proofs.sums.again_in.Tie as tie
+
+abbrev Inv-loop : tie.InvT-loop
+Inv-loop list text count first₀ from₀ first from =
+    (from ≤ length list) × (first ≤ length (linesOf text .pieces))
+    × (firstBelow first (isAgain (entriesOf (drop from list) .pieces) (linesOf text .pieces)) ≡ againIn (entriesOf list .pieces) (linesOf text .pieces))
+
+abbrev μ-loop : tie.MeasureT-loop
+μ-loop list text count first₀ from₀ first from = length list - from
+
+-- the entry at hand
+entry-in : (c : tie.After-known-told Inv-loop μ-loop)
+    → let e = c .before .length .given .0 in
+    let l = c .before .before .before .before in
+    EntryAt (now (l .before .before .before .args .list)) (l .loop .from) (e .0) (e .1 .0) (e .1 .1 .0)
+entry-in c = entry-at _ _ (c .before .before .before .at .ensures) (c .before .length .given .1)
+
+loop-holds : tie.Need-loop-holds Inv-loop μ-loop
+unfolding againIn
+loop-holds c =
+    let s = c .before .before in
+    let ls : List (List ℕ) = linesOf (now (s .args .text)) .pieces in
+    (omega arith, omega (arith, s .pre), ap (λ (n : ℕ). firstBelow n (isAgain (entriesOf (now (s .args .list)) .pieces) ls)) (s .pre))
+
+returns : tie.Need-returns Inv-loop μ-loop
+returns c =
+    let l = c .before .before in
+    let ls : List (List ℕ) = linesOf (now (l .before .before .before .args .text)) .pieces in
+    again-end (l .loop .first) ls (entries-none _ _ (c .before .at .ensures) (c .match .keys2)) ∙ l .loop .inv .2
+
+add-from : tie.Need-add-from Inv-loop μ-loop
+add-from c = omega (arith, entry-in (c .before .before) .fits)
+
+loop-less : tie.Need-loop-less Inv-loop μ-loop
+loop-less c = let i = entry-in (c .before .before) in omega (arith, i .low, i .fits)
+
+loop-again : tie.Need-loop-again Inv-loop μ-loop
+loop-again c =
+    let known = c .before .before in
+    let i = entry-in known in
+    let l = known .before .before .before .before in
+    let a = l .before .before .before .args in
+    let n : ℕ = known .before .length .given .0 .0 in
+    let ls : List (List ℕ) = linesOf (now (a .text)) .pieces in
+    let e : List ℕ = take n (drop (l .loop .from) (now (a .list))) in
+    let es : List (List ℕ) = entriesOf (drop (l .loop .from + n) (now (a .list))) .pieces in
+    let found = c .again-for .ensures ∙ ap (λ (d : List ℕ). firstBelow (l .loop .first) (isAgain (d ∷ []) ls)) (c .before .part .ensures) in (
+      i .fits,
+      omega (arith, found, first-is (l .loop .first) (isAgain (e ∷ []) ls) .within, l .loop .inv .1),
+      ap (λ (k : ℕ). firstBelow k (isAgain es ls)) found ∙ again-more (l .loop .first) e es ls
+          ∙ ap (λ (ds : List (List ℕ)). firstBelow (l .loop .first) (isAgain ds ls)) (sym (entries-at i)) ∙ l .loop .inv .2,
+    )
+
+pub again-in-spec : {M : Type 1} → statement M
+again-in-spec =
+    tie.close
+    (tie.spec
+    Inv-loop
+    μ-loop
+    loop-holds
+    (λ c κs. search needs)
+    (λ c. search needs)
+    returns
+    (λ c κs. search needs)
+    (λ c κs. c .before .before .before .before .before .loop .inv .1)
+    add-from
+    loop-less
+    loop-again)

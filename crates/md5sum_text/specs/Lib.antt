@@ -1,0 +1,5 @@
+pub mod Export
+pub mod Import
+pub mod Lines
+pub mod Names
+pub mod Walks
