@@ -1,5 +1,11 @@
+mod CallClaims
 mod CallLaws
+mod ExportLaws
+mod FaultLaws
 mod LineLaws
 mod NameLaws
+mod Outcomes
+mod SaysLaws
+mod ShapeLaws
 mod SumLaws
 mod WalkLaws

@@ -53,7 +53,7 @@ module _ {A : Type 0} (t : A → Bool) (d : A) where
 
 -- ---- two searches
 
-below-or-not : (a b : ℕ) → (a < b) ⊎ (b ≤ a)
+pub below-or-not : (a b : ℕ) → (a < b) ⊎ (b ≤ a)
 below-or-not a b = by (ltb a b) refl
   where
     by : (t : Bool) → ltb a b ≡ t → (a < b) ⊎ (b ≤ a)

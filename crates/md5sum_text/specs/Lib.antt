@@ -1,3 +1,4 @@
+pub mod Claim
 pub mod Export
 pub mod Import
 pub mod Lines

@@ -4,6 +4,7 @@
 --   hex-none, hex-more     the digits of the bytes from a position on: none at the end, else those of the byte there and those of the others
 --   hex-length     two digits for each byte
 --   hex-lower      they are digits in lower case
+--   hex-spelled    and spell the bytes
 --   lower-none, lower-more     whether characters are digits, from a position on
 -- Assumes nothing.
 use mathlib.Core.Path.{_≡_, refl, ap, _∙_}
@@ -14,7 +15,7 @@ use native.Mathlib.Numerals.{add-one}
 use native.Mathlib.Omega.{arith}
 use borrow.Author.Tests.{ltb-true, ltb-false, lt-ltb, le-ltb, le-leb, lt-leb}
 use lib.Dec.{ltb}
-use lib.ListN.{length, drop, getD, drop-of-length-le}
+use lib.ListN.{length, take, drop, getD, drop-of-length-le}
 use lib.Seq.{drop-cons}
 use Rattle.little_endian.specs.Bytes.{Bytes}
 use Rattle.text.specs.Hex.{hexDigit, hexByte, hexBytes, isHexDigit, allHexDigits, hexDigitValue, hexValue}
@@ -74,3 +75,13 @@ module _ (w : List ℕ) (i : ℕ) where
   pub lower-more : {r : Bool} → i < length w → r ≡ isHexDigit (getD w i 0) → allHexDigits (drop i w) ≡ (r && allHexDigits (drop (i + 1) w))
   unfolding allHexDigits
   lower-more h e = simp (drop-cons w i 0 h, add-one, e)
+
+-- ---- what the digits of bytes spell
+
+pub hex-spelled : (s : List ℕ) → Bytes s → (k : ℕ) → k < length s → hexValue (take 2 (drop (k + k) (hexBytes s))) ≡ getD s k 0
+unfolding hexBytes
+hex-spelled [] h k l = absurd (omega arith)
+hex-spelled (b ∷ s) h zero l = hex-spells b (h 0)
+hex-spelled (b ∷ s) h (suc k) l =
+    let twice : suc k + suc k ≡ suc (suc (k + k)) = omega arith in
+    ap (λ (n : ℕ). hexValue (take 2 (drop n (hexBytes (b ∷ s))))) twice ∙ hex-spelled s (λ i. h (suc i)) k (omega arith)
