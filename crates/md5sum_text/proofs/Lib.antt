@@ -5,6 +5,7 @@ mod FaultLaws
 mod LineLaws
 mod NameLaws
 mod Outcomes
+pub mod RangeLaws
 mod SaysLaws
 mod ShapeLaws
 mod SumLaws

@@ -3,14 +3,15 @@
 --   Answerable, answerable    a refusal of a list whose length is a u64, in numbers
 --   read-within               which refusals reading gives
 --   read-answerable, volume-answerable, read-end-answerable    those of reading, of writing a volume and of the end of a running read
---   amend-answerable, compare-answerable     those of amending and comparing, or the length
---   read-asked, volume-asked, read-end-asked, amend-asked, compare-asked    the same, as what `answer` requires
---   read-told, volume-told, read-end-told, amend-told, compare-told         the claims
+--   amend-answerable, compare-answerable, export-answerable, import-answerable     those of amending, comparing, an export and an import, or the length
+--   read-asked, volume-asked, read-end-asked, amend-asked, compare-asked, export-asked, import-asked    the same, as what `answer` requires
+--   read-told, volume-told, read-end-told, amend-told, compare-told, export-told, import-told           the claims
 -- Assumes nothing.
 use mathlib.Core.Path.{_≡_, refl, sym, ap, _∙_}
 use mathlib.Core.Bool.{Bool, true, false, cond}
+use mathlib.Core.Logic.{⊎-elim}
 use mathlib.Core.List.{List}
-use Prim.Native.Nat.{ℕ, zero, suc, _+_, _/_, _^_, _<_}
+use Prim.Native.Nat.{ℕ, zero, suc, _+_, _/_, _^_, _≤_, _<_}
 use native.Mathlib.Omega.{arith}
 use lib.Dec.{leb}
 use lib.ListN.{length}
@@ -35,8 +36,11 @@ use Rattle.amending.specs.Call.{amendOf}
 use Rattle.amending.proofs.RangeLaws.{accepted-most, refused-most}
 use Rattle.comparing.specs.Comparing.{comparisonOf}
 use Rattle.comparing.proofs.LengthLaws.{comparison-most}
+use Rattle.md5sum_text.specs.Export.{exportInto}
+use Rattle.md5sum_text.specs.Import.{importInto}
+use Rattle.md5sum_text.proofs.RangeLaws.{Most, export-most, export-refusal, import-most, import-refusal}
 use Rattle.par1_c.specs.Answers.{lengthTold, Told}
-use Rattle.par1_c.specs.Claim.{ReadTold, VolumeTold, ReadEndTold, AmendTold, CompareTold}
+use Rattle.par1_c.specs.Claim.{ReadTold, VolumeTold, ReadEndTold, AmendTold, CompareTold, ExportTold, ImportTold}
 
 pub record Answerable (r : Refusal) : Type 0 where
   pub number-most : r .number < 32
@@ -90,6 +94,22 @@ compare-answerable f g out = by (leb (length (comparisonOf f g)) (length out))
     by true = record { number-most = omega arith; place-most = comparison-most f g }
     by false = record { number-most = omega arith; place-most = omega arith }
 
+-- a place of an entry or of a line of a list whose length is a u64
+placed : (n k : ℕ) (r : Refusal) → n < 2 ^ 64 → k ≤ n / 36 + 1 → Most k r → Answerable r
+placed n k r h m w = record { number-most = omega (arith, w .number-most); place-most = omega (arith, w .place-most) }
+
+export-answerable : (f out : List ℕ) → length f < 2 ^ 64 → (w : Writing) (t : List ℕ) → exportInto f out ≡ (w, t) → Answerable (lengthTold w)
+export-answerable f out h (Written k) t e =
+    let most = export-most f out e in record { number-most = omega arith; place-most = omega arith }
+export-answerable f out h (Refused r) t e = placed (length f) (length f / 58 + 1) r h (omega arith) (export-refusal f out e)
+
+import-answerable : (f s out : List ℕ) → length f < 2 ^ 64 → length s < 2 ^ 64 → (w : Writing) (t : List ℕ) → importInto f s out ≡ (w, t)
+    → Answerable (lengthTold w)
+import-answerable f s out h g (Written k) t e =
+    let most = import-most f s out e in record { number-most = omega arith; place-most = omega arith }
+import-answerable f s out h g (Refused r) t e =
+    ⊎-elim (placed (length f) (length f / 58 + 1) r h (omega arith)) (placed (length s) (length s / 36 + 1) r g (omega arith)) (import-refusal f s out e)
+
 asked : {r q : Refusal} → r ≡ q → Answerable q → (r .number < 32) × (r .place < 2 ^ 59)
 asked e a = rw e (a .number-most, a .place-most)
 
@@ -113,6 +133,14 @@ pub compare-asked : (f g out : List ℕ) {w : Writing} {t : List ℕ} {r : Refus
     → (r .number < 32) × (r .place < 2 ^ 59)
 compare-asked f g out e is = asked (is ∙ ap (λ (p : Writing × List ℕ). lengthTold (p .0)) e) (compare-answerable f g out)
 
+pub export-asked : (f out : List ℕ) {w : Writing} {t : List ℕ} {r : Refusal} → length f < 2 ^ 64 → (w, t) ≡ exportInto f out → r ≡ lengthTold w
+    → (r .number < 32) × (r .place < 2 ^ 59)
+export-asked f out {w} {t} h e is = asked is (export-answerable f out h w t (sym e))
+
+pub import-asked : (f s out : List ℕ) {w : Writing} {t : List ℕ} {r : Refusal} → length f < 2 ^ 64 → length s < 2 ^ 64
+    → (w, t) ≡ importInto f s out → r ≡ lengthTold w → (r .number < 32) × (r .place < 2 ^ 59)
+import-asked f s out {w} {t} h g e is = asked is (import-answerable f s out h g w t (sym e))
+
 pub read-told : ReadTold
 read-told f out h = told _ (read-answerable f out h)
 
@@ -127,3 +155,9 @@ amend-told n c d out h = told _ (amend-answerable n c d out h (amendOf coefficie
 
 pub compare-told : CompareTold
 compare-told f g out = told _ (compare-answerable f g out)
+
+pub export-told : ExportTold
+export-told f out h = told _ (export-answerable f out h (exportInto f out .0) (exportInto f out .1) refl)
+
+pub import-told : ImportTold
+import-told f s out h g = told _ (import-answerable f s out h g (importInto f s out .0) (importInto f s out .1) refl)

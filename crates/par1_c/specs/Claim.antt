@@ -6,6 +6,8 @@
 --   ReadEndTold          so is that of the end of a running read, whatever its bytes are
 --   AmendTold            and that of an amendment, or the volume's new length
 --   CompareTold          and the length of a comparison
+--   ExportTold           and that of an export, or the length of the text
+--   ImportTold           and that of an import, or the number of entries
 --   OnBytes step s k     a call that changes s: its number, and the bytes of the inventory that it hands back, which bytes can hold again
 --   OpenedOnBytes        an opening with the bytes of the sizes is one with the sizes, and bytes can hold what it gives
 --   ChangedOnBytes       so are the calls that add and remove
@@ -36,6 +38,8 @@ use Rattle.little_endian.specs.Bytes.{numbers}
 use Rattle.amending.specs.Amending as amending
 use Rattle.amending.specs.Call.{amendOf}
 use Rattle.comparing.specs.Comparing.{comparisonOf}
+use Rattle.md5sum_text.specs.Export.{exportInto}
+use Rattle.md5sum_text.specs.Import.{importInto}
 use Rattle.par1_c.specs.Answers.{lengthTold, Told}
 use Rattle.par1_c.specs.Inventories.{openInto, changedBy, countInto, QueryInto}
 
@@ -60,6 +64,14 @@ AmendTold =
 -- any two files have fewer than 2^59 bytes of lines; proved: proofs/AnswerLaws.antt, `compare-told`
 abbrev pub CompareTold : Type 0
 CompareTold = (f g out : List ℕ) → Told (lengthTold (written (comparisonOf f g) out .0))
+
+-- the file's length is a u64; proved: proofs/AnswerLaws.antt, `export-told`
+abbrev pub ExportTold : Type 0
+ExportTold = (f out : List ℕ) → length f < 2 ^ 64 → Told (lengthTold (exportInto f out .0))
+
+-- a text has fewer than 2^59 lines; its length and the file's are a u64; proved: proofs/AnswerLaws.antt, `import-told`
+abbrev pub ImportTold : Type 0
+ImportTold = (f s out : List ℕ) → length f < 2 ^ 64 → length s < 2 ^ 64 → Told (lengthTold (importInto f s out .0))
 
 pub record OnBytes (step : Inventory → ℕ → Outcome) (s : Inventory) (k : ℕ) : Type 0 where
   pub gives : changedBy step k (inventoryBytes s) ≡ (step s k .number, inventoryBytes (step s k .next))

@@ -1,5 +1,5 @@
 // What C sees: the libraries' calls on numbers, byte slices and a running hash, as include/par1.h declares them. Each answers 0, or the
-// document's number of a refusal; five of them tell the place of the refusal too, or the length that they wrote, in one number. A refusal
+// document's number of a refusal; some of them tell the place of the refusal too, or the length that they wrote, in one number. A refusal
 // changes no byte, save that the end of a job ends it also where it is refused, unless with 20.
 ghost use mathlib.Core.Path.{_≡_};
 ghost use Prim.Native.Nat.{_^_, _<_};
