@@ -44,12 +44,16 @@ enum {
     PAR1_NAME = 18,         /* a unit of an entry's name is not allowed; or the name of an entry to be written is empty or odd */
     PAR1_ENTRY_COUNT = 19,  /* the number of entries differs */
     PAR1_JOB = 20,          /* the job is over, or no run of pushes gives it */
-    PAR1_STRETCH = 21       /* the stretch lies neither inside the file nor on its end, or the new entry does not go with it */
+    PAR1_STRETCH = 21,      /* the stretch lies neither inside the file nor on its end, or the new entry does not go with it */
+    PAR1_LINE = 22,         /* a line of another shape, or the last one has no end */
+    PAR1_SUM = 23,          /* a line for a listed name that an earlier line has with another sum */
+    PAR1_UNFIT = 24         /* a name that does not fit a line */
 };
 
 /* An answer that has more to say than a number: the number, and a value that goes with it. The value of a refusal 16 to 18 is the place of
- * the entry in its list, from 1, and 0 where it stands in none; of any other refusal it is 0, so that a refusal without a place is its bare number.
- * The value of an accepted par1_amend is the volume's new length, of a par1_compare the length of its lines; any other accepted call answers 0. */
+ * the entry in its list, from 1, and 0 where it stands in none; of 22 and 23 it is the line's number, from 1; of any other refusal it is 0, so that
+ * a refusal without a place is its bare number. The value of an accepted par1_amend is the volume's new length, of a par1_compare or par1_export the
+ * length of its text, of a par1_import the number of entries; any other accepted call answers 0. */
 typedef uint64_t par1_answer;
 #define PAR1_NUMBER(a) ((uint32_t)((a) % 32))
 #define PAR1_VALUE(a) ((a) / 32)
@@ -164,6 +168,24 @@ par1_answer par1_amend(uint8_t *volume, size_t volume_len, uint64_t length, uint
  * Refuses with 14 where `out` is shorter than the lines, and with nothing else: a file that is refused is a line. The lines of files that are nearly alike are
  * short; in the worst case, every second byte of the data differing, they are some eleven times as long as a file. */
 par1_answer par1_compare(const uint8_t *one, size_t one_len, const uint8_t *two, size_t two_len, uint8_t *out, size_t out_len);
+
+/* The MD5s of the listed files of an index file or volume as text that md5sum -c takes, over the first bytes of `out`: for each entry, saved or
+ * not, in list order, a line of 32 lower-case hexadecimal digits, two spaces, the name and byte 10. The value is the length of the text. Refuses, in
+ * this order, with 1 to 5, 16 to 19, 7 to 9: as par1_read, with the place in the list; 24: a name has a unit other than 32 to 126; 14: `out` is
+ * shorter than the text. */
+par1_answer par1_export(const uint8_t *file, size_t file_len, uint8_t *out, size_t out_len);
+
+/* What text of md5sum says of the listed files of an index file or volume: one byte for each entry, in list order, over the first bytes of `out`. 0:
+ * no line has its name; 1: a line has its name and its MD5; 2: a line has its name and another sum. The value is the number of entries.
+ *
+ * Each line is 32 digits 0-9 or a-f, two spaces, a name of one or more bytes but 10, and byte 10; a text of no bytes has no line. A name is compared
+ * byte by byte with the entry's units, and only one whose units are 32 to 126 can have a line; lines for names that are not listed are passed over,
+ * and a line counts for every entry of its name. A `*` before the name, a backslash before the line or byte 13 at its end have no meaning of their own.
+ *
+ * Refuses, in this order, with 1 to 5, 16 to 19, 7 to 9: as par1_read, with the place in the list; 22 or 23, with the number of the earliest faulty
+ * line, from 1: 22: a line of another shape, or without its byte 10; 23: a line for a listed name that an earlier line has with another sum; 14: `out`
+ * has fewer bytes than the list has entries. */
+par1_answer par1_import(const uint8_t *file, size_t file_len, const uint8_t *text, size_t text_len, uint8_t *out, size_t out_len);
 
 /* Whether `contents` are those of the file that `entry` describes. Refuses with 16, 17 or 18, the first that holds, where the entry
  * breaks a rule (16 also where it does not fill its bytes), then with 15 where length, MD5 or 16k MD5 differ. */

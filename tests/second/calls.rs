@@ -13,6 +13,8 @@ extern "C" {
     fn par1_write_volume(program: u32, number: u64, list: *const u8, list_len: usize, data: *const u8, data_len: usize, out: *mut u8, out_len: usize) -> u64;
     fn par1_amend(volume: *mut u8, volume_len: usize, length: u64, file: u64, place: u64, old: *const u8, old_len: usize, new: *const u8, new_len: usize, entry: *const u8, entry_len: usize) -> u64;
     fn par1_compare(one: *const u8, one_len: usize, two: *const u8, two_len: usize, out: *mut u8, out_len: usize) -> u64;
+    fn par1_export(file: *const u8, file_len: usize, out: *mut u8, out_len: usize) -> u64;
+    fn par1_import(file: *const u8, file_len: usize, text: *const u8, text_len: usize, out: *mut u8, out_len: usize) -> u64;
     fn par1_check(entry: *const u8, entry_len: usize, contents: *const u8, contents_len: usize) -> u32;
     fn par1_open(n: u64, sizes: *const u8, sizes_len: usize, out: *mut u8, out_len: usize) -> u32;
     fn par1_add_file(inventory: *mut u8, len: usize, file: u64) -> u32;
@@ -106,6 +108,14 @@ pub fn amend(room: &[u8], length: u64, a: &Amendment) -> (u64, Vec<u8>) {
 
 pub fn compare(one: &[u8], two: &[u8], room: &[u8]) -> (u64, Vec<u8>) {
     lent(room, |out, len| unsafe { par1_compare(one.as_ptr(), one.len(), two.as_ptr(), two.len(), out, len) })
+}
+
+pub fn export(file: &[u8], room: &[u8]) -> (u64, Vec<u8>) {
+    lent(room, |out, len| unsafe { par1_export(file.as_ptr(), file.len(), out, len) })
+}
+
+pub fn import(file: &[u8], text: &[u8], room: &[u8]) -> (u64, Vec<u8>) {
+    lent(room, |out, len| unsafe { par1_import(file.as_ptr(), file.len(), text.as_ptr(), text.len(), out, len) })
 }
 
 pub fn open(n: u64, sizes: &[u8], room: &[u8]) -> (u32, Vec<u8>) {

@@ -213,7 +213,7 @@ fn rooms(counts: &mut Counts) {
 }
 
 /// A file for each refusal of reading.
-fn refused_files() -> Vec<(u32, Vec<u8>)> {
+pub fn refused_files() -> Vec<(u32, Vec<u8>)> {
     let whole = afresh(&files(), 7);
     let with = |change: &dyn Fn(&mut Vec<u8>)| {
         let mut one = whole.clone();

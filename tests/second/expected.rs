@@ -4,7 +4,7 @@ use crate::amend::{self, Amendment};
 use crate::inventory::Inventory;
 use crate::jobs::{self, Hash};
 use crate::par1::Refusal;
-use crate::{differences, field, md5, par1};
+use crate::{differences, field, md5, md5sum, par1};
 
 /// A refusal changes nothing; 14 where the room is shorter than what is to be written; else 0, and the room's first bytes.
 fn written<A: From<u32>>(value: Result<Vec<u8>, A>, room: &[u8]) -> (A, Vec<u8>) {
@@ -70,6 +70,16 @@ pub fn amend(room: &[u8], length: u64, a: &Amendment) -> (u64, Vec<u8>) {
 /// The value is the length of the lines; no pair of files is refused but for the room.
 pub fn compare(one: &[u8], two: &[u8], room: &[u8]) -> (u64, Vec<u8>) {
     length_told(Ok(differences::compare(one, two)), room)
+}
+
+/// The value is the length of the text.
+pub fn export(file: &[u8], room: &[u8]) -> (u64, Vec<u8>) {
+    length_told(md5sum::export(file).map_err(Refusal::answer), room)
+}
+
+/// The value is the number of entries, each of which takes a byte.
+pub fn import(file: &[u8], text: &[u8], room: &[u8]) -> (u64, Vec<u8>) {
+    length_told(md5sum::import(file, text).map_err(Refusal::answer), room)
 }
 
 /// The sizes are numbers of 64 bits; bytes left over make their number another one than n.

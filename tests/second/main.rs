@@ -1,7 +1,7 @@
 //! A second program, written from the documents alone: it compares its own answers with those of the C library's calls.
 //!
-//! `md5`, `field`, `par1`, `inventory`, `jobs`, `amend`, `differences` work the answers out; `expected` gives each call's number and lent bytes
-//! from them; `calls` and `job_calls` make the library's calls, on lent bytes with guards on both sides; `cuts` has ways of cutting an input,
+//! `md5`, `field`, `par1`, `inventory`, `jobs`, `amend`, `differences`, `md5sum` work the answers out; `expected` gives each call's number and lent
+//! bytes from them; `calls` and `job_calls` make the library's calls, on lent bytes with guards on both sides; `cuts` has ways of cutting an input,
 //! `files` sets of files and their volumes; `compare_*` are the comparisons.
 
 mod amend;
@@ -17,6 +17,7 @@ mod compare_field;
 mod compare_hash_job;
 mod compare_inventory;
 mod compare_md5;
+mod compare_md5sum;
 mod compare_mul_add_job;
 mod compare_par1;
 mod compare_parity;
@@ -31,6 +32,7 @@ mod inventory;
 mod job_calls;
 mod jobs;
 mod md5;
+mod md5sum;
 mod par1;
 
 /// How many rounds of a comparison: all, or a twentieth of them where the program is called with the word `small`, as under valgrind.
@@ -78,7 +80,7 @@ impl Random {
 fn main() {
     let mut counts = Counts { passed: 0, failed: 0 };
     let mut random = Random(2026);
-    let parts: [(&str, fn(&mut Counts, &mut Random)); 16] = [
+    let parts: [(&str, fn(&mut Counts, &mut Random)); 17] = [
         ("md5", compare_md5::run),
         ("field", compare_field::run),
         ("parity", compare_parity::run),
@@ -95,6 +97,7 @@ fn main() {
         ("stretches amended", compare_amend_stretch::run),
         ("amendments refused", compare_amend_refusals::run),
         ("files compared", compare_differences::run),
+        ("text of md5sum", compare_md5sum::run),
     ];
     for (name, run) in parts {
         let before = counts.passed + counts.failed;
@@ -102,7 +105,7 @@ fn main() {
         println!("{name}: {} comparisons", counts.passed + counts.failed - before);
     }
     for (number, times) in calls::came_back().into_iter().enumerate() {
-        let given = number <= 21 && number != 6;
+        let given = number <= 24 && number != 6;
         if given {
             println!("number {number} came back {times} times");
         }

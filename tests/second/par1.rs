@@ -11,11 +11,11 @@ fn number(bytes: &[u8]) -> u64 {
     bytes.iter().rev().fold(0, |n, &b| n << 8 | b as u64)
 }
 
-/// A refusal: its number, and the place in its list, from 1, of the entry at fault; 0 where there is none.
+/// A refusal: its number, and the place in its list, from 1, of the entry at fault, or in its text of the line; 0 where there is none.
 #[derive(Debug)]
 pub struct Refusal {
     pub number: u32,
-    place: u64,
+    pub place: u64,
 }
 
 impl Refusal {
