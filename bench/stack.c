@@ -26,6 +26,8 @@ static void amend(void) {
     number = PAR1_NUMBER(par1_amend(volume, VOLUME, VOLUME, 1, 0, contents, SIZE / 2, contents + SIZE / 2, SIZE / 2, list, ENTRY));
 }
 static void compare(void) { number = PAR1_NUMBER(par1_compare(volume, VOLUME, other, VOLUME, room, VOLUME)); }
+static void export_(void) { number = PAR1_NUMBER(par1_export(volume, VOLUME, room, VOLUME)); }
+static void import(void) { number = PAR1_NUMBER(par1_import(volume, VOLUME, room, 36, other, VOLUME)); }
 static void check(void) { number = par1_check(list, ENTRY, contents, SIZE); }
 static void hash_start(void) { par1_hash_start(&hash), number = 0; }
 static void hash_push(void) { number = par1_hash_push(&hash, contents, SIZE - 1); }
@@ -47,7 +49,8 @@ static void query(void) { number = par1_query(inventory, sizeof inventory, 1, ro
 static const struct { const char *name; void (*run)(void); } calls[] = {
     {"par1_md5", md5}, {"par1_inverse", inverse}, {"par1_coefficient", coefficient}, {"par1_mul_add", mul_add},
     {"par1_write_entry", write_entry}, {"par1_entry", entry}, {"par1_check", check}, {"par1_write_volume", write_volume}, {"par1_amend", amend},
-    {"par1_read", read_}, {"par1_compare", compare}, {"par1_hash_start", hash_start}, {"par1_hash_push", hash_push}, {"par1_hash_end", hash_end},
+    {"par1_read", read_}, {"par1_compare", compare}, {"par1_export", export_}, {"par1_import", import}, {"par1_hash_start", hash_start},
+    {"par1_hash_push", hash_push}, {"par1_hash_end", hash_end},
     {"par1_mul_add_start", mul_add_start}, {"par1_mul_add_push", mul_add_push}, {"par1_mul_add_end", mul_add_end},
     {"par1_read_start", read_start}, {"par1_read_push", read_push}, {"par1_read_end", read_end},
     {"par1_open", open_}, {"par1_add_file", add_file}, {"par1_remove_file", remove_file}, {"par1_add_volume", add_volume},
