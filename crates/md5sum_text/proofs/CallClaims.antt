@@ -3,11 +3,10 @@
 use mathlib.Core.Path.{_≡_, refl, sym, ap, ap₂, _∙_, subst}
 use mathlib.Core.Bool.{Bool, true, false}
 use mathlib.Core.List.{List, [], _∷_, _++_, append-nil, map, flatten}
-use Prim.Native.Nat.{ℕ, zero, suc, _+_, _≤_, _<_}
+use Prim.Native.Nat.{ℕ, suc, _<_}
 use native.Mathlib.Omega.{arith}
 use lib.ListN.{length, take, drop, getD, replicate, length-map, List·getD-append}
 use lib.Seq.{take-append-seam, drop-append-seam}
-use Rattle.refusals.specs.Tests.{bare}
 use Rattle.refusals.specs.declared.Refusal.{Refusal}
 use Rattle.little_endian.specs.Bytes.{Bytes}
 use Rattle.little_endian.proofs.Numbers.{bytes-take}
@@ -19,7 +18,7 @@ use Rattle.cut_lists.specs.All.{All, all-none, all-more}
 use Rattle.cut_lists.specs.Pieces.{Cut}
 use Rattle.cut_lists.proofs.AllLaws.{all-at}
 use Rattle.cut_lists.proofs.CutLaws.{cut-none}
-use Rattle.entries.specs.Entry.{md5Of, nameOf, unitsOf}
+use Rattle.entries.specs.Entry.{md5Of}
 use Rattle.par1_read.specs.Reading.{entriesIn, readOf}
 use Rattle.par1_read.specs.declared.reading.Parts.{Parts}
 use Rattle.par1_read.specs.declared.reading.Reading.the-variants as reading
@@ -28,13 +27,13 @@ use Rattle.text.specs.Hex.{hexBytes}
 use Rattle.md5sum_text.specs.Lines.{shapedLength, linesOf}
 use Rattle.md5sum_text.specs.Names.{textOf, sumOf}
 use Rattle.md5sum_text.specs.Export.{lineFor, exportText, allFitting, exportInto}
-use Rattle.md5sum_text.specs.Import.{textRefusal, answerFor, importInto}
+use Rattle.md5sum_text.specs.Import.{answerFor, importInto}
 use Rattle.md5sum_text.specs.Claim as claim
-use Rattle.md5sum_text.specs.Claim.{LineOf, Line, Fits, Good, Says, same-sum, SaysAll, LinesFor, FirstFault, ImportRefuses, ExportRefuses}
+use Rattle.md5sum_text.specs.Claim.{LineOf, Line, Fits, Good, Says, same-sum, SaysAll, FirstFault, ImportRefuses, ExportRefuses}
 use Rattle.md5sum_text.proofs.CallLaws.{export-unread, export-unfit, export-fit, import-unread, import-faulty, import-right}
 use Rattle.md5sum_text.proofs.ExportLaws.{bytes-drop, Sound, entries-sound, sum-spells, line-for, lines-for, all-fitting, fitting-all, unfitting, at-map}
 use Rattle.md5sum_text.proofs.FaultLaws.{earliest-faulty, none-faulty}
-use Rattle.md5sum_text.proofs.Outcomes.{Outcome, fits, short, not-written, refused-as, written-as, answersIn}
+use Rattle.md5sum_text.proofs.Outcomes.{fits, short, not-written, refused-as, written-as, answersIn}
 use Rattle.md5sum_text.proofs.Outcomes.{ExportView, export-refuses, export-unfits, exports, export-view}
 use Rattle.md5sum_text.proofs.Outcomes.{ImportView, import-refuses, import-faults, imports, import-view}
 use Rattle.md5sum_text.proofs.SaysLaws.{says-it, says-one}
@@ -57,9 +56,9 @@ says-all f s out ls {n} {room} e good is =
     let size : length (answersIn f s) ≡ length es = simp length-map in
     let count : n ≡ length es = told .0 ∙ size in
     let byte : (k : ℕ) → k < n → getD room k 0 ≡ answerFor ls (getD es k []) = λ k h.
-        ap (λ (l : List ℕ). getD l k 0) (told .1) ∙ List·getD-append (answersIn f s) _ 0 k (omega arith)
-        ∙ at-map (answerFor (linesOf s .pieces)) es k 0 (omega arith)
-        ∙ ap (λ (m : List (List ℕ)). answerFor m (getD es k [])) (lines-are ls s (good .lines) e) in
+    ap (λ (l : List ℕ). getD l k 0) (told .1) ∙ List·getD-append (answersIn f s) _ 0 k (omega arith)
+    ∙ at-map (answerFor (linesOf s .pieces)) es k 0 (omega arith)
+    ∙ ap (λ (m : List (List ℕ)). answerFor m (getD es k [])) (lines-are ls s (good .lines) e) in
     record {
       count = count;
       says = λ k h. subst (Says ls (getD es k [])) (sym (byte k h)) (says-it ls (getD es k []) (good .lines));
@@ -230,7 +229,7 @@ export-imported f out n room more b e alike h =
     let lines = lines-are (map lineFor es) s (all-lines f b (x .all)) text in
     let none = none-faulty es s .1 (map lineFor es) text (good-lines f b (x .all) alike) in
     let bytes : answersIn f s ≡ replicate (length es) 1 = ap (λ (ls : List (List ℕ)). map (answerFor ls) es) lines
-        ∙ ones (answerFor (map lineFor es)) es (all-same f b (x .all) alike) in
+    ∙ ones (answerFor (map lineFor es)) es (all-same f b (x .all) alike) in
     let size : length (answersIn f s) ≡ length es = simp length-map in
     sym (import-right f s more (x .read) refl none (written-fits (answersIn f s) more (omega arith) refl refl))
     ∙ ap (λ (t : List ℕ). accepted t more) bytes

@@ -5,16 +5,16 @@
 --   text-again, text-rest, shape-some, shape-none     the refusal of a text, by what its lines are
 --   import-unread, import-faulty, import-right  an import, by what the tests found
 -- Assumes nothing.
-use mathlib.Core.Path.{_≡_, refl, sym, ap, ap₂, _∙_}
+use mathlib.Core.Path.{_≡_, refl, sym, ap, _∙_}
 use mathlib.Core.Bool.{Bool, true, false}
 use mathlib.Core.List.{List, [], _∷_, map}
-use Prim.Native.Nat.{ℕ, zero, suc, _+_, _≤_, _<_}
+use Prim.Native.Nat.{ℕ, _+_, _≤_, _<_}
 use native.Mathlib.Omega.{arith}
 use borrow.Author.Tests.{lt-ltb, le-ltb}
 use lib.ListN.{length, take, drop}
 use Rattle.refusals.specs.Tests.{bare, test}
 use Rattle.refusals.specs.declared.Refusal.{Refusal}
-use Rattle.lent_bytes.specs.Writing.{refused, written, writtenUnless}
+use Rattle.lent_bytes.specs.Writing.{refused, written}
 use Rattle.lent_bytes.specs.declared.Writing.{Writing}
 use Rattle.lent_bytes.proofs.WritingLaws.{unless-none, unless-refused}
 use Rattle.cut_lists.specs.Pieces.{Cut}

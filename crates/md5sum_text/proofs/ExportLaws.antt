@@ -8,12 +8,12 @@
 --   all-fitting, fitting-all     all names fit where the test says so, and the other way round
 --   at-map                   an element of a list that is mapped
 -- Assumes nothing.
-use mathlib.Core.Path.{_≡_, refl, sym, ap, _∙_}
+use mathlib.Core.Path.{_≡_, refl, ap}
 use mathlib.Core.Bool.{Bool, true, false, _&&_}
 use mathlib.Core.List.{List, [], _∷_, _++_, map, flatten}
-use Prim.Native.Nat.{ℕ, zero, suc, _+_, _*_, _/_, _≤_, _<_}
+use Prim.Native.Nat.{ℕ, zero, suc, _+_, _≤_, _<_}
 use native.Mathlib.Omega.{arith}
-use lib.ListN.{length, take, drop, getD, length-take, length-drop}
+use lib.ListN.{length, drop, getD, length-take, length-drop}
 use lib.Seq.{getD-drop, length-take-le}
 use Rattle.computed_tests.proofs.Tests.{and-both}
 use Rattle.cut_lists.specs.All.{All, all-none, all-more}
@@ -21,14 +21,13 @@ use Rattle.cut_lists.proofs.AllLaws.{all-map}
 use Rattle.cut_lists.proofs.CutLaws.{cut-induct}
 use Rattle.little_endian.specs.Bytes.{Bytes}
 use Rattle.little_endian.proofs.Numbers.{bytes-take}
-use Rattle.entries.specs.Entry.{md5Of, nameOf, unitsOf, lengthOf}
+use Rattle.entries.specs.Entry.{md5Of, nameOf, lengthOf}
 use Rattle.entries.specs.Walk.{entriesOf}
 use Rattle.entries.proofs.EntryLaws.{length-sized}
-use Rattle.text.specs.Hex.{hexBytes}
 use Rattle.text.proofs.HexLaws.{hex-length, hex-lower, hex-spelled}
 use Rattle.md5sum_text.specs.Names.{textOf, isFitting, sumOf}
 use Rattle.md5sum_text.specs.Export.{lineFor, exportText, allFitting}
-use Rattle.md5sum_text.specs.Claim.{LineOf, Line, Fits, Spells}
+use Rattle.md5sum_text.specs.Claim.{LineOf, Fits, Spells}
 use Rattle.md5sum_text.proofs.FaultLaws.{fits-all, all-fit}
 use Rattle.md5sum_text.proofs.NameLaws.{units-length}
 use Rattle.md5sum_text.proofs.ShapeLaws.{lower-all}

@@ -10,7 +10,7 @@
 -- Assumes nothing.
 use mathlib.Core.Path.{_≡_, refl, sym, ap, ap₂, _∙_, subst}
 use mathlib.Core.Bool.{Bool, true, false, not, _&&_, _||_, true≢false}
-use mathlib.Core.Logic.{_⊎_, inl, inr, ⊎-elim}
+use mathlib.Core.Logic.{⊎-elim}
 use mathlib.Core.List.{List, [], _∷_, _++_, append-assoc, append-nil, flatten}
 use Prim.Native.Nat.{ℕ, zero, suc, _+_, _≤_, _<_}
 use native.Mathlib.Nat.{eq-or-lt-of-le}
@@ -20,24 +20,23 @@ use lib.Dec.{leb}
 use lib.ListN.{length, take, drop, getD, length-append, take-append-drop, List·getD-append}
 use lib.Seq.{getD-take, length-take-le, drop-cons, getD-append-seam, take-append-le, take-append-seam, take-all}
 use Rattle.refusals.specs.declared.Refusal.{Refusal}
-use Rattle.computed_tests.specs.Lists.{firstBelow}
 use Rattle.computed_tests.proofs.Lists.{IsFirst, first-is, first-only}
 use Rattle.computed_tests.proofs.Tests.{and-both}
 use Rattle.cut_lists.specs.All.{All, all-none, all-more}
 use Rattle.cut_lists.specs.Pieces.{Cut}
 use Rattle.cut_lists.proofs.AllLaws.{all-take, all-at}
-use Rattle.cut_lists.proofs.CutLaws.{cut-joins, cut-stop, cut-none}
+use Rattle.cut_lists.proofs.CutLaws.{cut-joins, cut-stop}
 use Rattle.lent_bytes.specs.Equal.{equal}
 use Rattle.lent_bytes.proofs.EqualLaws.{equal-same, equal-true}
 use Rattle.lent_bytes.proofs.PartsInRow.{flatten-append}
 use Rattle.md5sum_text.specs.Lines.{lineLength, isShaped, shapedLength, linesOf, sumIn, nameIn}
 use Rattle.md5sum_text.specs.Names.{unitFits, unitsFit, textOf, isFitting, isNamed}
 use Rattle.md5sum_text.specs.Import.{any, isListed, hasOther, isAgain, againIn, shapeRefusal, textRefusal}
-use Rattle.md5sum_text.specs.Claim.{LineOf, Line, Fits, Names, Listed, Good, Faulty, another-shape, another-sum, FirstFault}
+use Rattle.md5sum_text.specs.Claim.{LineOf, Line, Names, Listed, Good, Faulty, another-shape, another-sum, FirstFault}
 use Rattle.md5sum_text.specs.Claim.{EarliestFaulty, NoneFaulty}
 use Rattle.md5sum_text.proofs.CallLaws.{text-again, text-rest, shape-some, shape-none}
 use Rattle.md5sum_text.proofs.ShapeLaws.{line-length, in-sum, in-name, shape, each-line, joined, lines-joined, rest-stops}
-use Rattle.md5sum_text.proofs.SumLaws.{any-at, any-none, below-or-not}
+use Rattle.md5sum_text.proofs.SumLaws.{any-at, any-none, unlike, below-or-not}
 
 any-found : {A : Type 0} (t : A → Bool) (d : A) (xs : List A) → any t xs ≡ true → (k : ℕ) × (k < length xs) × (t (getD xs k d) ≡ true)
 unfolding any
@@ -124,7 +123,7 @@ module _ (es ls : List (List ℕ)) where
             let names : equal (nameIn (getD ls i [])) (nameIn (getD ls j [])) ≡ true = equal-same (in-name y ∙ sym (in-name z)) in
             let sums : equal (sumIn (getD ls i [])) (sumIn (getD ls j [])) ≡ false = ap₂ equal (in-sum y) (in-sum z) ∙ e in
             let other : hasOther (take j ls) (getD ls j []) ≡ true = any-at _ [] (take j ls) i (omega (arith, length-take-le j ls (omega arith)))
-                (rw (getD-take j ls i [] l) (simp (names, sums))) in
+            (rw (getD-take j ls i [] l) (simp (names, sums))) in
             let both : isAgain es ls j ≡ true = simp (is-listed z es n, other) in
             absurd (true≢false (sym both ∙ none j h))
 
@@ -190,13 +189,13 @@ module _ (es : List (List ℕ)) (s : List ℕ) where
       let unlike = and-both (equal (nameIn (getD (take k ls) i [])) (nameIn (getD ls k []))) _ (o .2) in
       let name : there .name ≡ here .name = sym (in-name (there .line-of)) ∙ equal-true _ _ (unlike .0) ∙ in-name (here .line-of) in
       let z : LineOf (there .sum) (here .name) (getD (take k ls) i [])
-          = subst (λ (n : List ℕ). LineOf (there .sum) n (getD (take k ls) i [])) name (there .line-of) in
+      = subst (λ (n : List ℕ). LineOf (there .sum) n (getD (take k ls) i [])) name (there .line-of) in
       let number : 23 ≡ r .number = ap (λ (r : Refusal). r .number) is in
       let other : there .sum ≡ here .sum → ⊥ = λ q.
-          true≢false (sym (unlike .1) ∙ ap not (equal-same (in-sum (there .line-of) ∙ q ∙ sym (in-sum (here .line-of))))) in
+      true≢false (sym (unlike .1) ∙ ap not (equal-same (in-sum (there .line-of) ∙ q ∙ sym (in-sum (here .line-of))))) in
       let after : List ℕ = flatten (drop (suc k) ls) ++ rest in
       let fault : Faulty es (take k ls) (getD ls k [] ++ after) 23
-          = another-sum after refl (here .line-of) (listed (here .line-of) es (both .0)) i (o .1) z other in
+      = another-sum after refl (here .line-of) (listed (here .line-of) es (both .0)) i (o .1) z other in
       record {
         earlier = take k ls;
         good = again-good es ls (each-line s) k (omega arith) (first .before);
@@ -216,11 +215,11 @@ module _ (es : List (List ℕ)) (s : List ℕ) where
   shape-fault : length ls ≤ againIn es ls → 0 < length rest → (r : Refusal) → textRefusal es (linesOf s) ≡ r → FirstFault es s r
   shape-fault h some r e =
       let is : record { number = 22; place = length ls + 1 } ≡ r
-          = sym (text-rest es (linesOf s) refl h ∙ shape-some (length ls) rest some) ∙ e in
+      = sym (text-rest es (linesOf s) refl h ∙ shape-some (length ls) rest some) ∙ e in
       let fault : Faulty es ls rest 22 = another-shape (λ l t q z.
-          let long = shape .0 l t z in
-          let stop = ap shapedLength (sym q) ∙ rest-stops s some in
-          omega (arith, line-some z)) in
+      let long = shape .0 l t z in
+      let stop = ap shapedLength (sym q) ∙ rest-stops s some in
+      omega (arith, line-some z)) in
       record {
         earlier = ls;
         good = whole-good h;
@@ -256,7 +255,7 @@ module _ (es earlier : List (List ℕ)) (good : Good es earlier) where
   stopped t e =
       let c : Cut = record { pieces = earlier; rest = t } in
       let cut : linesOf (flatten earlier ++ t) ≡ c = lines-joined t (good .lines) ∙ ap (joined earlier) (cut-stop shapedLength t e)
-          ∙ ap (λ (ls : List (List ℕ)). record { pieces = ls; rest = t }) (append-nil earlier) in
+      ∙ ap (λ (ls : List (List ℕ)). record { pieces = ls; rest = t }) (append-nil earlier) in
       ap (textRefusal es) cut ∙ text-rest es c no-again (omega arith)
 
   -- what follows begins with a listed name again
@@ -275,13 +274,6 @@ module _ (es earlier : List (List ℕ)) (good : Good es earlier) where
         let sums : equal (sumIn (getD earlier k [])) (sumIn l) ≡ false = unlike (λ e. other (sym (in-sum y) ∙ e ∙ in-sum z)) in
         let has : hasOther earlier l ≡ true = any-at _ [] earlier k h (simp (names, sums)) in
         rw (getD-append-seam earlier l (linesOf t .pieces) [], take-append-seam earlier (l ∷ linesOf t .pieces)) (simp (is-listed z es n, has))
-      where
-        unlike : {a b : List ℕ} → (a ≡ b → ⊥) → equal a b ≡ false
-        unlike {a} {b} h = by (equal a b) refl
-          where
-            by : (t : Bool) → equal a b ≡ t → t ≡ false
-            by true e = absurd (h (equal-true a b e))
-            by false e = refl
 
     again-there : length earlier ≡ againIn es ls′
     unfolding againIn
@@ -294,7 +286,7 @@ module _ (es earlier : List (List ℕ)) (good : Good es earlier) where
     listed-again =
         let c : Cut = record { pieces = ls′; rest = linesOf t .rest } in
         let one : linesOf (l ++ t) ≡ joined (l ∷ []) (linesOf t)
-            = ap (λ (u : List ℕ). linesOf (u ++ t)) (sym (append-nil l)) ∙ lines-joined t (all-more line all-none) in
+        = ap (λ (u : List ℕ). linesOf (u ++ t)) (sym (append-nil l)) ∙ lines-joined t (all-more line all-none) in
         let cut : linesOf (flatten earlier ++ (l ++ t)) ≡ c = lines-joined (l ++ t) (good .lines) ∙ ap (joined earlier) one in
         ap (textRefusal es) cut ∙ text-again es c again-there (omega (arith, length-append earlier (l ∷ linesOf t .pieces)))
 

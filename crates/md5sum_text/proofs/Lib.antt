@@ -1,12 +1,13 @@
-mod CallClaims
+pub mod CallClaims
 mod CallLaws
+mod Examples
 mod ExportLaws
-mod FaultLaws
+pub mod FaultLaws
 mod LineLaws
 mod NameLaws
 mod Outcomes
 pub mod RangeLaws
 mod SaysLaws
-mod ShapeLaws
+pub mod ShapeLaws
 mod SumLaws
 mod WalkLaws

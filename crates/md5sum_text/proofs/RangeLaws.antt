@@ -5,12 +5,12 @@
 --   export-refusal               the refusals of an export: the place is that of an entry of 58 bytes or more in the file
 --   import-refusal               those of an import: the same, or that of a line of 36 bytes or more in the text
 -- Assumes nothing.
-use mathlib.Core.Path.{_≡_, refl, sym, ap, _∙_, subst}
+use mathlib.Core.Path.{_≡_, refl, ap, subst}
 use mathlib.Core.Logic.{_⊎_, inl, inr, ⊎-elim}
-use mathlib.Core.List.{List, [], _∷_, _++_, flatten}
-use Prim.Native.Nat.{ℕ, zero, suc, _+_, _*_, _/_, _≤_, _<_}
+use mathlib.Core.List.{List, flatten}
+use Prim.Native.Nat.{ℕ, _+_, _*_, _/_, _≤_, _<_}
 use native.Mathlib.Omega.{arith}
-use lib.ListN.{length, take, drop, length-append, length-take, length-drop, length-map}
+use lib.ListN.{length, drop, length-append, length-take, length-drop, length-map}
 use Rattle.refusals.specs.Limits.{maxVolumeLength}
 use Rattle.refusals.specs.Tests.{bare}
 use Rattle.refusals.specs.declared.Refusal.{Refusal}
@@ -19,7 +19,7 @@ use Rattle.lent_bytes.specs.declared.Writing.the-variants.{Written, Refused}
 use Rattle.lent_bytes.proofs.WritingLaws.{never}
 use Rattle.cut_lists.specs.All.{All, all-none, all-more}
 use Rattle.cut_lists.proofs.CutLaws.{cut-all, cut-count, cut-induct, cut-length}
-use Rattle.entries.specs.Entry.{md5Of, nameOf, unitsOf, lengthOf}
+use Rattle.entries.specs.Entry.{md5Of, nameOf, lengthOf}
 use Rattle.entries.specs.Walk.{entriesOf}
 use Rattle.entries.proofs.EntryLaws.{length-sized}
 use Rattle.par1_read.specs.Reading.{entriesIn, readOf}
@@ -30,13 +30,12 @@ use Rattle.par1_read.proofs.ReadingLaws.{read-tells, refused-is}
 use Rattle.par1_rules.specs.Layout.{listSizeOf, listOf}
 use Rattle.text.proofs.HexLaws.{hex-length}
 use Rattle.md5sum_text.specs.Lines.{shapedLength, linesOf}
-use Rattle.md5sum_text.specs.Names.{textOf, sumOf}
 use Rattle.md5sum_text.specs.Export.{lineFor, exportText, exportInto}
 use Rattle.md5sum_text.specs.Import.{againIn, textRefusal, importInto}
 use Rattle.md5sum_text.proofs.CallLaws.{text-again, text-rest, shape-some, shape-none}
 use Rattle.md5sum_text.proofs.LineLaws.{has-line}
 use Rattle.md5sum_text.proofs.NameLaws.{units-length}
-use Rattle.md5sum_text.proofs.Outcomes.{Outcome, fits, short, not-written, refused-as, written-as, answersIn}
+use Rattle.md5sum_text.proofs.Outcomes.{fits, short, not-written, refused-as, written-as, answersIn}
 use Rattle.md5sum_text.proofs.Outcomes.{ExportView, export-refuses, export-unfits, exports, export-view}
 use Rattle.md5sum_text.proofs.Outcomes.{ImportView, import-refuses, import-faults, imports, import-view}
 use Rattle.md5sum_text.proofs.SumLaws.{below-or-not}

@@ -9,27 +9,26 @@
 --   rest-stops           what is left of a text begins with no line
 -- Assumes nothing.
 use mathlib.Core.Path.{_≡_, refl, sym, ap, ap₂, _∙_, subst}
-use mathlib.Core.Bool.{Bool, true, false, cond, _&&_, _||_, true≢false}
-use mathlib.Core.Logic.{_⊎_, inl, inr}
-use mathlib.Core.List.{List, [], _∷_, _++_, append-assoc, append-nil, flatten}
+use mathlib.Core.Bool.{Bool, true, false, cond, _&&_, _||_}
+use mathlib.Core.Logic.{inl, inr}
+use mathlib.Core.List.{List, [], _∷_, _++_, append-assoc, flatten}
 use Prim.Native.Nat.{ℕ, zero, suc, _+_, _-_, _≤_, _<_}
-use native.Mathlib.Nat.{zero-add}
 use native.Mathlib.Omega.{arith}
-use borrow.Author.Tests.{leb-true, le-leb, lt-leb, eq-eqb, ne-eqb, eqb-true, eqb-false}
+use borrow.Author.Tests.{leb-true, le-leb, lt-leb, ne-eqb, eqb-true, eqb-false}
 use lib.Dec.{leb, eqb}
-use lib.ListN.{length, take, drop, getD, length-append, length-take, length-drop, take-append-drop}
-use lib.Seq.{take-at, drop-at, take-append-seam, drop-append-seam, take-append-le, drop-append-le, length-take-le, drop-drop, take-take}
+use lib.ListN.{length, take, drop, length-append, length-drop, take-append-drop}
+use lib.Seq.{take-at, drop-at, take-append-seam, drop-append-seam, take-append-le, drop-append-le, length-take-le, drop-drop}
 use Rattle.computed_tests.proofs.Tests.{and-both}
 use Rattle.cut_lists.specs.All.{All, all-none, all-more}
-use Rattle.cut_lists.specs.Pieces.{Cut, none, before}
+use Rattle.cut_lists.specs.Pieces.{Cut, before}
 use Rattle.cut_lists.proofs.AllLaws.{all-map}
-use Rattle.cut_lists.proofs.CutLaws.{cut-none, cut-more, cut-all, cut-induct}
+use Rattle.cut_lists.proofs.CutLaws.{cut-more, cut-all, cut-induct}
 use Rattle.lent_bytes.proofs.EqualLaws.{equal-same}
 use Rattle.text.specs.Ascii.{ascii}
 use Rattle.text.specs.Hex.{isHexDigit, allHexDigits}
 use Rattle.md5sum_text.specs.Lines.{longer, lineLength, isShaped, shapedLength, linesOf, sumIn, nameIn}
 use Rattle.md5sum_text.specs.Claim.{LowerDigit, LineOf, Line, Shape}
-use Rattle.md5sum_text.proofs.LineLaws.{Shaped, HasLine, has-line, line-most}
+use Rattle.md5sum_text.proofs.LineLaws.{HasLine, has-line}
 
 -- ---- digits
 
@@ -118,7 +117,7 @@ module _ {sum name l : List ℕ} (z : LineOf sum name l) where
   in-name =
       let size : length l - 35 ≡ length name = omega (arith, line-length) in
       let past : drop 34 l ≡ name ++ (10 ∷ []) = sym (drop-drop 2 32 l)
-          ∙ ap (drop 2) (ap (drop 32) (z .line-is) ∙ drop-at sum tail 32 (z .sum-length)) in
+      ∙ ap (drop 2) (ap (drop 32) (z .line-is) ∙ drop-at sum tail 32 (z .sum-length)) in
       ap₂ (λ (n : ℕ) (t : List ℕ). take n t) size past ∙ take-append-seam name (10 ∷ [])
 
   spaces-in : take 2 (drop 32 l) ≡ ascii "  "
@@ -158,10 +157,10 @@ line-from s has =
     let name : List ℕ = drop 34 front in
     let sum-same : take 32 l ≡ take 32 front = ap (take 32) (e .ended) ∙ take-append-le 32 front (10 ∷ []) (omega (arith, has .low)) in
     let spaces-same : take 2 (drop 32 l) ≡ take 2 (drop 32 front) = ap (λ (t : List ℕ). take 2 (drop 32 t)) (e .ended)
-        ∙ ap (take 2) (drop-append-le 32 front (10 ∷ []) (omega (arith, has .low))) ∙ take-append-le 2 (drop 32 front) (10 ∷ []) (omega (arith, length-drop 32 front, has .low)) in
+    ∙ ap (take 2) (drop-append-le 32 front (10 ∷ []) (omega (arith, has .low))) ∙ take-append-le 2 (drop 32 front) (10 ∷ []) (omega (arith, length-drop 32 front, has .low)) in
     let parts : front ≡ take 32 front ++ (32 ∷ 32 ∷ name) = sym (take-append-drop 32 front)
-        ∙ ap (λ (t : List ℕ). take 32 front ++ t)
-        (sym (take-append-drop 2 (drop 32 front)) ∙ ap₂ (λ (x y : List ℕ). x ++ y) (sym spaces-same ∙ has .shape .spaces) (drop-drop 2 32 front)) in
+    ∙ ap (λ (t : List ℕ). take 32 front ++ t)
+    (sym (take-append-drop 2 (drop 32 front)) ∙ ap₂ (λ (x y : List ℕ). x ++ y) (sym spaces-same ∙ has .shape .spaces) (drop-drop 2 32 front)) in
     record {
       sum = take 32 front;
       name = name;

@@ -1,6 +1,8 @@
 -- Lines held against entries.
 --
 --   any-at, any-none       a test that passes for one of a list, and one that passes for none
+--   unlike                 the test whether lists are equal fails where they are not
+--   below-or-not           a number is below another, or is not
 --   first-or               the first that passes one of two tests, in two searches
 --   again-none, again-end, again-more     the first line that has a listed name again with another sum, entry by entry
 --   line-shaped            each line of a text is of the right shape
@@ -12,7 +14,7 @@ use mathlib.Core.Path.{_≡_, refl, sym, ap, _∙_, subst}
 use mathlib.Core.Bool.{Bool, true, false, cond, not, _&&_, _||_, true≢false}
 use mathlib.Core.Logic.{_⊎_, inl, inr, ⊎-elim}
 use mathlib.Core.List.{List, [], _∷_}
-use Prim.Native.Nat.{ℕ, zero, suc, _+_, _≤_, _<_}
+use Prim.Native.Nat.{ℕ, zero, suc, _≤_, _<_}
 use native.Mathlib.Omega.{arith}
 use borrow.Author.Tests.{ltb-true, ltb-false}
 use lib.Dec.{ltb}
@@ -28,7 +30,7 @@ use Rattle.lent_bytes.proofs.EqualLaws.{equal-same, equal-true, equal-lengths}
 use Rattle.entries.specs.Entry.{nameOf, unitsOf}
 use Rattle.md5sum_text.specs.Lines.{shapedLength, linesOf, sumIn, nameIn}
 use Rattle.md5sum_text.specs.Names.{textOf, isFitting, sumOf, isNamed}
-use Rattle.md5sum_text.specs.Import.{any, isListed, hasOther, isAgain, againIn, answerFor}
+use Rattle.md5sum_text.specs.Import.{any, isListed, hasOther, isAgain, answerFor}
 use Rattle.md5sum_text.specs.Walks.{Stands, isOther, Sought, Found}
 use Rattle.md5sum_text.specs.declared.lines.Place.{Place}
 use Rattle.md5sum_text.proofs.LineLaws.{Shaped, has-line, line-at}
@@ -50,6 +52,15 @@ module _ {A : Type 0} (t : A → Bool) (d : A) where
   unfolding any
   any-none [] h = refl
   any-none (x ∷ xs) h = simp (h 0 (omega arith), any-none xs (λ k l. h (suc k) (omega arith)))
+
+-- ---- lists that are not equal
+
+pub unlike : {a b : List ℕ} → (a ≡ b → ⊥) → equal a b ≡ false
+unlike {a} {b} h = by (equal a b) refl
+  where
+    by : (t : Bool) → equal a b ≡ t → t ≡ false
+    by true e = absurd (h (equal-true a b e))
+    by false e = refl
 
 -- ---- two searches
 
@@ -206,17 +217,10 @@ module _ (s e : List ℕ) (m : ℕ) (most : m ≤ length (linesOf s .pieces)) wh
             let f : isNamed (getD ls p []) e ≡ true = named-first .found (omega (arith, next .low)) in
             let before : p < q = omega (arith, next .low, apart) in
             let names = equal-same (sym (named-is p f) ∙ named-is q n) in
-            let sums = ap not (unlike (sumIn (getD ls p [])) (sumIn (getD ls q [])) (λ z. o .1 (sym z ∙ sym is))) in
+            let sums : not (equal (sumIn (getD ls p [])) (sumIn (getD ls q []))) ≡ true = ap not (unlike (λ z. o .1 (sym z ∙ sym is))) in
             let here : hasOther (take q ls) (getD ls q []) ≡ true = any-at _ [] (take q ls) p
             (omega (arith, length-take-le q ls (omega (arith, next .high)))) (rw (getD-take q ls p [] before) (simp (names, sums))) in
             simp (n, here)
-          where
-            unlike : (a b : List ℕ) → (a ≡ b → ⊥) → equal a b ≡ false
-            unlike a b h = by (equal a b) refl
-              where
-                by : (t : Bool) → equal a b ≡ t → t ≡ false
-                by true z = absurd (h (equal-true a b z))
-                by false z = refl
 
         pub again-seen : q ≡ firstBelow m (isAgain (e ∷ []) ls)
         again-seen = first-only m (isAgain (e ∷ []) ls) q (record { within = next .high; found = found-there; before = none-before })

@@ -11,14 +11,15 @@
 --   FirstFault es s r    r is the refusal of the earliest faulty line of the text s
 --   EarliestFaulty       a text is refused with r exactly where r is that
 --   NoneFaulty           and not at all exactly where it is good lines and no more
---   Says ls e b          b is what the lines ls say of the entry e
+--   Says ls e b, SaysAll     b is what the lines ls say of the entry e; the room says it of each entry
 --   ImportRefuses, ImportRefused     the refusals of an import in their order, and nothing else is refused
 --   ImportSays           what an accepted import writes
 --   ExportRefuses, ExportRefused     the same of an export; "24 .. a name that does not fit"
---   ExportLines          what an accepted export writes: a line for each entry, in order
+--   LinesFor, ExportLines    what an accepted export writes: a line for each entry, in order
 --   ExportImported       "An accepted export, imported, reports every entry the same"
--- What excludes an empty reading: the calls refuse nothing else (`ImportRefused`, `ExportRefused`), and there are a file, a text and room that
--- each is accepted with (proofs/Examples.antt).
+-- What excludes an empty reading: the calls refuse nothing else, so a file that is read, whose names fit, is exported, and good lines are imported
+-- with it, where the room is long enough; there are files that are read (`par1_set` specs/Claim, `IndexWritten`), and lines that are good (an
+-- export's, by `ExportImported`; proofs/Examples.antt).
 -- The contracts of export and import cite exportInto and importInto.
 -- Assumes nothing.
 use mathlib.Core.Path.{_≡_}

@@ -3,12 +3,13 @@ ghost use mathlib.Core.Path.{_≡_};
 ghost use Rattle.md5sum_text.specs.Export.{exportInto};
 ghost use Rattle.md5sum_text.specs.Import.{importInto};
 
+mod exports;
 mod lines;
 mod names;
 mod sums;
 
 pub use lent_bytes::Writing;
-use par1::Reading;
+use par1_read::Reading;
 use par1_read::refusal_of;
 use par1_rules::layout;
 use refusals::bare;
@@ -17,15 +18,15 @@ use refusals::bare;
 pub fn export(file: &[u8], out: &mut [u8]) -> Writing
     ensures { λ r. ⌜ (r, now (out .exit)) ≡ exportInto (now (file .entry)) (now (out .entry)) ⌝ }
 {
-    let reading = par1::read(file);
+    let reading = par1_read::read(file);
     let Reading::Accepted(parts) = reading else {
         return Writing::Refused(refusal_of(reading));
     };
     let list = layout::part(file, layout::HEADER_LENGTH, parts.list_size as usize);
-    if !names::all_fitting(list) {
+    if !exports::all_fitting(list) {
         return Writing::Refused(bare(refusals::UNFIT));
     }
-    names::export_list(list, out)
+    exports::export_list(list, out)
 }
 
 // For each entry of `file` a byte over the first bytes of `out`, and their number: 0 where no line of `text` names it, 1 where one does with
@@ -33,7 +34,7 @@ pub fn export(file: &[u8], out: &mut [u8]) -> Writing
 pub fn import(file: &[u8], text: &[u8], out: &mut [u8]) -> Writing
     ensures { λ r. ⌜ (r, now (out .exit)) ≡ importInto (now (file .entry)) (now (text .entry)) (now (out .entry)) ⌝ }
 {
-    let reading = par1::read(file);
+    let reading = par1_read::read(file);
     let Reading::Accepted(parts) = reading else {
         return Writing::Refused(refusal_of(reading));
     };

@@ -1,10 +1,11 @@
 -- The definitions, computed on a few values. A text is written as its bytes.
 -- Assumes nothing.
 use mathlib.Core.Path.{_≡_, refl}
+use mathlib.Core.Bool.{true, false}
 use mathlib.Core.List.{[], _∷_}
 use Rattle.text.specs.Buffer.{buffer, put}
 use Rattle.text.specs.Decimal.{decimal, decimalIn}
-use Rattle.text.specs.Hex.{hexByte, hexDigit}
+use Rattle.text.specs.Hex.{hexByte, hexBytes, hexDigit, isHexDigit, allHexDigits}
 
 -- "0", "9", "10", "18446744073709551615"
 zero-text : decimal 0 ≡ 48 ∷ []
@@ -32,6 +33,20 @@ low-text = refl
 high-text : hexByte 255 ≡ 102 ∷ 102 ∷ []
 unfolding hexDigit
 high-text = refl
+
+-- "0aff"
+bytes-text : hexBytes (10 ∷ 255 ∷ []) ≡ 48 ∷ 97 ∷ 102 ∷ 102 ∷ []
+unfolding hexBytes hexDigit
+bytes-text = refl
+
+-- "0aff" in lower case, and "0A"
+lower-case : allHexDigits (48 ∷ 97 ∷ 102 ∷ 102 ∷ []) ≡ true
+unfolding allHexDigits isHexDigit
+lower-case = refl
+
+upper-case : allHexDigits (48 ∷ 65 ∷ []) ≡ false
+unfolding allHexDigits isHexDigit
+upper-case = refl
 
 -- two bytes are written and the third only counted
 cut-off : put (buffer (7 ∷ 7 ∷ 7 ∷ []) 1) (1 ∷ 2 ∷ 3 ∷ []) ≡ buffer (7 ∷ 1 ∷ 2 ∷ []) 4

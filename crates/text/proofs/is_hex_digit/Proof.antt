@@ -2,7 +2,6 @@
 -- Assumes nothing.
 use mathlib.Core.Bool.{and-false}
 use native.Mathlib.Omega.{arith}
-use borrow.Author.Needs.{needs}
 use borrow.Author.Tests.{le-leb, lt-leb}
 use Rattle.text.specs.Hex.{isHexDigit}
 use Rattle.text.proofs.is_hex_digit.Statement.{statement}

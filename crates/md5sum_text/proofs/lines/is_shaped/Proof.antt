@@ -1,6 +1,6 @@
 -- `md5sum_text::lines::is_shaped` meets its contract.
 -- Assumes nothing.
-use mathlib.Core.Path.{sym, ap, ap₂, _∙_}
+use mathlib.Core.Path.{sym, ap, _∙_}
 use borrow.Author.Tests.{lt-leb, le-leb, not-true, not-false}
 use borrow.Author.Needs.{needs}
 use Rattle.lent_bytes.specs.Equal.{equal}

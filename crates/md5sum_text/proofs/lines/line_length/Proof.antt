@@ -2,10 +2,9 @@
 -- Assumes nothing.
 use denote.Ref.{now}
 use mathlib.Core.Path.{_≡_, sym, _∙_}
-use Prim.Native.Nat.{ℕ, _-_, _≤_}
+use Prim.Native.Nat.{_-_, _≤_}
 use native.Mathlib.Omega.{arith}
 use lib.ListN.{length, drop}
-use borrow.Author.Needs.{needs}
 use Rattle.md5sum_text.specs.Lines.{lineLength}
 use Rattle.md5sum_text.proofs.LineLaws.{after, line-start, line-found, line-on, line-over}
 use Rattle.md5sum_text.proofs.lines.line_length.Statement.{statement}

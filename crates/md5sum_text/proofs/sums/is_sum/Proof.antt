@@ -5,7 +5,7 @@ use mathlib.Core.Path.{_≡_, ap, ap₂, _∙_}
 use mathlib.Core.List.{List}
 use Prim.Native.Nat.{ℕ, _≤_}
 use native.Mathlib.Omega.{arith}
-use lib.ListN.{length, take, drop, length-take, length-replicate, replicate}
+use lib.ListN.{length, take, drop, length-take, replicate}
 use lib.Seq.{take-append-seam}
 use borrow.Author.Needs.{needs}
 use Rattle.lent_bytes.specs.Equal.{equal}

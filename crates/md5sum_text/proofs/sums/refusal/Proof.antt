@@ -1,15 +1,13 @@
 -- `md5sum_text::sums::refusal` meets its contract.
 -- Assumes nothing.
 use denote.Ref.{now}
-use mathlib.Core.Path.{_≡_, refl, sym, ap, ap₂, _∙_}
-use mathlib.Core.List.{List}
+use mathlib.Core.Path.{_≡_, sym, ap, _∙_}
 use Prim.Native.Nat.{ℕ, _+_}
 use native.Mathlib.Omega.{arith}
 use lib.ListN.{length}
 use borrow.Author.Needs.{needs}
 use Rattle.cut_lists.proofs.CutLaws.{cut-count, cut-length}
 use Rattle.entries.specs.Walk.{entriesOf}
-use Rattle.refusals.specs.declared.Refusal.{Refusal}
 use Rattle.md5sum_text.specs.Lines.{shapedLength, linesOf}
 use Rattle.md5sum_text.specs.declared.lines.Shapes.{Shapes}
 use Rattle.md5sum_text.proofs.CallLaws.{text-again, text-rest, shape-some, shape-none}

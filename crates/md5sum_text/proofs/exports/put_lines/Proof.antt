@@ -1,11 +1,10 @@
--- `md5sum_text::names::put_lines` meets its contract. The loop's invariant: the lines of the entries that remain, put after those so far, are
+-- `md5sum_text::exports::put_lines` meets its contract. The loop's invariant: the lines of the entries that remain, put after those so far, are
 -- all of them.
 -- Assumes nothing.
 use denote.Ref.{now}
 use mathlib.Core.Path.{_≡_, refl, sym, ap, _∙_}
 use mathlib.Core.Bool.{true}
-use mathlib.Core.List.{List}
-use Prim.Native.Nat.{ℕ, _-_, _≤_}
+use Prim.Native.Nat.{_-_, _≤_}
 use native.Mathlib.Omega.{arith}
 use lib.ListN.{length, drop}
 use borrow.Author.Needs.{needs}
@@ -16,8 +15,8 @@ use Rattle.text.specs.Buffer.{buffer, usizeMax, put}
 use Rattle.text.proofs.BufferLaws.{put-nil, put-rest}
 use Rattle.md5sum_text.specs.Export.{exportText, allFitting}
 use Rattle.md5sum_text.proofs.WalkLaws.{text-more, fitting-both}
-use Rattle.md5sum_text.proofs.names.put_lines.Statement.{statement}
-use Rattle.md5sum_text.proofs.names.put_lines.Tie as tie
+use Rattle.md5sum_text.proofs.exports.put_lines.Statement.{statement}
+use Rattle.md5sum_text.proofs.exports.put_lines.Tie as tie
 
 abbrev Inv-loop : tie.InvT-loop
 Inv-loop out₀ list at₀ from₀ out at from =

@@ -1,15 +1,13 @@
--- `md5sum_text::names::export_list` meets its contract.
+-- `md5sum_text::exports::export_list` meets its contract.
 -- Assumes nothing.
 use denote.Ref.{now}
-use mathlib.Core.List.{List}
-use Prim.Native.Nat.{ℕ}
 use native.Mathlib.Omega.{arith}
 use borrow.Author.Needs.{needs}
 use Rattle.entries.specs.Walk.{entriesOf}
 use Rattle.text.proofs.FitLaws.{fit-written, fit-refused}
 use Rattle.md5sum_text.specs.Export.{exportText}
-use Rattle.md5sum_text.proofs.names.export_list.Statement.{statement}
-use Rattle.md5sum_text.proofs.names.export_list.Tie as tie
+use Rattle.md5sum_text.proofs.exports.export_list.Statement.{statement}
+use Rattle.md5sum_text.proofs.exports.export_list.Tie as tie
 
 returns : tie.Need-returns
 returns c =

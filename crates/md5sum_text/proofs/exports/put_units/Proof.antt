@@ -1,4 +1,4 @@
--- `md5sum_text::names::put_units` meets its contract. The loop's invariant: the units that remain, put after those so far, are all of them.
+-- `md5sum_text::exports::put_units` meets its contract. The loop's invariant: the units that remain, put after those so far, are all of them.
 -- Assumes nothing.
 use denote.Ref.{now}
 use mathlib.Core.Path.{_≡_, refl, sym, ap, _∙_}
@@ -14,8 +14,8 @@ use Rattle.text.specs.Buffer.{buffer, usizeMax, put}
 use Rattle.text.proofs.BufferLaws.{put-nil, put-rest}
 use Rattle.md5sum_text.specs.Names.{unitsFit}
 use Rattle.md5sum_text.proofs.NameLaws.{fits-first, fits-rest}
-use Rattle.md5sum_text.proofs.names.put_units.Statement.{statement}
-use Rattle.md5sum_text.proofs.names.put_units.Tie as tie
+use Rattle.md5sum_text.proofs.exports.put_units.Statement.{statement}
+use Rattle.md5sum_text.proofs.exports.put_units.Tie as tie
 
 abbrev Inv-loop : tie.InvT-loop
 Inv-loop out₀ start name at₀ i₀ out at i =

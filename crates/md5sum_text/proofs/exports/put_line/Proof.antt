@@ -1,19 +1,19 @@
--- `md5sum_text::names::put_line` meets its contract.
+-- `md5sum_text::exports::put_line` meets its contract.
 -- Assumes nothing.
 use denote.Ref.{now}
-use mathlib.Core.Path.{_≡_, ap, ap₂, _∙_}
+use mathlib.Core.Path.{ap₂, _∙_}
 use mathlib.Core.List.{List, [], _∷_, flatten}
 use Prim.Native.Nat.{ℕ}
 use native.Mathlib.Omega.{arith}
 use borrow.Author.Needs.{needs}
-use Rattle.entries.specs.Entry.{unitsOf, nameOf}
+use Rattle.entries.specs.Entry.{unitsOf}
 use Rattle.text.specs.Ascii.{ascii}
 use Rattle.text.specs.Hex.{hexBytes}
 use Rattle.text.specs.Buffer.{buffer, put}
 use Rattle.text.proofs.BufferLaws.{last, then, puts}
 use Rattle.md5sum_text.specs.Export.{lineFor}
-use Rattle.md5sum_text.proofs.names.put_line.Statement.{statement}
-use Rattle.md5sum_text.proofs.names.put_line.Tie as tie
+use Rattle.md5sum_text.proofs.exports.put_line.Statement.{statement}
+use Rattle.md5sum_text.proofs.exports.put_line.Tie as tie
 
 put-units-requires : tie.Need-put-units-requires
 put-units-requires c κs = rw (c .name-of .ensures) (c .before .before .before .before .before .before .before .before .before .before .before .before .before .before .pre)

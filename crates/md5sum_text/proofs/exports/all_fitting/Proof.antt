@@ -1,23 +1,22 @@
--- `md5sum_text::names::all_fitting` meets its contract. The loop's invariant: the entries that remain decide.
+-- `md5sum_text::exports::all_fitting` meets its contract. The loop's invariant: the entries that remain decide.
 -- Assumes nothing.
 use denote.Ref.{now}
 use mathlib.Core.Path.{_≡_, refl, sym, ap, _∙_}
-use mathlib.Core.Bool.{Bool}
 use mathlib.Core.List.{List}
 use Prim.Native.Nat.{ℕ, _-_, _≤_}
 use native.Mathlib.Omega.{arith}
-use lib.ListN.{length, take, drop}
+use lib.ListN.{length, drop}
 use borrow.Author.Tests.{not-true, not-false}
 use borrow.Author.Needs.{needs}
-use Rattle.entries.specs.Entry.{unitsOf, nameOf}
+use Rattle.entries.specs.Entry.{unitsOf}
 use Rattle.entries.specs.Walk.{entriesOf}
 use Rattle.entries.proofs.EntryLaws.{EntryAt, entry-at}
 use Rattle.entries.proofs.WalkLaws.{entries-none}
 use Rattle.md5sum_text.specs.Names.{unitsFit, isFitting}
 use Rattle.md5sum_text.specs.Export.{allFitting}
 use Rattle.md5sum_text.proofs.WalkLaws.{fitting-more}
-use Rattle.md5sum_text.proofs.names.all_fitting.Statement.{statement}
-use Rattle.md5sum_text.proofs.names.all_fitting.Tie as tie
+use Rattle.md5sum_text.proofs.exports.all_fitting.Statement.{statement}
+use Rattle.md5sum_text.proofs.exports.all_fitting.Tie as tie
 
 abbrev Inv-loop : tie.InvT-loop
 Inv-loop list from₀ from = (from ≤ length list) × (allFitting (entriesOf (drop from list) .pieces) ≡ allFitting (entriesOf list .pieces))
