@@ -9,8 +9,9 @@
  * a length; bytes past those written stay as they were. The pointer is not NULL, also where the length is 0: lend the address of any byte. Bytes
  * that a call writes must not overlap others that it is lent. Numbers in lent bytes are 64 bits wide, lowest byte first.
  *
- * Stack: par1_query takes 67 KiB; par1_md5, par1_read, par1_write_entry, par1_write_volume, par1_amend, par1_compare, par1_check, par1_open,
- * par1_hash_push, par1_hash_end and the calls on a reading in chunks less than 4 KiB; the others less than 1 KiB (measured, docs/BENCHMARKS.md).
+ * Stack: par1_query takes 67 KiB; par1_md5, par1_read, par1_write_entry, par1_write_volume, par1_amend, par1_compare, par1_export, par1_import,
+ * par1_check, par1_open, par1_hash_push, par1_hash_end and the calls on a reading in chunks less than 4 KiB; the others less than 1 KiB (measured,
+ * docs/BENCHMARKS.md).
  */
 #ifndef PAR1_H
 #define PAR1_H
