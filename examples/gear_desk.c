@@ -3,6 +3,8 @@
  *   gear_desk index INDEX FILE..   writes an index of these files
  *   gear_desk export INDEX         prints the lines that md5sum -c takes
  *   gear_desk import INDEX         reads the lines that md5sum printed: for each listed file whether its sum is the same
+ *
+ * Files and texts below 1 MiB.
  */
 #include "../include/par1.h"
 #include <stdio.h>
@@ -23,6 +25,7 @@ static void refused(const char *call, par1_answer answer) {
 static size_t load(FILE *from, uint8_t *into) {
     if (from == NULL) exit(2);
     size_t length = fread(into, 1, ROOM, from);
+    if (length == ROOM) exit(2); /* longer than this program's room */
     fclose(from);
     return length;
 }

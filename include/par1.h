@@ -166,14 +166,14 @@ par1_answer par1_amend(uint8_t *volume, size_t volume_len, uint64_t length, uint
  *                 before A and after B are alike
  *   refused S N   par1_read refuses `one` (S is 1) or `two` (S is 2) with the number N; then nothing else is written but such a line for the other
  *
- * Refuses with 14 where `out` is shorter than the lines, and with nothing else: a file that is refused is a line. The lines of files that are nearly alike are
- * short; in the worst case, every second byte of the data differing, they are some eleven times as long as a file. */
+ * Refuses with 14 where `out` is shorter than the lines, and with nothing else: a file that is refused is a line. The lines of files that are
+ * nearly alike are short; in the worst case, every second byte of the data differing, they are some eleven times as long as a file. */
 par1_answer par1_compare(const uint8_t *one, size_t one_len, const uint8_t *two, size_t two_len, uint8_t *out, size_t out_len);
 
 /* The MD5s of the listed files of an index file or volume as text that md5sum -c takes, over the first bytes of `out`: for each entry, saved or
  * not, in list order, a line of 32 lower-case hexadecimal digits, two spaces, the name and byte 10. The value is the length of the text. Refuses, in
  * this order, with 1 to 5, 16 to 19, 7 to 9: as par1_read, with the place in the list; 24: a name has a unit other than 32 to 126; 14: `out` is
- * shorter than the text. */
+ * shorter than the text, which is never longer than the list: file_len - 96 bytes are enough. */
 par1_answer par1_export(const uint8_t *file, size_t file_len, uint8_t *out, size_t out_len);
 
 /* What text of md5sum says of the listed files of an index file or volume: one byte for each entry, in list order, over the first bytes of `out`. 0:
@@ -185,7 +185,7 @@ par1_answer par1_export(const uint8_t *file, size_t file_len, uint8_t *out, size
  *
  * Refuses, in this order, with 1 to 5, 16 to 19, 7 to 9: as par1_read, with the place in the list; 22 or 23, with the number of the earliest faulty
  * line, from 1: 22: a line of another shape, or without its byte 10; 23: a line for a listed name that an earlier line has with another sum; 14: `out`
- * has fewer bytes than the list has entries. */
+ * has fewer bytes than the list has entries. The time grows with the number of entries times the length of the text. */
 par1_answer par1_import(const uint8_t *file, size_t file_len, const uint8_t *text, size_t text_len, uint8_t *out, size_t out_len);
 
 /* Whether `contents` are those of the file that `entry` describes. Refuses with 16, 17 or 18, the first that holds, where the entry
