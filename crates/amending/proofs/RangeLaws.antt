@@ -4,7 +4,7 @@
 --   accepted-most              an amended volume is no longer than a volume may be
 --   refused-most               a number of at most 21, and the place of an entry of 58 bytes or more in the room
 -- Assumes nothing.
-use mathlib.Core.Path.{_≡_, refl, sym, ap, _∙_}
+use mathlib.Core.Path.{_≡_, refl, ap}
 use mathlib.Core.Bool.{Bool, true, false, cond}
 use mathlib.Core.List.{List}
 use Prim.Native.Nat.{ℕ, zero, suc, _+_, _/_, _≤_}
@@ -19,7 +19,7 @@ use Rattle.refusals.specs.declared.Refusal.{Refusal}
 use Rattle.lent_bytes.specs.Writing.{refused, accepted, written, writtenUnless}
 use Rattle.lent_bytes.specs.declared.Writing.{Writing}
 use Rattle.lent_bytes.specs.declared.Writing.the-variants.{Written, Refused}
-use Rattle.lent_bytes.proofs.WritingLaws.{never, unless-accepted, unless-tells}
+use Rattle.lent_bytes.proofs.WritingLaws.{never, unless-tells}
 use Rattle.entries.specs.Entry.{entrySize}
 use Rattle.entries.specs.Walk.{firstOf}
 use Rattle.entries.specs.declared.Fault.the-variants.{Size, FileSize, Name}
@@ -88,9 +88,7 @@ module _ (rule : ℕ → ℕ → ℕ) (n : ℕ) (c : Change) (d out : List ℕ) 
           let m : Refusal = amendRefusal rule c d vol (readOf vol) in
           let s : List ℕ = amendVolume rule c d vol in
           let told = unless-tells m s out e in
-          let both : accepted s out ≡ (Written k, t) = sym (unless-accepted m s out (told .none) (told .fits)) ∙ e in
-          let answer : Written (length s) ≡ Written k = ap (λ (p : Writing × List ℕ). p .0) both in
-          let size : length s ≡ k = cc in omega (arith, total-most rule c d vol (readOf vol) refl (told .none))
+          omega (arith, told .length-is, total-most rule c d vol (readOf vol) refl (told .none))
       by false e = never e
 
   pub refused-most : {r : Refusal} {t : List ℕ} → amendOf rule n c d out ≡ (Refused r, t) → Most (length out / 58 + 1) r

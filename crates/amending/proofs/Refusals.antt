@@ -11,20 +11,20 @@
 --   ChangePassed, change-passed     what the tests after those of reading, passed, tell
 -- A test is passed where it does not hold.
 -- Assumes nothing.
-use mathlib.Core.Path.{_≡_, refl, sym, ap, _∙_, subst}
+use mathlib.Core.Path.{_≡_, refl, sym, ap, ap₂, _∙_, subst}
 use mathlib.Core.Bool.{Bool, true, false, cond}
-use mathlib.Core.List.{List, _++_}
+use mathlib.Core.List.{List}
 use Prim.Native.Nat.{ℕ, zero, suc, _≤_, _<_}
 use native.Mathlib.Decide.{decLt}
 use native.Mathlib.Omega.{arith}
-use lib.Dec.{leb, eqb}
+use lib.Dec.{leb}
 use lib.ListN.{length, take, drop, length-append, length-drop}
 use lib.Seq.{drop-append-seam}
 use borrow.Author.Tests.{le-leb, lt-leb}
-use Rattle.lent_bytes.specs.Writing.{refused, accepted, written, writtenUnless, writingRefusal}
+use Rattle.lent_bytes.specs.Writing.{refused, accepted, writtenUnless, writingRefusal}
 use Rattle.lent_bytes.specs.declared.Writing.{Writing}
 use Rattle.lent_bytes.specs.declared.Writing.the-variants.{Written, Refused}
-use Rattle.lent_bytes.proofs.WritingLaws.{written-short, unless-none, unless-refused, unless-accepted, unless-tells, never}
+use Rattle.lent_bytes.proofs.WritingLaws.{written-short, unless-none, unless-refused, unless-accepted, unless-tells, unless-same, never}
 use Rattle.par1.specs.Checking.{loneRefusal}
 use Rattle.par1_read.specs.Reading.{entriesIn, readOf}
 use Rattle.par1_read.specs.declared.reading.Parts.{Parts}
@@ -169,15 +169,6 @@ module _ (rule : ℕ → ℕ → ℕ) (n : ℕ) (c : Change) (d out : List ℕ) 
 
 -- ---- the room
 
-unless-same : (m : Refusal) (s out : List ℕ) {r : Refusal} {room : List ℕ} → writtenUnless m s out ≡ (Refused r, room) → room ≡ out
-unfolding writtenUnless written
-unless-same m s out {r} {room} e = by (eqb (m .number) 0) (leb (length s) (length out)) e
-  where
-    by : (z f : Bool) → cond z (cond f (accepted s out) (refused (bare 14) out)) (refused m out) ≡ (Refused r, room) → room ≡ out
-    by true true e = absurd (accepted-not s out e)
-    by true false e = sym (ap (λ (p : Writing × List ℕ). p .1) e)
-    by false f e = sym (ap (λ (p : Writing × List ℕ). p .1) e)
-
 -- where the length passes the room, and where it does not
 module _ (rule : ℕ → ℕ → ℕ) (n : ℕ) (c : Change) (d out : List ℕ) where
   unfoldable pub amendBy : Bool → Writing × List ℕ
@@ -203,13 +194,10 @@ module _ (rule : ℕ → ℕ → ℕ) (n : ℕ) (c : Change) (d out : List ℕ) 
           let s : List ℕ = amendVolume rule c d vol in
           let m : Refusal = amendRefusal rule c d vol (readOf vol) in
           let told = unless-tells m s out e in
-          let both : accepted s out ≡ (Written k, room) = sym (unless-accepted m s out (told .none) (told .fits)) ∙ e in
-          let answer : Written (length s) ≡ Written k = ap (λ (p : Writing × List ℕ). p .0) both in
-          let size : length s ≡ k = cc in
-          let held : s ++ drop (length s) out ≡ room = ap (λ (p : Writing × List ℕ). p .1) both in (
-            omega (arith, ap length held, length-append s (drop (length s) out), length-drop (length s) out, told .fits),
-            ap (λ (l : List ℕ). drop k l) (sym held) ∙ ap (λ (j : ℕ). drop j (s ++ drop (length s) out)) (sym size)
-                ∙ drop-append-seam s (drop (length s) out) ∙ ap (λ (j : ℕ). drop j out) size,
+          let size = told .length-is in (
+            omega (arith, ap length (told .room-is), length-append s (drop (length s) out), length-drop (length s) out, told .fits),
+            ap₂ (λ (j : ℕ) (l : List ℕ). drop j l) size (told .room-is) ∙ drop-append-seam s (drop (length s) out)
+                ∙ ap (λ (j : ℕ). drop j out) (sym size),
           )
       by false e = never e
 

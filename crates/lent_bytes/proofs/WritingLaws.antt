@@ -5,6 +5,7 @@
 --   unless-accepted                 accepted, where the tests hold nowhere and the bytes fit
 --   never                           a refusal is no acceptance
 --   Accepted, unless-tells          what it tells where it is accepted
+--   unless-same                     a refusal leaves the bytes
 --   refused-as, numbered-as         as a refusal, and as a number
 --   numbered-none                   as a number, where the tests hold nowhere
 --   written-refusal                 where there are no tests, the number says it all
@@ -55,6 +56,8 @@ unless-accepted m s out z fits = sym (unless-none s out refl z (written-fits s o
 pub record Accepted (m : Refusal) (s out : List ℕ) (n : ℕ) (room : List ℕ) : Type 0 where
   pub none : m .number ≡ 0
   pub fits : length s ≤ length out
+  pub length-is : n ≡ length s
+  pub room-is : room ≡ s ++ drop (length s) out
   pub written-is : take n room ≡ s
 
 pub never : {A : Type 0} {n : ℕ} {k : Refusal} {room out : List ℕ} → refused k out ≡ (Written n, room) → A
@@ -75,10 +78,23 @@ unless-tells m s out {n} {room} e = by (eqb (m .number) 0) (leb (length s) (leng
         record {
           none = eqb-true (m .number) 0 z;
           fits = leb-true (length s) (length out) f;
+          length-is = size;
+          room-is = held;
           written-is = ap₂ (λ (k : ℕ) (l : List ℕ). take k l) size held ∙ take-append-seam s (drop (length s) out);
         }
     by true false z f e = never e
     by false f z g e = never e
+
+pub unless-same : (m : Refusal) (s out : List ℕ) {r : Refusal} {room : List ℕ} → writtenUnless m s out ≡ (Refused r, room) → room ≡ out
+unfolding writtenUnless written
+unless-same m s out {r} {room} e = by (eqb (m .number) 0) (leb (length s) (length out)) e
+  where
+    by : (z f : Bool) → cond z (cond f (accepted s out) (refused (bare 14) out)) (refused m out) ≡ (Refused r, room) → room ≡ out
+    by true true e =
+        let answer : Written (length s) ≡ Refused r = ap (λ (p : Writing × List ℕ). p .0) e in
+        absurd (let z : _≡_ {A = ℕ} 0 1 = cc in omega arith)
+    by true false e = sym (ap (λ (p : Writing × List ℕ). p .1) e)
+    by false f e = sym (ap (λ (p : Writing × List ℕ). p .1) e)
 
 module _ {w : Writing} {t : List ℕ} {r : Writing × List ℕ} {k : Refusal} (e : k ≡ writingRefusal w) (f : (w, t) ≡ r) where
   pub refused-as : (k, t) ≡ withRefusal r

@@ -10,10 +10,9 @@ use native.Mathlib.Omega.{arith}
 use lib.ListN.{length, take, drop, length-append, length-drop}
 use lib.Seq.{length-take-le}
 use Rattle.cut_lists.specs.All.{All, all-none, all-more}
-use Rattle.lent_bytes.specs.Writing.{accepted}
 use Rattle.lent_bytes.specs.declared.Writing.{Writing}
 use Rattle.lent_bytes.specs.declared.Writing.the-variants.{Written, Refused}
-use Rattle.lent_bytes.proofs.WritingLaws.{never, unless-accepted, unless-tells}
+use Rattle.lent_bytes.proofs.WritingLaws.{never, unless-tells}
 use Rattle.par1_write.specs.EntryWriting.{entryRefusal, writeEntryOf}
 use Rattle.par1_write.specs.VolumeWriting.{writeVolumeOf}
 use Rattle.par1_write.proofs.EntryWritingLaws.{entry-passed}
@@ -38,15 +37,11 @@ entry-tells x out {n} {after} e =
     let s : List ℕ = entryFor x in
     let told = unless-tells refusal s out e in
     let p = entry-passed (length (x .contents)) (x .status) (x .name) (told .none) in
-    let w : (Written n, after) ≡ accepted s out = sym e ∙ unless-accepted refusal s out (told .none) (told .fits) in
-    let answer : Written n ≡ Written (length s) = ap (λ (q : Writing × List ℕ). q .0) w in
     record {
       right = record { size-right = p .size-right; status-right = p .status-right; name-right = p .name-right };
       fits = told .fits;
-      written = cc;
-      kept =
-          ap (λ (q : Writing × List ℕ). length (q .1)) w
-          ∙ simp (length-append, length-drop) (omega (arith, told .fits));
+      written = told .length-is;
+      kept = ap length (told .room-is) ∙ simp (length-append, length-drop) (omega (arith, told .fits));
     }
 
 -- the files keep the rules, and the room holds their entries from byte at on
