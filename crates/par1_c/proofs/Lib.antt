@@ -2,6 +2,7 @@ pub mod AnswerLaws
 mod CallLaws
 mod Determined
 mod HashWalks
+mod LoadLaws
 mod MulAddCalls
 pub mod OnBytes
 pub mod OtherBytes

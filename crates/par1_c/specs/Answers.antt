@@ -5,6 +5,9 @@
 --   answeredEnd w   the same, where it is lent the bytes of a job too
 --   lengthTold w    the answer w as such a number and its value: where it is accepted, 0 and the length that it wrote
 --   answeredLength w     what a call gives that answers so
+--   answeredRows w  the same, where it is lent records
+--   filledCount w   how many records a load fills that answers w
+--   loadPlan b n    what a load of the catalog b into n records answers, and how many it fills
 --   Told r          the number and the place are read off the answer, which 64 bits hold
 -- Assumes nothing.
 use mathlib.Core.Path.{_≡_}
@@ -13,6 +16,9 @@ use Prim.Native.Nat.{ℕ, _+_, _*_, _/_, _%_, _^_, _<_}
 use Rattle.lent_bytes.specs.declared.Writing.{Writing}
 use Rattle.lent_bytes.specs.declared.Writing.the-variants.{Written, Refused}
 use Rattle.refusals.specs.declared.Refusal.{Refusal}
+use Rattle.catalog.specs.Calls.{loadingOf}
+use Rattle.catalog.specs.declared.records.Row.{Row}
+use Rattle.par1_c.specs.declared.catalogs.LoadPlan.{LoadPlan}
 
 abbrev pub answerOf : Refusal → ℕ
 answerOf r = r .number + 32 * r .place
@@ -29,6 +35,16 @@ lengthTold (Refused r) = r
 
 abbrev pub answeredLength : Writing × List ℕ → ℕ × List ℕ
 answeredLength w = (answerOf (lengthTold (w .0)), w .1)
+
+abbrev pub answeredRows : Writing × List Row → ℕ × List Row
+answeredRows w = (answerOf (lengthTold (w .0)), w .1)
+
+abbrev pub filledCount : Writing → ℕ
+filledCount (Written n) = n
+filledCount (Refused r) = 0
+
+unfoldable pub loadPlan : List ℕ → ℕ → LoadPlan
+loadPlan b n = let w : Writing = loadingOf b n in record { answer = answerOf (lengthTold w); count = filledCount w }
 
 -- as PAR1_NUMBER and PAR1_VALUE do
 pub record Told (r : Refusal) : Type 0 where

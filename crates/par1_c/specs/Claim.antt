@@ -8,6 +8,8 @@
 --   CompareTold          and the length of a comparison
 --   ExportTold           and that of an export, or the length of the text
 --   ImportTold           and that of an import, or the number of entries
+--   OpenTold, AddTold, DropTold     and that of a call on a catalog, or the catalog's new length
+--   LoadTold             and that of a load, or the number of entries
 --   OnBytes step s k     a call that changes s: its number, and the bytes of the inventory that it hands back, which bytes can hold again
 --   OpenedOnBytes        an opening with the bytes of the sizes is one with the sizes, and bytes can hold what it gives
 --   ChangedOnBytes       so are the calls that add and remove
@@ -40,6 +42,8 @@ use Rattle.amending.specs.Call.{amendOf}
 use Rattle.comparing.specs.Comparing.{comparisonOf}
 use Rattle.md5sum_text.specs.Export.{exportInto}
 use Rattle.md5sum_text.specs.Import.{importInto}
+use Rattle.catalog.specs.Calls.{openOf, addOf, dropOf, loadOf}
+use Rattle.catalog.specs.declared.records.Row.{Row}
 use Rattle.par1_c.specs.Answers.{lengthTold, Told}
 use Rattle.par1_c.specs.Inventories.{openInto, changedBy, countInto, QueryInto}
 
@@ -72,6 +76,22 @@ ExportTold = (f out : List ℕ) → length f < 2 ^ 64 → Told (lengthTold (expo
 -- a text has fewer than 2^59 lines; its length and the file's are a u64; proved: proofs/AnswerLaws.antt, `import-told`
 abbrev pub ImportTold : Type 0
 ImportTold = (f s out : List ℕ) → length f < 2 ^ 64 → length s < 2 ^ 64 → Told (lengthTold (importInto f s out .0))
+
+-- the file's length is a u64; proved: proofs/AnswerLaws.antt, `open-told`
+abbrev pub OpenTold : Type 0
+OpenTold = (f out : List ℕ) → length f < 2 ^ 64 → Told (lengthTold (openOf f out .0))
+
+-- the volume's length is a u64; proved: proofs/AnswerLaws.antt, `add-told`
+abbrev pub AddTold : Type 0
+AddTold = (b vol : List ℕ) → length vol < 2 ^ 64 → Told (lengthTold (addOf b vol .0))
+
+-- proved: proofs/AnswerLaws.antt, `drop-told`
+abbrev pub DropTold : Type 0
+DropTold = (b : List ℕ) (v : ℕ) → Told (lengthTold (dropOf b v .0))
+
+-- proved: proofs/AnswerLaws.antt, `load-told`
+abbrev pub LoadTold : Type 0
+LoadTold = (b : List ℕ) (rows : List Row) → Told (lengthTold (loadOf b rows .0))
 
 pub record OnBytes (step : Inventory → ℕ → Outcome) (s : Inventory) (k : ℕ) : Type 0 where
   pub gives : changedBy step k (inventoryBytes s) ≡ (step s k .number, inventoryBytes (step s k .next))

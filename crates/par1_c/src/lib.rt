@@ -17,6 +17,7 @@ ghost use Rattle.lent_bytes.specs.Writing.{withRefusal, withNumber};
 ghost use Rattle.amending.specs.Call.{changeOf, amendOf};
 ghost use Rattle.par1_c.specs.Answers.{answerOf, answered, lengthTold, answeredLength};
 
+mod catalogs;
 mod hash;
 mod inventories;
 mod mul_adds;

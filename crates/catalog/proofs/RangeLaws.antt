@@ -1,0 +1,125 @@
+-- Which refusals and lengths the calls on a catalog give.
+--
+--   Low n r        the refusal r has a number of at most 30, and the place of an entry of 58 bytes or more in n bytes
+-- Assumes nothing.
+use mathlib.Core.Path.{_≡_, refl, sym, ap, _∙_}
+use mathlib.Core.Bool.{Bool, true, false, cond, not}
+use mathlib.Core.List.{List, [], flatten}
+use Prim.Native.Nat.{ℕ, _+_, _*_, _/_, _≤_, _<_}
+use native.Mathlib.Omega.{arith}
+use lib.Dec.{leb}
+use lib.ListN.{length}
+use borrow.Author.Tests.{leb-true}
+use Rattle.refusals.specs.Limits.{maxEntries}
+use Rattle.refusals.specs.Tests.{bare, test}
+use Rattle.refusals.specs.declared.Refusal.{Refusal}
+use Rattle.lent_bytes.specs.Equal.{equal}
+use Rattle.lent_bytes.specs.declared.Writing.{Writing}
+use Rattle.lent_bytes.specs.declared.Writing.the-variants as writing
+use Rattle.par1_read.specs.Reading.{entriesIn, readOf}
+use Rattle.par1_read.specs.declared.reading.Reading.{Reading}
+use Rattle.par1_read.specs.declared.reading.Reading.the-variants as reading
+use Rattle.par1_read.proofs.RangeLaws.{refusal-within}
+use Rattle.par1_read.proofs.ReadingLaws.{refused-is, refused-some}
+use Rattle.par1_rules.specs.Layout.{volumeNumberOf}
+use Rattle.catalog.specs.Rows.{rowsFor, volumeRow, catalogBytes}
+use Rattle.catalog.specs.Catalog.{entryCount, entryRows, volumeRows, isCatalog, holds}
+use Rattle.catalog.specs.Calls.{openRefusal, volumeInRange, addNumber, addRefusal, addedBytes, dropNumber, droppedBytes, loadingOf}
+use Rattle.catalog.proofs.CatalogLaws.{Catalog, is-catalog}
+use Rattle.catalog.proofs.CallLaws.{length-opened, add-catalog, drop-passed, held-within, volumes-few}
+use Rattle.catalog.proofs.ChangeLaws.{length-added, length-dropped}
+use Rattle.catalog.proofs.ReadLaws.{told, length-volume-row}
+
+pub record Low (n : ℕ) (r : Refusal) : Type 0 where
+  pub number-low : r .number ≤ 30
+  pub place-low : r .place ≤ n / 58 + 1
+
+bare-low : (n k : ℕ) → k ≤ 30 → Low n (bare k)
+bare-low n k h = record { number-low = h; place-low = omega arith }
+
+read-low : (f : List ℕ) {r : Refusal} → readOf f ≡ reading.Refused r → Low (length f) r
+read-low f {r} e =
+    let w = refusal-within f in
+    let same = refused-is f e in
+    let number = ap (λ (r : Refusal). r .number) same in
+    let place = ap (λ (r : Refusal). r .place) same in
+    record { number-low = omega (arith, w .number-most); place-low = omega (arith, w .place-most) }
+
+-- ---- opening
+
+module _ (f : List ℕ) where
+  pub open-low : (q : Reading) → readOf f ≡ q → Low (length f) (openRefusal f q)
+  open-low (reading.Refused r) e = read-low f e
+  open-low (reading.Accepted p) e = bare-low (length f) _ (by (leb (length (entriesIn f)) maxEntries))
+    where
+      by : (t : Bool) → test 26 t 0 ≤ 30
+      by true = omega arith
+      by false = omega arith
+
+  pub open-length : (q : Reading) → readOf f ≡ q → openRefusal f q .number ≡ 0 → length (catalogBytes (rowsFor (entriesIn f)) []) ≤ 65536
+  open-length (reading.Refused r) e z = absurd (refused-some f e z)
+  open-length (reading.Accepted p) e z = omega (arith, length-opened f [], by (leb (length (entriesIn f)) maxEntries) refl z)
+    where
+      by : (t : Bool) → t ≡ leb (length (entriesIn f)) maxEntries → test 26 t 0 ≡ 0 → length (entriesIn f) ≤ maxEntries
+      by true s z = leb-true _ _ (sym s)
+      by false s z = absurd (omega arith)
+
+-- ---- adding
+
+module _ (b vol : List ℕ) where
+  pub add-low : (q : Reading) → readOf vol ≡ q → Low (length vol) (addRefusal b vol q)
+  unfolding addNumber
+  add-low (reading.Refused r) e = read-low vol e
+  add-low (reading.Accepted p) e =
+      bare-low (length vol) _
+      (by (isCatalog b) (volumeInRange (volumeNumberOf vol) b) (equal (flatten (rowsFor (entriesIn vol))) (flatten (entryRows b)))
+      (leb (length (entriesIn vol)) maxEntries) (not (holds (volumeNumberOf vol) (volumeRows b))))
+    where
+      by : (s t u v w : Bool) → test 30 s (test 10 t (test 25 u (test 26 v (test 11 w 0)))) ≤ 30
+      by false t u v w = omega arith
+      by true false u v w = omega arith
+      by true true false v w = omega arith
+      by true true true false w = omega arith
+      by true true true true false = omega arith
+      by true true true true true = omega arith
+
+  pub add-length : (q : Reading) → readOf vol ≡ q → addRefusal b vol q .number ≡ 0 → length (addedBytes b vol) ≤ 65536
+  add-length (reading.Refused r) e z = absurd (refused-some vol e z)
+  add-length (reading.Accepted p) e z =
+      let c = add-catalog b vol z in
+      omega (arith, length-added b c (volumeRow vol) (length-volume-row vol (told vol e)), c .few, volumes-few b c)
+
+-- ---- dropping
+
+module _ (b : List ℕ) (v : ℕ) where
+  pub drop-low : Low 0 (bare (dropNumber b v))
+  unfolding dropNumber
+  drop-low = bare-low 0 _ (by (isCatalog b) (volumeInRange v b) (holds v (volumeRows b)))
+    where
+      by : (s t u : Bool) → test 30 s (test 10 t (test 11 u 0)) ≤ 30
+      by false t u = omega arith
+      by true false u = omega arith
+      by true true false = omega arith
+      by true true true = omega arith
+
+  pub drop-length : dropNumber b v ≡ 0 → length (droppedBytes b v) ≤ 65536
+  drop-length z =
+      let d = drop-passed b v z in
+      let c = d .0 in
+      omega (arith, length-dropped b c v (d .1) (held-within b c v (d .1)), c .few, volumes-few b c)
+
+-- ---- loading
+
+pub data Loads (b : List ℕ) (n : ℕ) : Writing → Type 0 where
+  loads : isCatalog b ≡ true → entryCount b ≤ n → Loads b n (writing.Written (entryCount b))
+  loads-not : {r : Refusal} → Low 0 r → Loads b n (writing.Refused r)
+
+pub loading-is : (b : List ℕ) (n : ℕ) → Loads b n (loadingOf b n)
+unfolding loadingOf
+loading-is b n = by (isCatalog b) refl (leb (entryCount b) n) refl
+  where
+    by : (s : Bool) → s ≡ isCatalog b → (t : Bool) → t ≡ leb (entryCount b) n
+        → Loads b n (cond s (cond t (writing.Written (entryCount b)) (writing.Refused (bare 14))) (writing.Refused (bare 30)))
+    by true e true f = loads (sym e) (leb-true _ _ (sym f))
+    by true e false f = loads-not (bare-low 0 14 (omega arith))
+    by false e t f = loads-not (bare-low 0 30 (omega arith))
