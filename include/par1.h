@@ -10,8 +10,8 @@
  * that a call writes must not overlap others that it is lent. Numbers in lent bytes are 64 bits wide, lowest byte first.
  *
  * Stack: par1_query takes 67 KiB; par1_md5, par1_read, par1_write_entry, par1_write_volume, par1_amend, par1_compare, par1_export, par1_import,
- * par1_check, par1_open, par1_hash_push, par1_hash_end and the calls on a reading in chunks less than 4 KiB; the others less than 1 KiB (measured,
- * docs/BENCHMARKS.md).
+ * par1_catalog_open, par1_catalog_add, par1_check, par1_open, par1_hash_push, par1_hash_end and the calls on a reading in chunks less than 4 KiB; the
+ * others less than 1 KiB (measured, docs/BENCHMARKS.md).
  */
 #ifndef PAR1_H
 #define PAR1_H
@@ -34,7 +34,7 @@ enum {
     PAR1_VOLUME_NUMBER = 7, /* too many files, or the volume number does not go with them */
     PAR1_SET_HASH = 8,      /* the set hash differs */
     PAR1_DATA_SIZE = 9,     /* the data's size is odd in an index, or in a volume not the greatest file size among the saved entries */
-    PAR1_OUT_OF_RANGE = 10, /* a number is out of range, no calls give the inventory, 0 has no inverse, or an index is to be amended */
+    PAR1_OUT_OF_RANGE = 10, /* a number is out of range, no calls give the inventory, 0 has no inverse, or an index is to be amended or added */
     PAR1_ALREADY = 11,      /* present already, or not present */
     PAR1_UNDETERMINED = 12, /* what is present does not determine the file */
     PAR1_PRESENT = 13,      /* the file is present */
@@ -48,13 +48,17 @@ enum {
     PAR1_STRETCH = 21,      /* the stretch lies neither inside the file nor on its end, or the new entry does not go with it */
     PAR1_LINE = 22,         /* a line of another shape, or the last one has no end */
     PAR1_SUM = 23,          /* a line for a listed name that an earlier line has with another sum */
-    PAR1_UNFIT = 24         /* a name that does not fit a line */
+    PAR1_UNFIT = 24,        /* a name that does not fit a line */
+    PAR1_ROWS = 25,         /* the volume's list gives other entry rows than the catalog has */
+    PAR1_ENTRIES = 26,      /* more than 1,024 entries for a catalog */
+    PAR1_CATALOG = 30       /* the catalog ends early, or no list and volumes give it */
 };
 
 /* An answer that has more to say than a number: the number, and a value that goes with it. The value of a refusal 16 to 18 is the place of
  * the entry in its list, from 1, and 0 where it stands in none; of 22 and 23 it is the line's number, from 1; of any other refusal it is 0, so that
  * a refusal without a place is its bare number. The value of an accepted par1_amend is the volume's new length, of a par1_compare or par1_export the
- * length of its text, of a par1_import the number of entries; any other accepted call answers 0. */
+ * length of its text, of par1_catalog_open, par1_catalog_add and par1_catalog_drop the catalog's length, of par1_import and par1_catalog_load the
+ * number of entries; any other accepted call answers 0. */
 typedef uint64_t par1_answer;
 #define PAR1_NUMBER(a) ((uint32_t)((a) % 32))
 #define PAR1_VALUE(a) ((a) / 32)
@@ -73,8 +77,8 @@ enum {
 /* How many bytes the jobs take that are lent as bytes. */
 enum { PAR1_MUL_ADD_BYTES = 24, PAR1_READ_BYTES = 392 };
 
-/* Limits: the size of a listed file, the length of an index file or volume, the number of saved files. */
-enum { PAR1_MAX_FILE_SIZE = 16777216, PAR1_MAX_VOLUME_LENGTH = 33554432, PAR1_MAX_FILES = 254 };
+/* Limits: the size of a listed file, the length of an index file or volume, the number of saved files, of entries in a catalog. */
+enum { PAR1_MAX_FILE_SIZE = 16777216, PAR1_MAX_VOLUME_LENGTH = 33554432, PAR1_MAX_FILES = 254, PAR1_MAX_ENTRIES = 1024 };
 
 /* Where the numbers stand that par1_read writes. */
 enum {
@@ -187,6 +191,45 @@ par1_answer par1_export(const uint8_t *file, size_t file_len, uint8_t *out, size
  * line, from 1: 22: a line of another shape, or without its byte 10; 23: a line for a listed name that an earlier line has with another sum; 14: `out`
  * has fewer bytes than the list has entries. The time grows with the number of entries times the length of the text. */
 par1_answer par1_import(const uint8_t *file, size_t file_len, const uint8_t *text, size_t text_len, uint8_t *out, size_t out_len);
+
+/* A catalog is an index of a set: what its files are, and which volumes of it there are. It is four numbers of 32 bits, lowest byte first: entries,
+ * volumes, the start of the entry rows, which is 16, and of the volume rows; then a row of 28 bytes for each entry, in list order, and for each
+ * volume, ascending by number. A row has a number of 4 bytes (an entry's file number, 0 where it is not saved; a volume's number), one of 8 (the file's
+ * size; the volume's data size) and 16 bytes (the MD5; the control hash). So its length is PAR1_CATALOG_HEAD + PAR1_CATALOG_ROW * (entries +
+ * volumes); it is the first bytes of the room that it is lent in, and bytes past it are only room.
+ *
+ * The calls on one refuse with 30 bytes that end before that length or that, hashes apart, no list and volumes give: another start, more than 1,024
+ * entries, file numbers other than 0 or the next in turn, more than 254 of them, a size above 16,777,216, volume numbers that do not ascend within 1
+ * to 255 - n (n files are saved; none where n is 0), a data size other than the greatest size of a saved file. */
+enum { PAR1_CATALOG_HEAD = 16, PAR1_CATALOG_ROW = 28 };
+
+/* An entry row as par1_catalog_load fills it. */
+struct par1_row {
+    uint32_t file; /* the file number, 0 where the file is not saved */
+    uint64_t size;
+    uint8_t md5[16];
+};
+
+/* Opens a catalog of the list of an index file or volume, with no volumes, over the first bytes of `out`; it takes PAR1_CATALOG_HEAD +
+ * PAR1_CATALOG_ROW * entries. The value is its length. Refuses, in this order, with 1 to 5, 16 to 19, 7 to 9: as par1_read, with the place in the
+ * list; 26: the list has more than 1,024 entries; 14: `out` is shorter. */
+par1_answer par1_catalog_open(const uint8_t *file, size_t file_len, uint8_t *out, size_t out_len);
+
+/* Adds a volume to the catalog in the room `catalog`: its row goes between those of lower and of greater numbers, the greater ones move up by a row,
+ * and the number of volumes is one more; nothing else changes. The value is the new length. Names, and bits of status but that of saved, are not in
+ * the rows. Refuses, in this order, with 1 to 5, 16 to 19, 7 to 9: as par1_read of the volume, with the place in the list; 30; 10: its number is 0 (an
+ * index) or above 255 - n, n being the saved files of the catalog; 25: its list gives other entry rows; 26: its list has more than 1,024 entries, which
+ * 25 forestalls; 11: a volume of its number is there; 14: the room is shorter than the new length. */
+par1_answer par1_catalog_add(uint8_t *catalog, size_t catalog_len, const uint8_t *volume, size_t volume_len);
+
+/* Drops a volume: its row goes, the greater ones move down by a row, and the number of volumes is one less; nothing else changes, so that the bytes of
+ * the last row stay in the room. The value is the new length. Refuses, in this order, with 30; 10: the number is 0 or above 255 - n; 11: no volume of
+ * that number is there. */
+par1_answer par1_catalog_drop(uint8_t *catalog, size_t catalog_len, uint64_t number);
+
+/* The entry rows of a catalog into the first records of `rows`, one for each entry, in order; records past them stay. `rows_len` counts records. The
+ * value is the number of entries. Refuses with 30, then with 14 where there are fewer records than entries. */
+par1_answer par1_catalog_load(const uint8_t *catalog, size_t catalog_len, struct par1_row *rows, size_t rows_len);
 
 /* Whether `contents` are those of the file that `entry` describes. Refuses with 16, 17 or 18, the first that holds, where the entry
  * breaks a rule (16 also where it does not fill its bytes), then with 15 where length, MD5 or 16k MD5 differ. */

@@ -4,7 +4,7 @@ use crate::amend::{self, Amendment};
 use crate::inventory::Inventory;
 use crate::jobs::{self, Hash};
 use crate::par1::Refusal;
-use crate::{differences, field, md5, md5sum, par1};
+use crate::{catalog, differences, field, md5, md5sum, par1};
 
 /// A refusal changes nothing; 14 where the room is shorter than what is to be written; else 0, and the room's first bytes.
 fn written<A: From<u32>>(value: Result<Vec<u8>, A>, room: &[u8]) -> (A, Vec<u8>) {
@@ -80,6 +80,27 @@ pub fn export(file: &[u8], room: &[u8]) -> (u64, Vec<u8>) {
 /// The value is the number of entries, each of which takes a byte.
 pub fn import(file: &[u8], text: &[u8], room: &[u8]) -> (u64, Vec<u8>) {
     length_told(md5sum::import(file, text).map_err(Refusal::answer), room)
+}
+
+/// The value of an accepted call on a catalog is its length, of loading the number of entries.
+pub fn catalog_open(file: &[u8], room: &[u8]) -> (u64, Vec<u8>) {
+    length_told(catalog::open(file).map_err(Refusal::answer), room)
+}
+
+pub fn catalog_add(room: &[u8], volume: &[u8]) -> (u64, Vec<u8>) {
+    length_told(catalog::add(room, volume).map_err(Refusal::answer), room)
+}
+
+pub fn catalog_drop(room: &[u8], number: u64) -> (u64, Vec<u8>) {
+    length_told(catalog::drop(room, number).map_err(Refusal::answer), room)
+}
+
+/// The records that are filled; the others stay.
+pub fn catalog_load(bytes: &[u8], records: usize) -> (u64, Vec<catalog::Row>) {
+    match catalog::load(bytes, records) {
+        Ok(rows) => (32 * rows.len() as u64, rows),
+        Err(refusal) => (refusal.answer(), vec![]),
+    }
 }
 
 /// The sizes are numbers of 64 bits; bytes left over make their number another one than n.

@@ -1,14 +1,18 @@
 //! A second program, written from the documents alone: it compares its own answers with those of the C library's calls.
 //!
-//! `md5`, `field`, `par1`, `inventory`, `jobs`, `amend`, `differences`, `md5sum` work the answers out; `expected` gives each call's number and lent
-//! bytes from them; `calls` and `job_calls` make the library's calls, on lent bytes with guards on both sides; `cuts` has ways of cutting an input,
-//! `files` sets of files and their volumes; `compare_*` are the comparisons.
+//! `md5`, `field`, `par1`, `inventory`, `jobs`, `amend`, `differences`, `md5sum`, `catalog` work the answers out; `expected` gives each call's
+//! number and lent bytes from them; `calls`, `catalog_calls` and `job_calls` make the library's calls, on lent bytes with guards on both sides;
+//! `cuts` has ways of cutting an input, `files` sets of files and their volumes; `compare_*` are the comparisons.
 
 mod amend;
 mod calls;
+mod catalog;
+mod catalog_calls;
 mod compare_amend;
 mod compare_amend_refusals;
 mod compare_amend_stretch;
+mod compare_catalog;
+mod compare_catalog_refusals;
 mod compare_data_size;
 mod compare_differences;
 mod compare_entries;
@@ -80,7 +84,7 @@ impl Random {
 fn main() {
     let mut counts = Counts { passed: 0, failed: 0 };
     let mut random = Random(2026);
-    let parts: [(&str, fn(&mut Counts, &mut Random)); 17] = [
+    let parts: [(&str, fn(&mut Counts, &mut Random)); 19] = [
         ("md5", compare_md5::run),
         ("field", compare_field::run),
         ("parity", compare_parity::run),
@@ -98,6 +102,8 @@ fn main() {
         ("amendments refused", compare_amend_refusals::run),
         ("files compared", compare_differences::run),
         ("text of md5sum", compare_md5sum::run),
+        ("catalogs", compare_catalog::run),
+        ("catalogs refused", compare_catalog_refusals::run),
     ];
     for (name, run) in parts {
         let before = counts.passed + counts.failed;
@@ -105,7 +111,7 @@ fn main() {
         println!("{name}: {} comparisons", counts.passed + counts.failed - before);
     }
     for (number, times) in calls::came_back().into_iter().enumerate() {
-        let given = number <= 24 && number != 6;
+        let given = number <= 26 && number != 6 || number == 30;
         if given {
             println!("number {number} came back {times} times");
         }

@@ -4,7 +4,7 @@ use crate::md5::digest;
 
 const MAGIC: &[u8; 8] = b"PAR\0\0\0\0\0";
 const VERSION: u32 = 65536;
-const FILE_LIMIT: u64 = 16_777_216;
+pub const FILE_LIMIT: u64 = 16_777_216;
 pub const VOLUME_LIMIT: usize = 33_554_432;
 
 fn number(bytes: &[u8]) -> u64 {
