@@ -10,6 +10,7 @@ enum { VOLUME = PAR1_LIST_AT + LIST + SIZE };
 static uint8_t contents[SIZE], list[LIST], volume[VOLUME], sizes[8 * FILES], inventory[PAR1_INVENTORY_BYTES], room[VOLUME], other[VOLUME];
 static uint8_t fold[PAR1_MUL_ADD_BYTES], reading[PAR1_READ_BYTES];
 static struct par1_hash hash;
+static struct par1_row rows[FILES];
 static const uint8_t name[2] = {'A', 0};
 static par1_answer number;
 
@@ -28,6 +29,10 @@ static void amend(void) {
 static void compare(void) { number = PAR1_NUMBER(par1_compare(volume, VOLUME, other, VOLUME, room, VOLUME)); }
 static void export_(void) { number = PAR1_NUMBER(par1_export(volume, VOLUME, room, VOLUME)); }
 static void import(void) { number = PAR1_NUMBER(par1_import(volume, VOLUME, room, 36, other, VOLUME)); }
+static void catalog_open(void) { number = PAR1_NUMBER(par1_catalog_open(volume, VOLUME, room, VOLUME)); }
+static void catalog_add(void) { number = PAR1_NUMBER(par1_catalog_add(room, VOLUME, volume, VOLUME)); }
+static void catalog_load(void) { number = PAR1_NUMBER(par1_catalog_load(room, VOLUME, rows, FILES)); }
+static void catalog_drop(void) { number = PAR1_NUMBER(par1_catalog_drop(room, VOLUME, 1)); }
 static void check(void) { number = par1_check(list, ENTRY, contents, SIZE); }
 static void hash_start(void) { par1_hash_start(&hash), number = 0; }
 static void hash_push(void) { number = par1_hash_push(&hash, contents, SIZE - 1); }
@@ -49,7 +54,9 @@ static void query(void) { number = par1_query(inventory, sizeof inventory, 1, ro
 static const struct { const char *name; void (*run)(void); } calls[] = {
     {"par1_md5", md5}, {"par1_inverse", inverse}, {"par1_coefficient", coefficient}, {"par1_mul_add", mul_add},
     {"par1_write_entry", write_entry}, {"par1_entry", entry}, {"par1_check", check}, {"par1_write_volume", write_volume}, {"par1_amend", amend},
-    {"par1_read", read_}, {"par1_compare", compare}, {"par1_export", export_}, {"par1_import", import}, {"par1_hash_start", hash_start},
+    {"par1_read", read_}, {"par1_compare", compare}, {"par1_export", export_}, {"par1_import", import},
+    {"par1_catalog_open", catalog_open}, {"par1_catalog_add", catalog_add}, {"par1_catalog_load", catalog_load}, {"par1_catalog_drop", catalog_drop},
+    {"par1_hash_start", hash_start},
     {"par1_hash_push", hash_push}, {"par1_hash_end", hash_end},
     {"par1_mul_add_start", mul_add_start}, {"par1_mul_add_push", mul_add_push}, {"par1_mul_add_end", mul_add_end},
     {"par1_read_start", read_start}, {"par1_read_push", read_push}, {"par1_read_end", read_end},
