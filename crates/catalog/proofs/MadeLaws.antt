@@ -99,7 +99,7 @@ made r h =
     let m : List ℕ = replicate (sizeOf r) 0 in
     let back : EntryBack (entryBytes m (madeStatus r) oneName) m (madeStatus r) oneName =
     entry-back m (madeStatus r) oneName
-    (record { size-right = ap (λ (k : ℕ). fileSizeAllowed k) (length-replicate (sizeOf r) 0) ∙ h; status-right = low (isSavedRow r); name-right = refl })
+    (ap (λ (k : ℕ). fileSizeAllowed k) (length-replicate (sizeOf r) 0) ∙ h) (low (isSavedRow r)) refl
     (omega (arith, length-entry m (madeStatus r) oneName)) in
     record {
       saved-is = ap (λ (k : ℕ). isSaved k) (back .status-is) ∙ bit (isSavedRow r);
@@ -107,9 +107,9 @@ made r h =
       entries-are = back .entries-are;
     }
   where
-    low : (t : Bool) → leb (cond t 1 0) 3 ≡ true
-    low true = refl
-    low false = refl
+    low : (t : Bool) → cond t 1 0 < 2 ^ 64
+    low true = omega arith
+    low false = omega arith
 
     bit : (t : Bool) → isSaved (cond t 1 0) ≡ t
     bit true = refl

@@ -136,18 +136,19 @@ unfolding writeEntryOf entryRefusal
 entry-accepted m status name out size-right status-right name-right fits =
     unless-accepted (bare (entryRefusal (length m) status name)) (entryBytes m status name) out (simp (size-right, status-right, name-right)) fits
 
-pub entry-back : (m : List ℕ) (status : ℕ) (name : List ℕ) → EntryPassed (length m) status name → length (entryBytes m status name) < 2 ^ 64
-    → EntryBack (entryBytes m status name) m status name
-entry-back m status name passed few =
-    let status-small : status ≤ 3 = leb-true status 3 (passed .status-right) in
-    let short : length m ≤ 16777216 = leb-true (length m) 16777216 (passed .size-right) in
+pub entry-back : (m : List ℕ) (status : ℕ) (name : List ℕ) → fileSizeAllowed (length m) ≡ true → status < 2 ^ 64 → nameAllowed name ≡ true
+    → length (entryBytes m status name) < 2 ^ 64 → EntryBack (entryBytes m status name) m status name
+entry-back m status name sized small named few =
+    let short : length m ≤ 16777216 = leb-true (length m) 16777216 sized in
     let size : length (entryBytes m status name) ≡ 56 + length name = length-entry m status name in
-    let d = entry-fields m status name (omega arith) (omega arith) (omega arith) in
-    all-back size d (named-right name (passed .name-right)) (passed .size-right)
+    let d = entry-fields m status name small (omega arith) (omega arith) in
+    all-back size d (named-right name named) sized
 
 pub entry-written : EntryWritten
 unfolding writeEntryOf
 entry-written m status name out n room few e =
     let told = unless-tells (bare (entryRefusal (length m) status name)) (entryBytes m status name) out e in
     let passed = entry-passed (length m) status name (told .none) in
-    subst (λ (l : List ℕ). EntryBack l m status name) (sym (told .written-is)) (entry-back m status name passed (omega (arith, told .fits)))
+    let small : status ≤ 1 = leb-true status 1 (passed .status-right) in
+    subst (λ (l : List ℕ). EntryBack l m status name) (sym (told .written-is))
+    (entry-back m status name (passed .size-right) (omega arith) (passed .name-right) (omega (arith, told .fits)))

@@ -7,6 +7,7 @@ use mathlib.Core.Path.{_≡_, sym, ap, ap₂, _∙_}
 use mathlib.Core.List.{List, [], _++_, append-assoc, flatten}
 use Prim.Native.Nat.{ℕ, _+_, _≤_}
 use native.Mathlib.Omega.{arith}
+use borrow.Author.Tests.{le-leb}
 use lib.ListN.{length, take, drop, length-append, length-drop}
 use lib.Seq.{take-append-seam, drop-append-seam, drop-drop}
 use Rattle.cut_lists.specs.All.{All, all-none, all-more}
@@ -17,7 +18,7 @@ use Rattle.par1.proofs.EntryWritten.{entry-accepted}
 use Rattle.par1_write.specs.EntryWriting.{writeEntryOf}
 use Rattle.par1_write.specs.VolumeWriting.{writeVolumeOf}
 use Rattle.par1_set.specs.Calls.{next, writeEntries, writeSet}
-use Rattle.par1_set.specs.Files.{File, entryFor, listFor, FileRight}
+use Rattle.par1_set.specs.Files.{File, entryFor, listFor, FileRight, Writable}
 
 -- the bytes p stand in the room already, and the rest of it follows them: an entry e, then the others l
 after-entry : (p e l rest : List ℕ)
@@ -29,30 +30,30 @@ after-entry p e l rest =
     drop-drop (length l) (length e) rest ∙ ap (λ (k : ℕ). drop k rest) (sym (length-append e l)) in
     ap₂ (λ (k : ℕ) (t : List ℕ). (Written k, t)) n (simp append-assoc (ap (λ (t : List ℕ). p ++ (e ++ (l ++ t))) past))
 
-entries-from : {fs : List File} (p rest : List ℕ) → All FileRight fs → length (listFor fs) ≤ length rest
+entries-from : {fs : List File} (p rest : List ℕ) → All FileRight fs → All Writable fs → length (listFor fs) ≤ length rest
     → writeEntries fs (length p) (p ++ rest) ≡ (Written (length p + length (listFor fs)), p ++ (listFor fs ++ drop (length (listFor fs)) rest))
 unfolding writeEntries flatten
-entries-from p rest all-none h = let n : length p ≡ length p + 0 = omega arith in ap (λ (k : ℕ). (Written k, p ++ rest)) n
-entries-from p rest (all-more {x} {xs = fs} r rs) h =
+entries-from p rest all-none all-none h = let n : length p ≡ length p + 0 = omega arith in ap (λ (k : ℕ). (Written k, p ++ rest)) n
+entries-from p rest (all-more {x} {xs = fs} r rs) (all-more w ws) h =
     let e : List ℕ = entryFor x in
     let l : List ℕ = listFor fs in
     let out : List ℕ = p ++ rest in
     let total : length (e ++ l) ≡ length e + length l = length-append e l in
-    let w : writeEntryOf (x .contents) (x .status) (x .name) (drop (length p) out) ≡ accepted e rest =
+    let wrote-one : writeEntryOf (x .contents) (x .status) (x .name) (drop (length p) out) ≡ accepted e rest =
     ap (writeEntryOf (x .contents) (x .status) (x .name)) (drop-append-seam p rest)
-    ∙ entry-accepted (x .contents) (x .status) (x .name) rest (r .size-right) (r .status-right) (r .name-right) (omega arith) in
+    ∙ entry-accepted (x .contents) (x .status) (x .name) rest (r .size-right) (le-leb _ _ w) (r .name-right) (omega arith) in
     let wrote : take (length p) out ++ (e ++ drop (length e) rest) ≡ (p ++ e) ++ drop (length e) rest =
     ap (λ (t : List ℕ). t ++ (e ++ drop (length e) rest)) (take-append-seam p rest) ∙ sym (append-assoc p e _) in
-    ap (λ (q : Writing × List ℕ). next (q .0) out (λ n. writeEntries fs (length p + n) (take (length p) out ++ q .1))) w
+    ap (λ (q : Writing × List ℕ). next (q .0) out (λ n. writeEntries fs (length p + n) (take (length p) out ++ q .1))) wrote-one
     ∙ ap₂ (λ (k : ℕ) (t : List ℕ). writeEntries fs k t) (sym (length-append p e)) wrote
-    ∙ entries-from (p ++ e) (drop (length e) rest) rs (omega (arith, length-drop (length e) rest))
+    ∙ entries-from (p ++ e) (drop (length e) rest) rs ws (omega (arith, length-drop (length e) rest))
     ∙ after-entry p e l rest
 
-pub entries-written : {fs : List File} (room : List ℕ) → All FileRight fs → length (listFor fs) ≤ length room
+pub entries-written : {fs : List File} (room : List ℕ) → All FileRight fs → All Writable fs → length (listFor fs) ≤ length room
     → writeEntries fs 0 room ≡ accepted (listFor fs) room
-entries-written {fs} room rs h =
+entries-written {fs} room rs ws h =
     let n : 0 + length (listFor fs) ≡ length (listFor fs) = omega arith in
-    entries-from [] room rs h ∙ ap (λ (k : ℕ). (Written k, listFor fs ++ drop (length (listFor fs)) room)) n
+    entries-from [] room rs ws h ∙ ap (λ (k : ℕ). (Written k, listFor fs ++ drop (length (listFor fs)) room)) n
 
 pub set-then : (program v : ℕ) (fs : List File) (area room out : List ℕ) → writeEntries fs 0 room ≡ accepted (listFor fs) room
     → writeSet program v fs area room out ≡ writeVolumeOf program v (listFor fs) area out

@@ -2,12 +2,13 @@
 -- volume 2 is (7, 2), volume 3 is (13, 2)", as long as "the greatest size among saved entries".
 -- Assumes nothing.
 use mathlib.Core.Path.{_≡_, refl}
+use mathlib.Core.Bool.{true}
 use mathlib.Core.List.{List, [], _∷_, flatten}
-use Prim.Native.Nat.{ℕ}
+use Prim.Native.Nat.{ℕ, _^_, _<_}
 use native.Mathlib.Omega.{arith}
 use lib.ListN.{length, length-append}
 use Rattle.cut_lists.specs.All.{all-none, all-more}
-use Rattle.entries.specs.Entry.{isCounted, unitsOf, unitAllowed, unitsAllowed, nameAllowed}
+use Rattle.entries.specs.Entry.{isCounted, fileSizeAllowed, unitsOf, unitAllowed, unitsAllowed, nameAllowed}
 use Rattle.gf256.specs.Polynomial.{coeff, sumBelow, polyProduct, remainder}
 use Rattle.gf256.specs.Field.{product, power}
 use Rattle.little_endian.specs.Bytes.{fromLe, leAt}
@@ -15,7 +16,7 @@ use Rattle.par1_write.proofs.EntryWritingLaws.{length-entry}
 use Rattle.parity.specs.Coefficient.{coefficient}
 use Rattle.computed_tests.specs.Lists.{listBelow}
 use Rattle.parity.specs.Parity.{parityByte, parity}
-use Rattle.par1_set.specs.Files.{File, listFor}
+use Rattle.par1_set.specs.Files.{File, listFor, FileRight}
 use Rattle.par1_set.specs.Volume.{dataFor, VolumeRight}
 
 -- a file with the name "A"
@@ -42,13 +43,15 @@ unfolding flatten
 p6-list = simp (length-append, length-entry)
 
 -- the set keeps the rules
+file-right : (contents : List ℕ) (status : ℕ) → fileSizeAllowed (length contents) ≡ true → status < 2 ^ 64 → FileRight (file contents status)
+unfolding nameAllowed unitsAllowed unitsOf unitAllowed leAt fromLe
+file-right contents status sized small = record { size-right = sized; status-right = small; name-right = refl }
+
 p6-right : VolumeRight 1 p6
-unfolding isCounted nameAllowed unitsAllowed unitsOf unitAllowed leAt fromLe
+unfolding isCounted
 p6-right =
     record {
-      files-right = all-more (record { size-right = refl; status-right = refl; name-right = refl })
-          (all-more (record { size-right = refl; status-right = refl; name-right = refl })
-          (all-more (record { size-right = refl; status-right = refl; name-right = refl }) all-none));
+      files-right = all-more (file-right _ 1 refl (omega arith)) (all-more (file-right _ 0 refl (omega arith)) (all-more (file-right _ 1 refl (omega arith)) all-none));
       volume-low = omega arith;
       volume-high = omega arith;
       count-low = omega arith;

@@ -26,22 +26,18 @@ use Rattle.entries.specs.declared.Walked.the-variants as walked
 use Rattle.entries.proofs.KeepLaws.{keep-at, keep-same, keep-map, all-keep}
 use Rattle.entries.proofs.NumberingLaws.{number-saved}
 use Rattle.par1.proofs.EntryWritten.{entry-back}
-use Rattle.par1_write.proofs.EntryWritingLaws.{EntryPassed}
 use Rattle.par1_set.specs.Claim.{FileBack, SetListed}
 use Rattle.par1_set.proofs.DataSizes.{saved-size}
 use Rattle.par1_set.specs.Files.{File, noFile, savedFiles, fileCount, contentsOf, entryFor, entriesFor, listFor, dataSizeFor, FileRight}
 
 -- ---- each entry
 
-passed : (x : File) → FileRight x → EntryPassed (length (x .contents)) (x .status) (x .name)
-passed x r = record { size-right = r .size-right; status-right = r .status-right; name-right = r .name-right }
-
 pub files-back : {fs : List File} → All FileRight fs → length (listFor fs) < 2 ^ 64 → All FileBack fs
 unfolding flatten
 files-back all-none h = all-none
 files-back (all-more {x} {xs = fs} r rs) h =
     let n = length-append (entryFor x) (listFor fs) in
-    all-more (entry-back (x .contents) (x .status) (x .name) (passed x r) (omega arith)) (files-back rs (omega arith))
+    all-more (entry-back (x .contents) (x .status) (x .name) (r .size-right) (r .status-right) (r .name-right) (omega arith)) (files-back rs (omega arith))
 
 -- ---- all entries
 

@@ -27,7 +27,7 @@ use Rattle.par1_write.specs.VolumeWriting.{volumeBytes, walkRefusal, writeVolum
 use Rattle.refusals.specs.Limits.{maxVolumeLength}
 use Rattle.par1_set.specs.Calls.{writeSet}
 use Rattle.par1_set.specs.Claim.{FileBack}
-use Rattle.par1_set.specs.Files.{File, fileCount, listFor, dataSizeFor, FileRight}
+use Rattle.par1_set.specs.Files.{File, fileCount, listFor, dataSizeFor, FileRight, Writable}
 use Rattle.par1_set.specs.Volume.{bytesFor}
 use Rattle.par1_set.proofs.AcceptedCalls.{set-tells}
 use Rattle.refusals.specs.declared.Refusal.{Refusal}
@@ -57,11 +57,11 @@ module _ {v : ℕ} {fs : List File} {area : List ℕ} (s : SetPassed v fs area) 
     same : volumeBytes program v (listFor fs) area ≡ bytesFor version program v fs area
     same = bytes-are set-back v area program
 
-    pub set-accepted : (room out : List ℕ) → length (listFor fs) ≤ length room → length (bytesFor version program v fs area) ≤ length out
+    pub set-accepted : (room out : List ℕ) → All Writable fs → length (listFor fs) ≤ length room → length (bytesFor version program v fs area) ≤ length out
         → writeSet program v fs area room out ≡ accepted (bytesFor version program v fs area) out
-    set-accepted room out list-fits fits =
+    set-accepted room out writable list-fits fits =
         let size = length-bytes set-back v area program in
-        set-then program v fs area room out (entries-written room (s .files-right) list-fits)
+        set-then program v fs area room out (entries-written room (s .files-right) writable list-fits)
         ∙ volume-accepted program v (listFor fs) area out (totalsFor fs) (walk-is set-back) (s .number-right) (s .data-right)
         (omega (arith, ap length same, s .length-right)) (omega (arith, ap length same))
         ∙ ap (λ (f : List ℕ). accepted f out) same
@@ -73,15 +73,15 @@ module _ {v : ℕ} {fs : List File} {area : List ℕ} (s : SetPassed v fs area) 
 -- the tests of writing passed, and the bytes are those of the set
 pub set-only : (program v : ℕ) (fs : List File) (area room out : List ℕ) {n : ℕ} {after : List ℕ}
     → writeSet program v fs area room out ≡ (Written n, after)
-    → SetPassed v fs area × ((Written n, after) ≡ accepted (bytesFor version program v fs area) out)
+    → SetPassed v fs area × All Writable fs × ((Written n, after) ≡ accepted (bytesFor version program v fs area) out)
 unfolding writeVolumeOf
 set-only program v fs area room out {n} {after} e =
     let told = set-tells program v fs area room out e in
     let l : List ℕ = listFor fs in
     let refusal : Refusal = walkRefusal v (walkOf l) (length l) (length area) in
     let f : List ℕ = volumeBytes program v l area in
-    let fits = unless-tells refusal f out (told .1) in
-    let written : (Written n, after) ≡ accepted f out = sym (told .1) ∙ unless-accepted refusal f out (fits .none) (fits .fits) in
+    let fits = unless-tells refusal f out (told .2) in
+    let written : (Written n, after) ≡ accepted f out = sym (told .2) ∙ unless-accepted refusal f out (fits .none) (fits .fits) in
     let passed = list-passed v l (length area) (fits .none) in
     let high = passed .tests .size .high in
     let back = files-back (told .0) (omega arith) in
@@ -93,5 +93,6 @@ set-only program v fs area room out {n} {after} e =
         data-right = ap (λ (t : Totals). dataAllowed v (t .greatest) (length area)) (sym totals) ∙ passed .tests .data-right;
         length-right = high;
       },
+      told .1,
       written ∙ ap (λ (b : List ℕ). accepted b out) (bytes-are back v area program),
     )

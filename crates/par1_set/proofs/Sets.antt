@@ -3,7 +3,7 @@
 --   length-data                  the data of a volume is as long as the data-size rule says
 --   volume-set, index-set        volumes and indices that keep the rules pass the tests of writing
 --   volume-made                  the calls give the volume, by any rule for the coefficients
---   set-written, index-written, only-volumes, only-indices     the claims
+--   set-read, set-written, index-read, index-written, only-volumes, only-indices     the claims
 -- Assumes nothing.
 use mathlib.Core.Path.{_≡_, ap, _∙_}
 use mathlib.Core.Bool.{true}
@@ -11,6 +11,7 @@ use mathlib.Core.List.{List}
 use Prim.Native.Nat.{ℕ, _≤_}
 use native.Mathlib.Omega.{arith}
 use lib.ListN.{length}
+use Rattle.cut_lists.specs.All.{All}
 use Rattle.gf256.specs.declared.ByteAnswer.the-variants.{Byte}
 use Rattle.lent_bytes.specs.Writing.{accepted}
 use Rattle.mul_add.specs.Once.{Once}
@@ -22,8 +23,8 @@ use Rattle.parity.proofs.Files.{isFile-inside}
 use Rattle.parity.proofs.Parities.{length-parity}
 use Rattle.parity.proofs.Volumes.{files-parity, volume-data}
 use Rattle.par1_set.specs.Calls.{addFiles, writeSet}
-use Rattle.par1_set.specs.Claim.{SetWritten, IndexWritten, OnlyVolumes, OnlyIndices}
-use Rattle.par1_set.specs.Files.{File, fileCount, contentsOf, listFor, dataSizeFor}
+use Rattle.par1_set.specs.Claim.{SetRead, SetWritten, IndexRead, IndexWritten, OnlyVolumes, OnlyIndices}
+use Rattle.par1_set.specs.Files.{File, fileCount, contentsOf, listFor, dataSizeFor, Writable}
 use Rattle.par1_set.specs.Volume.{bytesFor, dataFor, volumeFor, VolumeRight, IndexRight}
 use Rattle.par1_set.proofs.CallLaws.{entries-written}
 use Rattle.par1_set.proofs.Ranges.{volume-number, number-range, volume-size, index-number, index-range, index-size, index-even}
@@ -50,21 +51,24 @@ module _ {v : ℕ} {fs : List File} (right : VolumeRight v fs) where
       let inside = isFile-inside (fileCount fs) f e in
       answer-in-range f v (inside .0) (right .volume-low) (omega (arith, inside .1, right .volume-high))
 
-  pub volume-made : (rule : ℕ → ℕ → ℕ) (program : ℕ) (ks room out : List ℕ) → Once (isFile (fileCount fs)) ks
+  pub volume-made : (rule : ℕ → ℕ → ℕ) (program : ℕ) (ks room out : List ℕ) → All Writable fs → Once (isFile (fileCount fs)) ks
       → length (listFor fs) ≤ length room → length (volumeFor version rule program v fs) ≤ length out
       → writeSet program v fs (addFiles rule v fs ks) room out ≡ accepted (volumeFor version rule program v fs) out
-  volume-made rule program ks room out once list-fits fits =
+  volume-made rule program ks room out writable once list-fits fits =
       ap (λ (d : List ℕ). writeSet program v fs d room out) (files-parity rule (fileCount fs) (contentsOf fs) v (dataSizeFor fs) ks once)
-      ∙ set-accepted (volume-set rule) program room out list-fits fits
+      ∙ set-accepted (volume-set rule) program room out writable list-fits fits
+
+pub set-read : SetRead
+set-read program v fs p right = set-read-back (volume-set right coefficient) program p (omega (arith, right .volume-high))
 
 pub set-written : SetWritten
-set-written program v fs ks room out p right once list-fits fits =
+set-written program v fs ks room out p right writable once list-fits fits =
     record {
-      list-is = entries-written room (right .files-right) list-fits;
+      list-is = entries-written room (right .files-right) writable list-fits;
       coefficients-are = coefficients right;
       data-is = volume-data (fileCount fs) (contentsOf fs) v (dataSizeFor fs) ks once;
-      volume-is = volume-made right coefficient program ks room out once list-fits fits;
-      read-back = set-read-back (volume-set right coefficient) program p (omega (arith, right .volume-high));
+      volume-is = volume-made right coefficient program ks room out writable once list-fits fits;
+      read-back = set-read program v fs p right;
     }
 
 pub only-volumes : OnlyVolumes
@@ -81,7 +85,8 @@ only-volumes program v fs ks room out n after low once e =
         count-low = range .0;
         length-right = omega (arith, s .length-right);
       },
-      told .1 ∙ ap (λ (d : List ℕ). accepted (bytesFor version program v fs d) out) area,
+      told .1,
+      told .2 ∙ ap (λ (d : List ℕ). accepted (bytesFor version program v fs d) out) area,
     )
 
 -- ---- the index
@@ -95,10 +100,15 @@ index-set {fs} {comment} right =
       length-right = right .length-right;
     }
 
+pub index-read : IndexRead
+index-read program fs comment p right = set-read-back (index-set right) program p (omega arith)
+
 pub index-written : IndexWritten
-index-written program fs comment room out p right list-fits fits =
-    let s = index-set right in
-    record { index-is = set-accepted s program room out list-fits fits; read-back = set-read-back s program p (omega arith) }
+index-written program fs comment room out p right writable list-fits fits =
+    record {
+      index-is = set-accepted (index-set right) program room out writable list-fits fits;
+      read-back = index-read program fs comment p right;
+    }
 
 pub only-indices : OnlyIndices
 only-indices program fs comment room out n after e =
@@ -111,4 +121,5 @@ only-indices program fs comment room out n after e =
         length-right = s .length-right;
       },
       told .1,
+      told .2,
     )

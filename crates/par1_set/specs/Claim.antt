@@ -1,9 +1,10 @@
 -- Condition 2 of the tender, over a whole set of files: what is written of them is what Par 1.0 and document 01 define, and is read back.
 --
 --   VolumeMade program v fs ks room out    what the calls give, for volume v of the files fs
---   SetWritten                             they give it for every set that keeps the rules
+--   SetWritten                             they give it for every set that keeps the rules and whose entries are written
 --   IndexMade, IndexWritten                the same of the index
 --   OnlyVolumes, OnlyIndices               they write nothing else
+--   SetRead, IndexRead                     volumes and indices that list entries of other statuses are read back too
 --   FileBack x                             the entry of the file x says what x is
 --   FilesListed fs                         how the files fs stand in their list
 --   SetListed                              they stand so
@@ -31,7 +32,7 @@ use Rattle.parity.specs.Coefficient.{coefficient, coefficientAnswer}
 use Rattle.parity.specs.Parity.{isFile, greatest}
 use Rattle.refusals.specs.Limits.{maxVolumeLength}
 use Rattle.par1_set.specs.Calls.{writeEntries, addFiles, writeSet}
-use Rattle.par1_set.specs.Files.{File, noFile, savedFiles, fileCount, contentsOf, entryFor, entriesFor, listFor, dataSizeFor, FileRight}
+use Rattle.par1_set.specs.Files.{File, noFile, savedFiles, fileCount, contentsOf, entryFor, entriesFor, listFor, dataSizeFor, FileRight, Writable}
 use Rattle.par1_set.specs.Volume.{dataFor, volumeFor, indexFor, VolumeRight, IndexRight}
 
 -- ---- "A volume written is, byte by byte, the one that Par 1.0, RFC 1321 and document 01 define. Reading returns the parts it was
@@ -53,7 +54,7 @@ pub record VolumeMade (program v : ℕ) (fs : List File) (ks room out : List ℕ
 -- proved: proofs/Sets.antt, `set-written`
 abbrev pub SetWritten : Type 0
 SetWritten =
-    (program v : ℕ) (fs : List File) (ks room out : List ℕ) → program < 2 ^ 32 → VolumeRight v fs → Once (isFile (fileCount fs)) ks
+    (program v : ℕ) (fs : List File) (ks room out : List ℕ) → program < 2 ^ 32 → VolumeRight v fs → All Writable fs → Once (isFile (fileCount fs)) ks
     → length (listFor fs) ≤ length room → length (volumeFor version coefficient program v fs) ≤ length out
     → VolumeMade program v fs ks room out
 
@@ -64,7 +65,7 @@ pub record IndexMade (program : ℕ) (fs : List File) (comment room out : List �
 -- proved: proofs/Sets.antt, `index-written`
 abbrev pub IndexWritten : Type 0
 IndexWritten =
-    (program : ℕ) (fs : List File) (comment room out : List ℕ) → program < 2 ^ 32 → IndexRight fs comment
+    (program : ℕ) (fs : List File) (comment room out : List ℕ) → program < 2 ^ 32 → IndexRight fs comment → All Writable fs
     → length (listFor fs) ≤ length room → length (indexFor version program fs comment) ≤ length out
     → IndexMade program fs comment room out
 
@@ -76,14 +77,29 @@ abbrev pub OnlyVolumes : Type 0
 OnlyVolumes =
     (program v : ℕ) (fs : List File) (ks room out : List ℕ) (n : ℕ) (after : List ℕ) → 1 ≤ v → Once (isFile (fileCount fs)) ks
     → writeSet program v fs (addFiles coefficient v fs ks) room out ≡ (Written n, after)
-    → VolumeRight v fs × ((Written n, after) ≡ accepted (volumeFor version coefficient program v fs) out)
+    → VolumeRight v fs × All Writable fs × ((Written n, after) ≡ accepted (volumeFor version coefficient program v fs) out)
 
 -- proved: proofs/Sets.antt, `only-indices`
 abbrev pub OnlyIndices : Type 0
 OnlyIndices =
     (program : ℕ) (fs : List File) (comment room out : List ℕ) (n : ℕ) (after : List ℕ)
     → writeSet program 0 fs comment room out ≡ (Written n, after)
-    → IndexRight fs comment × ((Written n, after) ≡ accepted (indexFor version program fs comment) out)
+    → IndexRight fs comment × All Writable fs × ((Written n, after) ≡ accepted (indexFor version program fs comment) out)
+
+-- ---- document 02, 2026-09: "Old volumes that carry it are still read and written back unchanged", for what is read is written again with the same
+-- ---- bytes (`par1` specs/Claim, `WrittenRead`)
+
+-- proved: proofs/Sets.antt, `set-read`
+abbrev pub SetRead : Type 0
+SetRead =
+    (program v : ℕ) (fs : List File) → program < 2 ^ 32 → VolumeRight v fs
+    → ReadBack (volumeFor version coefficient program v fs) program v (listFor fs) (dataFor coefficient v fs)
+
+-- proved: proofs/Sets.antt, `index-read`
+abbrev pub IndexRead : Type 0
+IndexRead =
+    (program : ℕ) (fs : List File) (comment : List ℕ) → program < 2 ^ 32 → IndexRight fs comment
+    → ReadBack (indexFor version program fs comment) program 0 (listFor fs) comment
 
 -- ---- the files in their list
 

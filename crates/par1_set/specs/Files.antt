@@ -9,16 +9,17 @@
 --   entriesFor fs      the entries of the files fs
 --   listFor fs         the list area of the files fs
 --   dataSizeFor fs     the data size of their volumes
---   FileRight x        the file x keeps the rules
+--   FileRight x        the file x keeps the rules of a list
+--   Writable x         its entry is one that is written
 -- Assumes nothing.
 use mathlib.Core.Path.{_≡_}
 use mathlib.Core.Bool.{true}
 use mathlib.Core.List.{List, [], map, foldr, flatten}
-use Prim.Native.Nat.{ℕ, _-_, max}
+use Prim.Native.Nat.{ℕ, _-_, _^_, _<_, _≤_, max}
 use lib.ListN.{length, getD}
 use Rattle.entries.specs.Entry.{isSaved, isCounted, fileSizeAllowed, nameAllowed}
 use Rattle.entries.specs.Numbering.{keep}
-use Rattle.par1_write.specs.EntryWriting.{entryBytes, statusAllowed}
+use Rattle.par1_write.specs.EntryWriting.{entryBytes}
 
 pub record File : Type 0 where
   pub contents : List ℕ
@@ -54,9 +55,14 @@ listFor fs = flatten (entriesFor fs)
 abbrev pub dataSizeFor : List File → ℕ
 dataSizeFor fs = foldr max 0 (map (λ x. length (x .contents)) (keep (λ x. isCounted (x .status)) fs))
 
--- ---- "Writing an entry .. tests .. (contents too long, status above 3, bad name)"
+-- ---- the rules
 
+-- reading takes any status of 64 bits: document 02, 2026-09, "Old volumes that carry it are still read"
 pub record FileRight (x : File) : Type 0 where
   pub size-right : fileSizeAllowed (length (x .contents)) ≡ true
-  pub status-right : statusAllowed (x .status) ≡ true
+  pub status-right : x .status < 2 ^ 64
   pub name-right : nameAllowed (x .name) ≡ true
+
+-- "entries are written with status 0 or 1 only"
+abbrev pub Writable : File → Type 0
+Writable x = x .status ≤ 1

@@ -1,5 +1,5 @@
 -- What writing an entry gives (document 01: "Writing an entry from contents, status and name bytes tests 6 (contents too long, status
--- above 3, bad name), then 14"; document 02, 2026-01, has 17 and 18 where 01 has 6).
+-- above 3, bad name), then 14"; document 02 has 17 and 18 where 01 has 6, 2026-01, and no status above 1, 2026-09).
 --
 --   entryBytes m st name            the entry of a file with the contents m and the status st
 --   statusAllowed st                whether entries are written with the status st
@@ -27,9 +27,9 @@ unfoldable pub entryBytes : List ℕ → ℕ → List ℕ → List ℕ
 entryBytes m status name =
     flatten (toLe 8 (56 + length name) ∷ toLe 8 status ∷ toLe 8 (length m) ∷ md5 m ∷ md5First m ∷ name ∷ [])
 
--- "status above 3" is refused
+-- document 02, 2026-09: "entries are written with status 0 or 1 only", "writing an entry with status 2 or 3 now gives 17"
 abbrev pub statusAllowed : ℕ → Bool
-statusAllowed status = leb status 3
+statusAllowed status = leb status 1
 
 -- "17 file size above the limit (and contents or status in writing an entry); 18 name unit not allowed (in writing also a name empty or of
 -- odd length)"

@@ -10,8 +10,8 @@ use par1_rules::hashes;
 use refusals::bare;
 use refusals::test;
 
-// The greatest status that an entry is written with.
-const MAX_STATUS: u64 = 3;
+// The greatest status that an entry is written with: 1, saved in the parity. The mark "checked", bit 1, is no longer written.
+const MAX_STATUS: u64 = 1;
 
 // Writes the entry of a file with these contents, status and name over the first bytes of `out`.
 pub fn write_entry(contents: &[u8], status: u64, name: &[u8], out: &mut [u8]) -> Writing
