@@ -1,33 +1,34 @@
 -- Condition 2, for entries: a written entry walks back to its fields, and checking accepts the contents that it was written from.
 --
 --   entry-accepted    the entry of a file that keeps the rules is written
+--   status-refused    one with a status above 1 is not
 --   entry-back        it is that of its file
 --   entry-written     and so is every written entry
 -- Assumes nothing.
 use mathlib.Core.Path.{_≡_, refl, sym, ap, ap₂, _∙_, subst}
-use mathlib.Core.Bool.{true, _&&_}
+use mathlib.Core.Bool.{Bool, true, false, _&&_}
 use mathlib.Core.List.{List, [], _∷_, _++_, append-nil}
 use Prim.Native.Nat.{ℕ, _+_, _%_, _^_, _<_, _≤_}
 use native.Mathlib.Omega.{arith}
 use lib.Dec.{leb, eqb}
 use lib.ListN.{length, take, drop, length-append}
 use lib.Seq.{take-append-seam, drop-append-seam}
-use borrow.Author.Tests.{leb-true, eqb-true, eq-eqb, le-leb}
-use Rattle.lent_bytes.proofs.WritingLaws.{unless-accepted, unless-tells}
+use borrow.Author.Tests.{leb-true, eqb-true, eq-eqb, le-leb, lt-leb}
+use Rattle.lent_bytes.proofs.WritingLaws.{unless-accepted, unless-refused, unless-tells}
 use Rattle.computed_tests.proofs.Tests.{and-both}
 use Rattle.cut_lists.specs.Pieces.{before}
 use Rattle.little_endian.specs.Bytes.{toLe}
 use Rattle.little_endian.proofs.Numbers.{length-toLe}
 use Rattle.little_endian.proofs.Reading.{leAt-append}
 use Rattle.md5.specs.Digest.{md5}
-use Rattle.refusals.specs.Tests.{bare}
+use Rattle.refusals.specs.Tests.{bare, test}
 use Rattle.entries.specs.Entry.{entrySize, statusOf, fileSizeOf, md5Of, md5Of16k, nameOf, unitsOf, unitsAllowed, nameAllowed, fileSizeAllowed, entrySizeAllowed}
 use Rattle.entries.specs.Walk.{firstOf, entriesOf}
 use Rattle.entries.specs.declared.Item.the-variants.{Entry}
 use Rattle.entries.proofs.EntryLaws.{first-entry, is-entry}
 use Rattle.entries.proofs.WalkLaws.{entries-more}
 use Rattle.par1_rules.specs.Hashes.{md5First}
-use Rattle.par1.specs.Claim.{EntryAccepted, EntryBack, EntryWritten}
+use Rattle.par1.specs.Claim.{EntryAccepted, StatusRefused, EntryBack, EntryWritten}
 use Rattle.par1.specs.Checking.{loneRefusal, isDescribed, checkOf}
 use Rattle.par1_write.specs.EntryWriting.{entryBytes, entryRefusal, writeEntryOf}
 use Rattle.par1.proofs.CheckingLaws.{check-lone}
@@ -134,7 +135,17 @@ module _ {e m : List ℕ} {status : ℕ} {name : List ℕ} (size : length e ≡ 
 pub entry-accepted : EntryAccepted
 unfolding writeEntryOf entryRefusal
 entry-accepted m status name out size-right status-right name-right fits =
-    unless-accepted (bare (entryRefusal (length m) status name)) (entryBytes m status name) out (simp (size-right, status-right, name-right)) fits
+    unless-accepted (bare (entryRefusal (length m) status name)) (entryBytes m status name) out (simp (size-right, le-leb status 1 status-right, name-right)) fits
+
+pub status-refused : StatusRefused
+unfolding writeEntryOf entryRefusal
+status-refused m status name out h =
+    let number : entryRefusal (length m) status name ≡ 17 = simp (lt-leb status 1 h) (by (fileSizeAllowed (length m))) in
+    sym (unless-refused (entryBytes m status name) out (ap bare (sym number)) (λ z. omega arith) refl)
+  where
+    by : (sized : Bool) → test 17 sized 17 ≡ 17
+    by true = refl
+    by false = refl
 
 pub entry-back : (m : List ℕ) (status : ℕ) (name : List ℕ) → fileSizeAllowed (length m) ≡ true → status < 2 ^ 64 → nameAllowed name ≡ true
     → length (entryBytes m status name) < 2 ^ 64 → EntryBack (entryBytes m status name) m status name

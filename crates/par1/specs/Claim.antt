@@ -7,6 +7,7 @@
 --   ReadWritten                  every written volume is read back
 --   WrittenRead                  every accepted file, written from what reading gave, has the same bytes
 --   EntryAccepted                the entry of a file that keeps the rules is written as the format defines, where there is room for it
+--   StatusRefused                no entry is written with a status above 1, whatever else is given
 --   EntryBack e m st name        the entry e is that of a file with the contents m, the status st and the name
 --   EntryWritten                 every written entry is that of its file
 --   FaultWritten                 a list with an entry that breaks a rule is refused for the first one
@@ -41,7 +42,7 @@ use Rattle.par1_read.specs.Reading.{readOf}
 use Rattle.par1_read.specs.declared.reading.Parts.{Parts}
 use Rattle.par1_read.specs.declared.reading.Reading.the-variants.{Accepted}
 use Rattle.par1_write.specs.VolumeWriting.{volumeBytes, writeVolumeOf}
-use Rattle.par1_write.specs.EntryWriting.{entryBytes, statusAllowed, writeEntryOf}
+use Rattle.par1_write.specs.EntryWriting.{entryBytes, writeEntryOf}
 use Rattle.par1.specs.Checking.{loneRefusal, checkOf}
 
 -- ---- nothing else is refused
@@ -100,12 +101,16 @@ WrittenRead =
 
 -- ---- the same for an entry
 
--- proved: proofs/EntryWritten.antt, `entry-accepted`
+-- document 02, 2026-09: "entries are written with status 0 or 1 only"; proved: proofs/EntryWritten.antt, `entry-accepted`
 abbrev pub EntryAccepted : Type 0
 EntryAccepted =
-    (m : List ℕ) (status : ℕ) (name out : List ℕ) → fileSizeAllowed (length m) ≡ true → statusAllowed status ≡ true
+    (m : List ℕ) (status : ℕ) (name out : List ℕ) → fileSizeAllowed (length m) ≡ true → status ≤ 1
     → nameAllowed name ≡ true → length (entryBytes m status name) ≤ length out
     → writeEntryOf m status name out ≡ accepted (entryBytes m status name) out
+
+-- "Refusals: writing an entry with status 2 or 3 now gives 17", and nothing is written; proved: proofs/EntryWritten.antt, `status-refused`
+abbrev pub StatusRefused : Type 0
+StatusRefused = (m : List ℕ) (status : ℕ) (name out : List ℕ) → 1 < status → writeEntryOf m status name out ≡ refused (bare 17) out
 
 pub record EntryBack (e m : List ℕ) (status : ℕ) (name : List ℕ) : Type 0 where
   -- at the front of a list, whatever follows

@@ -7,7 +7,6 @@ use mathlib.Core.Path.{_≡_, sym, ap, ap₂, _∙_}
 use mathlib.Core.List.{List, [], _++_, append-assoc, flatten}
 use Prim.Native.Nat.{ℕ, _+_, _≤_}
 use native.Mathlib.Omega.{arith}
-use borrow.Author.Tests.{le-leb}
 use lib.ListN.{length, take, drop, length-append, length-drop}
 use lib.Seq.{take-append-seam, drop-append-seam, drop-drop}
 use Rattle.cut_lists.specs.All.{All, all-none, all-more}
@@ -41,7 +40,7 @@ entries-from p rest (all-more {x} {xs = fs} r rs) (all-more w ws) h =
     let total : length (e ++ l) ≡ length e + length l = length-append e l in
     let wrote-one : writeEntryOf (x .contents) (x .status) (x .name) (drop (length p) out) ≡ accepted e rest =
     ap (writeEntryOf (x .contents) (x .status) (x .name)) (drop-append-seam p rest)
-    ∙ entry-accepted (x .contents) (x .status) (x .name) rest (r .size-right) (le-leb _ _ w) (r .name-right) (omega arith) in
+    ∙ entry-accepted (x .contents) (x .status) (x .name) rest (r .size-right) w (r .name-right) (omega arith) in
     let wrote : take (length p) out ++ (e ++ drop (length e) rest) ≡ (p ++ e) ++ drop (length e) rest =
     ap (λ (t : List ℕ). t ++ (e ++ drop (length e) rest)) (take-append-seam p rest) ∙ sym (append-assoc p e _) in
     ap (λ (q : Writing × List ℕ). next (q .0) out (λ n. writeEntries fs (length p + n) (take (length p) out ++ q .1))) wrote-one

@@ -1,5 +1,6 @@
 -- Document 01, P6, as a set with a file between them that is not saved and is the longest: "files (1, 2) and (3): volume 1 is (2, 2),
--- volume 2 is (7, 2), volume 3 is (13, 2)", as long as "the greatest size among saved entries".
+-- volume 2 is (7, 2), volume 3 is (13, 2)", as long as "the greatest size among saved entries". And a set with an entry that is marked as checked
+-- (document 02, 2026-09: "Old volumes that carry it are still read").
 -- Assumes nothing.
 use mathlib.Core.Path.{_≡_, refl}
 use mathlib.Core.Bool.{true}
@@ -16,7 +17,7 @@ use Rattle.par1_write.proofs.EntryWritingLaws.{length-entry}
 use Rattle.parity.specs.Coefficient.{coefficient}
 use Rattle.computed_tests.specs.Lists.{listBelow}
 use Rattle.parity.specs.Parity.{parityByte, parity}
-use Rattle.par1_set.specs.Files.{File, listFor, FileRight}
+use Rattle.par1_set.specs.Files.{File, listFor, FileRight, Writable}
 use Rattle.par1_set.specs.Volume.{dataFor, VolumeRight}
 
 -- a file with the name "A"
@@ -57,3 +58,30 @@ p6-right =
       count-low = omega arith;
       length-right = omega (arith, p6-list);
     }
+
+-- files 1 and 2 of the same set, the first marked as checked: it is not written any more, and its volume is still read
+abbrev marked : List File
+marked = file (1 ∷ 2 ∷ []) 3 ∷ file (3 ∷ []) 1 ∷ []
+
+marked-list : length (listFor marked) ≡ 116
+unfolding flatten
+marked-list = simp (length-append, length-entry)
+
+marked-right : VolumeRight 1 marked
+unfolding isCounted
+marked-right =
+    record {
+      files-right = all-more (file-right _ 3 refl (omega arith)) (all-more (file-right _ 1 refl (omega arith)) all-none);
+      volume-low = omega arith;
+      volume-high = omega arith;
+      count-low = omega arith;
+      length-right = omega (arith, marked-list);
+    }
+
+not-written : Writable (file (1 ∷ 2 ∷ []) 3) → ⊥
+not-written h = omega arith
+
+-- the mark does not change the parity
+marked-data : dataFor coefficient 2 marked ≡ dataFor coefficient 2 p6
+unfolding parity listBelow parityByte coefficient product power isCounted sumBelow polyProduct remainder coeff
+marked-data = refl
