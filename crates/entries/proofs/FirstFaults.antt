@@ -1,5 +1,6 @@
 -- The refusal that the walk over a list gives is that of the first entry that breaks a rule.
 --
+--   sized-right       an entry of an even length, at least 58, may stand in a list that holds it
 --   keeps-first       an entry that the walk takes keeps every rule
 --   rest-faulty       what is left after the entries is nothing, or begins with none
 --   breaks-first      what is left and not empty breaks the rule that the walk names, first of all
@@ -32,7 +33,7 @@ use Rattle.entries.specs.declared.Item.the-variants as item
 use Rattle.entries.specs.declared.Walked.the-variants as walked
 use Rattle.entries.proofs.EntryLaws.{sized, length-sized}
 
-sized-right : (n m : ℕ) → n % 2 ≡ 0 → 58 ≤ n → n ≤ m → entrySizeAllowed n m ≡ true
+pub sized-right : (n m : ℕ) → n % 2 ≡ 0 → 58 ≤ n → n ≤ m → entrySizeAllowed n m ≡ true
 unfolding entrySizeAllowed
 sized-right n m even low high = simp (eq-eqb (n % 2) 0 even, le-leb 58 n low, le-leb n m high)
 

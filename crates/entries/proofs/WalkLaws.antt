@@ -6,6 +6,7 @@
 --   saved-most     an entry is one saved entry at most
 --   walk-start     the walk from no entries at all
 --   walk-more, walk-end, walk-fault    a step of the walk, by what is at the front
+--   stopped        what the walk gives where something is left
 --   walk-totals, walk-count, walk-saved    what a walk to the end tells
 --   entries-most   an entry has 58 bytes or more
 --   fault-range    the numbers of the faults
@@ -125,7 +126,7 @@ walk-end t {s} e =
     ap (λ (l : List ℕ). walkFrom t (entriesOf l)) e ∙ ap (walkFrom t) (cut-none lengthOf)
     ∙ ap walked.Entries (same (omega arith) (omega arith) (omega arith))
 
-stopped : (t : Totals) (s : List ℕ) → 0 < length s → walkedTo t s ≡ walked.Refused (refusalAt (faultOf s) (t .entries + 1))
+pub stopped : (t : Totals) (s : List ℕ) → 0 < length s → walkedTo t s ≡ walked.Refused (refusalAt (faultOf s) (t .entries + 1))
 stopped t [] h = absurd (omega arith)
 stopped t (b ∷ s) h = refl
 

@@ -22,10 +22,11 @@ use Rattle.little_endian.proofs.Numbers.{length-toLe}
 use Rattle.little_endian.proofs.Reading.{leAt-append}
 use Rattle.md5.specs.Digest.{md5}
 use Rattle.refusals.specs.Tests.{bare, test}
-use Rattle.entries.specs.Entry.{entrySize, statusOf, fileSizeOf, md5Of, md5Of16k, nameOf, unitsOf, unitsAllowed, nameAllowed, fileSizeAllowed, entrySizeAllowed}
+use Rattle.entries.specs.Entry.{entrySize, statusOf, fileSizeOf, md5Of, md5Of16k, nameOf, unitsOf, unitsAllowed, nameAllowed, fileSizeAllowed}
 use Rattle.entries.specs.Walk.{firstOf, entriesOf}
 use Rattle.entries.specs.declared.Item.the-variants.{Entry}
 use Rattle.entries.proofs.EntryLaws.{first-entry, is-entry}
+use Rattle.entries.proofs.FirstFaults.{sized-right}
 use Rattle.entries.proofs.WalkLaws.{entries-more}
 use Rattle.par1_rules.specs.Hashes.{md5First}
 use Rattle.par1.specs.Claim.{EntryAccepted, StatusRefused, EntryBack, EntryWritten}
@@ -81,10 +82,6 @@ named-right name e =
     let two = and-both (leb 2 (length name)) (eqb (length name % 2) 0) (both .0) in
     record { some = leb-true _ _ (two .0); even = eqb-true _ _ (two .1); allowed = e }
 
-size-right : (n m : ℕ) → n % 2 ≡ 0 → 58 ≤ n → n ≤ m → entrySizeAllowed n m ≡ true
-unfolding entrySizeAllowed
-size-right n m even low high = simp (eq-eqb (n % 2) 0 even, le-leb 58 n low, le-leb n m high)
-
 module _ {e m : List ℕ} {status : ℕ} {name : List ℕ} (size : length e ≡ 56 + length name) (d : EntryFields e m status name)
     (right : Named name) (short : fileSizeAllowed (length m) ≡ true) where
   walked-back : (rest : List ℕ) → firstOf (e ++ rest) ≡ Entry (length e) status (length m)
@@ -93,7 +90,7 @@ module _ {e m : List ℕ} {status : ℕ} {name : List ℕ} (size : length e ≡ 
       let total : length s ≡ length e + length rest = length-append e rest in
       let own : take (length e) s ≡ e = take-append-seam e rest in
       let told : length e ≡ entrySize s = sym (leAt-append 8 e rest 0 (omega (arith, right .some)) ∙ d .entry-size ∙ sym size) in
-      let allowed = size-right (length e) (length s) (omega (arith, right .even)) (omega (arith, right .some)) (omega arith) in
+      let allowed = sized-right (length e) (length s) (omega (arith, right .even)) (omega (arith, right .some)) (omega arith) in
       let file-size : fileSizeAllowed (fileSizeOf (take (length e) s)) ≡ true =
       ap (λ (l : List ℕ). fileSizeAllowed (fileSizeOf l)) own ∙ ap fileSizeAllowed (d .size-is) ∙ short in
       let name-right = ap (λ (l : List ℕ). nameAllowed (nameOf l)) own ∙ ap nameAllowed (d .named) ∙ right .allowed in

@@ -1,5 +1,6 @@
 -- Which refusal an entry at fault gets, in a list that is written and alone.
 --
+--   item-broken                    the number of the rule that an entry breaks is that of its refusal
 --   fault-written, lone-refused    the claims
 -- Assumes nothing.
 use mathlib.Core.Path.{_≡_, refl, ap, _∙_}
@@ -31,7 +32,7 @@ fault-written program number list area out r fault =
 
 -- ---- an entry that stands alone
 
-item-broken : (e : List ℕ) {n : ℕ} → Breaks e n → itemNumber (firstOf e) ≡ n
+pub item-broken : (e : List ℕ) {n : ℕ} → Breaks e n → itemNumber (firstOf e) ≡ n
 unfolding firstOf
 item-broken [] (breaks-size p) = refl
 item-broken [] (breaks-file-size p q) = absurd (let z = sized (entrySize []) 0 p in omega (arith, z .low, z .high))

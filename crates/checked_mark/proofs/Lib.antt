@@ -1,0 +1,5 @@
+pub mod CheckMarks
+pub mod EntryMarks
+pub mod FileMarks
+pub mod ListMarks
+pub mod PairLaws

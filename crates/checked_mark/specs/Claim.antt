@@ -1,0 +1,74 @@
+-- Document 02, 2026-09: "Old volumes that carry it are still read and written back unchanged, but, amending, comparing and control hashes apart,
+-- nothing acts on it." Whatever files differ in marks only get the same answers.
+--
+--   readInChunks cs    what reading gives of a file that came in the chunks cs
+--   SameAnswers f g    reading, reading in chunks, numbering and listing give the same of the files f and g
+--   NothingActs        so they do of files that differ in marks and control hashes only
+--   CheckedAlike       contents are checked alike by entries that differ in the mark only
+--   WrittenAlike       lists that differ in marks only are refused alike, and written to files that differ so
+--   SomeMarked         volumes and indices of files with other marks differ so, and do differ
+-- What excludes an empty reading: the volume of every set of files that keeps the rules differs so from that of the same files with any other marks
+-- (`SomeMarked`), and both are accepted (`par1_set` specs/Claim, `SetRead`). Refused files are covered too, with number and place.
+-- The contracts of read, list, list_input, check, write_volume and of a running read cite the definitions below.
+-- Assumes nothing.
+use mathlib.Core.Path.{_≡_}
+use mathlib.Core.List.{List, map, flatten}
+use Prim.Native.Nat.{ℕ, _^_, _<_}
+use lib.ListN.{take}
+use Rattle.entries.specs.Numbering.{fileNumber}
+use Rattle.jobs.specs.Job.{afterPushes}
+use Rattle.lent_bytes.specs.declared.Writing.the-variants.{Written}
+use Rattle.listing.specs.Listing.{listingOf, inputListing}
+use Rattle.par1.specs.Checking.{checkOf}
+use Rattle.par1_read.specs.Reading.{entriesIn, readOf}
+use Rattle.par1_read.specs.declared.reading.Reading.{Reading}
+use Rattle.par1_rules.specs.Layout.{version}
+use Rattle.par1_set.specs.Files.{File}
+use Rattle.par1_set.specs.Volume.{volumeFor, indexFor, VolumeRight, IndexRight}
+use Rattle.par1_write.specs.VolumeWriting.{writeVolumeOf}
+use Rattle.parity.specs.Coefficient.{coefficient}
+use Rattle.running_read.specs.Claim.{readSteps}
+use Rattle.running_read.specs.Running.{startRead, endAnswer}
+use Rattle.checked_mark.specs.Marks.{Pairs, EntryAlike, ListsAlike, AlikeButMarks, FileAlike}
+
+abbrev pub readInChunks : List (List ℕ) → Reading
+readInChunks chunks = endAnswer (afterPushes readSteps startRead chunks) .reading
+
+pub record SameAnswers (f g : List ℕ) : Type 0 where
+  -- the parts, or the number and the place of the refusal
+  pub read-same : readOf f ≡ readOf g
+  -- however each of them is cut
+  pub chunks-same : (cs ds : List (List ℕ)) → flatten cs ≡ f → flatten ds ≡ g → readInChunks cs ≡ readInChunks ds
+  -- "Files are numbered 1 to n over the saved entries only"
+  pub numbers-same : (k : ℕ) → fileNumber (entriesIn f) k ≡ fileNumber (entriesIn g) k
+  pub listing-same : listingOf f ≡ listingOf g
+  pub input-same : inputListing f ≡ inputListing g
+
+-- proved: proofs/FileMarks.antt, `nothing-acts`
+abbrev pub NothingActs : Type 0
+NothingActs = (f g : List ℕ) → AlikeButMarks f g → SameAnswers f g
+
+-- entries that keep the rules or do not, and any contents; proved: proofs/EntryMarks.antt, `checked-alike`
+abbrev pub CheckedAlike : Type 0
+CheckedAlike = (e g m : List ℕ) → EntryAlike e g → checkOf e m ≡ checkOf g m
+
+-- proved: proofs/VolumeMarks.antt, `written-alike`
+abbrev pub WrittenAlike : Type 0
+WrittenAlike =
+    (program number : ℕ) (s t area out : List ℕ) → program < 2 ^ 32 → number < 2 ^ 64 → ListsAlike s t
+    → let one = writeVolumeOf program number s area out in
+    let two = writeVolumeOf program number t area out in
+    (one .0 ≡ two .0) × ((n : ℕ) → one .0 ≡ Written n → AlikeButMarks (take n (one .1)) (take n (two .1)))
+
+-- the files gs are the files fs with any other marks
+pub record Remarked (f g : List ℕ) (fs gs : List File) : Type 0 where
+  pub alike : AlikeButMarks f g
+  -- the marks are in the bytes
+  pub differ : f ≡ g → map (λ x. x .status) fs ≡ map (λ x. x .status) gs
+
+-- proved: proofs/SetMarks.antt, `some-marked`
+pub record SomeMarked : Type 0 where
+  pub volumes : (program v : ℕ) (fs gs : List File) → program < 2 ^ 32 → VolumeRight v fs → Pairs FileAlike fs gs
+      → VolumeRight v gs × Remarked (volumeFor version coefficient program v fs) (volumeFor version coefficient program v gs) fs gs
+  pub indices : (program : ℕ) (fs gs : List File) (comment : List ℕ) → program < 2 ^ 32 → IndexRight fs comment → Pairs FileAlike fs gs
+      → IndexRight gs comment × Remarked (indexFor version program fs comment) (indexFor version program gs comment) fs gs
