@@ -3,3 +3,5 @@ pub mod EntryMarks
 pub mod FileMarks
 pub mod ListMarks
 pub mod PairLaws
+pub mod SetMarks
+pub mod VolumeMarks
