@@ -21,7 +21,7 @@ use Rattle.entries.specs.declared.Item.{Item}
 use Rattle.entries.proofs.EntryLaws.{sized, first-entry}
 use Rattle.par1.specs.Checking.{itemNumber, loneRefusal, isDescribed, checkOf}
 use Rattle.par1.proofs.Faults.{item-broken}
-use Rattle.refusals.specs.Tests.{bare, test, orElse}
+use Rattle.refusals.specs.Tests.{test}
 use Rattle.checked_mark.specs.Claim.{CheckedAlike}
 use Rattle.checked_mark.specs.Marks.{EntryAlike}
 use Rattle.checked_mark.proofs.EntryMarks.{entry-size, file-size, md5-same, md5-16k, name-same}

@@ -1,15 +1,21 @@
--- Entries that differ in the mark only: every field but the status is the same, and what is told by the status but for its bit 1.
+-- Entries that differ in the mark only: every field but the status is the same, and so is what bit 0 of the status tells.
+--
+--   saved-same                        whether a file is saved
+--   entry-size, file-size, md5-same, md5-16k, name-same, is-saved, is-counted, body-allowed     of two entries
+--   alike-self, totals-same, set-hash-same     of entries one after another
+--   number-same                       their file numbers
+--   lines-same                        their lines in a listing
 -- Assumes nothing.
 use mathlib.Core.Path.{_≡_, refl, sym, ap, ap₂, _∙_}
-use mathlib.Core.Bool.{Bool, true, false, cond}
-use mathlib.Core.List.{List, [], _∷_, _++_, map, foldr, flatten}
+use mathlib.Core.Bool.{Bool, cond}
+use mathlib.Core.List.{List, [], _++_, map, foldr, flatten}
 use Prim.Native.Nat.{ℕ, zero, suc, _+_, _%_, max}
 use native.Mathlib.Omega.{arith}
 use lib.Dec.{eqb}
 use lib.ListN.{length, take, drop, getD, length-map}
 use lib.Seq.{drop-drop}
 use Rattle.entries.specs.Entry.{entrySize, statusOf, fileSizeOf, md5Of, md5Of16k, nameOf, isSaved, isCounted, savedCount, bodyAllowed}
-use Rattle.entries.specs.Numbering.{keep, savedOf, fileNumber}
+use Rattle.entries.specs.Numbering.{savedOf, fileNumber}
 use Rattle.entries.specs.Walk.{greatestOf, totalsOf}
 use Rattle.little_endian.specs.Bytes.{fromLe, leAt}
 use Rattle.listing.specs.Lines.{label, lineOf, entryLine, entryLines}

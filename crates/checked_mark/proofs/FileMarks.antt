@@ -8,7 +8,6 @@
 use mathlib.Core.Path.{_≡_, refl, sym, ap, ap₂, _∙_}
 use mathlib.Core.Bool.{Bool, true, false, cond}
 use mathlib.Core.List.{List, [], _∷_, _++_, map, flatten}
-use mathlib.Core.Logic.{_↔_}
 use Prim.Native.Nat.{ℕ, _+_, _≤_}
 use native.Mathlib.Omega.{arith}
 use lib.Dec.{leb}
@@ -20,7 +19,7 @@ use Rattle.entries.specs.Walk.{walkOf}
 use Rattle.lent_bytes.specs.Equal.{equal}
 use Rattle.lent_bytes.proofs.EqualLaws.{equal-same, equal-true}
 use Rattle.lent_bytes.proofs.PartLaws.{part-take}
-use Rattle.listing.specs.Lines.{refusedLine, headLine, entryLines}
+use Rattle.listing.specs.Lines.{refusedLine, headLine}
 use Rattle.listing.specs.Listing.{listingBy, listingOf, inputListing}
 use Rattle.little_endian.specs.Bytes.{fromLe, leAt}
 use Rattle.par1_read.specs.Reading.{headerRefusal, controlRefusal, totalsRefusal, listRefusal, refusalFrom, savedIn, partsFrom, readFrom, entriesIn, readOf}
@@ -31,7 +30,7 @@ use Rattle.par1_rules.specs.Layout.{controlHashOf, listSizeOf, dataStartOf, dat
 use Rattle.par1_rules.specs.Rules.{layoutAllowed}
 use Rattle.refusals.specs.Limits.{maxListedLength}
 use Rattle.refusals.specs.Tests.{bare, test}
-use Rattle.running_read.specs.Claim.{Reply, reading}
+use Rattle.running_read.specs.Claim.{reading}
 use Rattle.running_read.proofs.Chunks.{read-chunked}
 use Rattle.checked_mark.specs.Claim.{readInChunks, NothingActs}
 use Rattle.checked_mark.specs.Marks.{Pairs, EntryAlike, AlikeButMarks}

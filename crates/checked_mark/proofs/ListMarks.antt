@@ -1,35 +1,38 @@
 -- Lists that differ in marks only: the walk gives the same, and the entries are alike.
 --
---   front-size, front-length, front-fault     what a list begins with, where that is bytes that say their own length
---   Walked, walked-alike   what the walk finds
---   walk-same       the walk over the list gives the same
---   checked-alike   checking contents gives the same by entries alike
+--   front-length, front-fault, front-item     what a list begins with, where that is bytes that say their own length
+--   WalkedAlike s t    the walks over the lists s and t find entries alike, and stop alike
+--   walked-alike, walk-same     so they do, and give the same
+--   first-alike        the claim
 -- Assumes nothing.
 use mathlib.Core.Path.{_≡_, refl, sym, ap, ap₂, _∙_}
 use mathlib.Core.Bool.{Bool, true, false, cond}
-use mathlib.Core.List.{List, [], _++_}
+use mathlib.Core.List.{List, _++_}
 use Prim.Native.Nat.{ℕ, _+_, _≤_, _<_}
 use native.Mathlib.Omega.{arith}
 use lib.ListN.{length, take, drop, length-append}
 use lib.Seq.{take-append-seam, drop-append-seam}
-use Rattle.cut_lists.specs.Pieces.{Cut, none, before}
+use Rattle.cut_lists.specs.Pieces.{none, before}
 use Rattle.cut_lists.proofs.CutLaws.{cut-stop, cut-more}
 use Rattle.entries.specs.Entry.{entrySize, fileSizeOf, fileSizeAllowed, entrySizeAllowed, bodyAllowed, entryAllowed, lengthOf}
-use Rattle.entries.specs.Walk.{faultOf, refusalAt, entriesOf, totalsOf, walkedTo, walkOf}
+use Rattle.entries.specs.Walk.{faultOf, refusalAt, itemOf, firstOf, entriesOf, totalsOf, walkedTo, walkOf}
 use Rattle.entries.specs.declared.Fault.{Fault}
 use Rattle.entries.specs.declared.Fault.the-variants.{FileSize, Name}
+use Rattle.entries.specs.declared.Item.{Item}
+use Rattle.entries.specs.declared.Item.the-variants as item
 use Rattle.entries.specs.declared.Totals.{Totals}
 use Rattle.entries.specs.declared.Walked.the-variants as walked
-use Rattle.entries.proofs.EntryLaws.{sized}
+use Rattle.entries.proofs.EntryLaws.{sized, first-some}
 use Rattle.entries.proofs.FirstFaults.{sized-right}
 use Rattle.entries.proofs.WalkLaws.{stopped}
 use Rattle.little_endian.proofs.Reading.{leAt-append}
-use Rattle.checked_mark.specs.Marks.{Pairs, pairs-none, pairs-more, EntryAlike, Sized, ListsAlike, rest-same, entry-more}
+use Rattle.checked_mark.specs.Claim.{withoutMark, FirstAlike}
+use Rattle.checked_mark.specs.Marks.{Pairs, pairs-none, pairs-more, EntryAlike, SizeRight, ListsAlike, rest-same, entry-more}
 use Rattle.checked_mark.proofs.EntryMarks.{entry-size, file-size, body-allowed, alike-self, totals-same}
 
 -- ---- the front of a list
 
-module _ {e : List ℕ} (z : Sized e) (s : List ℕ) where
+module _ {e : List ℕ} (z : SizeRight e) (s : List ℕ) where
   low : 58 ≤ length e
   low = sized (length e) (length e) (z .size-right) .low
 
@@ -53,6 +56,10 @@ module _ {e : List ℕ} (z : Sized e) (s : List ℕ) where
   front-some : 0 < length (e ++ s)
   front-some = omega (arith, low, length-append e s)
 
+  front-item : firstOf (e ++ s) ≡ cond (bodyAllowed e) (itemOf e) (item.Fault (cond (fileSizeAllowed (fileSizeOf e)) Name FileSize))
+  unfolding entryAllowed
+  front-item = first-some (e ++ s) front-some ∙ simp (front-fault, own-size, size-allowed, take-append-seam e s)
+
   front-taken : bodyAllowed e ≡ true → entriesOf (e ++ s) ≡ before e (entriesOf s)
   front-taken right =
       let n : lengthOf (e ++ s) ≡ length e = front-length ∙ simp right in
@@ -63,7 +70,7 @@ module _ {e : List ℕ} (z : Sized e) (s : List ℕ) where
   front-left : bodyAllowed e ≡ false → entriesOf (e ++ s) ≡ none (e ++ s)
   front-left wrong = cut-stop lengthOf (e ++ s) (front-length ∙ simp wrong)
 
-sized-alike : {e g : List ℕ} → EntryAlike e g → Sized e → Sized g
+sized-alike : {e g : List ℕ} → EntryAlike e g → SizeRight e → SizeRight g
 sized-alike a z =
     record {
       fills = sym (entry-size a) ∙ z .fills ∙ a .length-same;
@@ -77,8 +84,8 @@ pub record WalkedAlike (s t : List ℕ) : Type 0 where
   -- the end, or the same fault
   pub stopped-same : (n : Totals) → walkedTo n (entriesOf s .rest) ≡ walkedTo n (entriesOf t .rest)
 
-module _ {e g s t : List ℕ} (z : Sized e) (a : EntryAlike e g) (others : WalkedAlike s t) where
-  other : Sized g
+module _ {e g s t : List ℕ} (z : SizeRight e) (a : EntryAlike e g) (others : WalkedAlike s t) where
+  other : SizeRight g
   other = sized-alike a z
 
   left-same : (n : Totals) → walkedTo n (e ++ s) ≡ walkedTo n (g ++ t)
@@ -111,3 +118,18 @@ unfolding walkOf
 walk-same {s} {t} l =
     let w = walked-alike l in
     ap (λ (n : Totals). walkedTo n (entriesOf s .rest)) (totals-same (w .entries-alike)) ∙ w .stopped-same (totalsOf (entriesOf t .pieces))
+
+pub first-alike : FirstAlike
+first-alike s t (rest-same _) = refl
+first-alike _ _ (entry-more {e} {g} {s} {t} z a l) =
+    ap withoutMark (front-item z s)
+    ∙ by (bodyAllowed e)
+    ∙ ap (λ (b : Bool). withoutMark (cond b (itemOf g) (fault g))) (body-allowed a)
+    ∙ sym (ap withoutMark (front-item (sized-alike a z) t))
+  where
+    fault : List ℕ → Item
+    fault = λ d. item.Fault (cond (fileSizeAllowed (fileSizeOf d)) Name FileSize)
+
+    by : (b : Bool) → withoutMark (cond b (itemOf e) (fault e)) ≡ withoutMark (cond b (itemOf g) (fault g))
+    by true = cc (a .length-same, a .status-alike, file-size a)
+    by false = ap (λ (n : ℕ). withoutMark (item.Fault (cond (fileSizeAllowed n) Name FileSize))) (file-size a)

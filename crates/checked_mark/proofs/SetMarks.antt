@@ -7,8 +7,8 @@
 --   some-marked      the claim
 -- Assumes nothing.
 use mathlib.Core.Path.{_≡_, refl, sym, ap, ap₂, _∙_, subst, fun-ext}
-use mathlib.Core.List.{List, [], _∷_, map, foldr, flatten, append-nil}
-use Prim.Native.Nat.{ℕ, zero, suc, _+_, _-_, _^_, _<_, _≤_, max}
+use mathlib.Core.List.{List, [], _∷_, map, foldr, flatten}
+use Prim.Native.Nat.{ℕ, zero, suc, _+_, _-_, _^_, _<_, max}
 use native.Mathlib.Omega.{arith}
 use lib.ListN.{length, take, drop, getD, length-append, length-map}
 use Rattle.cut_lists.specs.All.{All, all-none, all-more}
@@ -35,14 +35,14 @@ use Rattle.par1_write.proofs.EntryWritingLaws.{length-entry}
 use Rattle.parity.specs.Coefficient.{coefficient}
 use Rattle.parity.specs.Parity.{parity}
 use Rattle.checked_mark.specs.Claim.{Remarked, SomeMarked}
-use Rattle.checked_mark.specs.Marks.{unmarked, Pairs, pairs-none, pairs-more, EntryAlike, Sized, ListsAlike, rest-same, entry-more, FileAlike}
+use Rattle.checked_mark.specs.Marks.{unmarked, Pairs, pairs-none, pairs-more, EntryAlike, SizeRight, ListsAlike, rest-same, entry-more, FileAlike}
 use Rattle.checked_mark.proofs.EntryMarks.{saved-same}
 use Rattle.checked_mark.proofs.PairLaws.{kept-same}
 use Rattle.checked_mark.proofs.VolumeMarks.{volume-alike}
 
 -- ---- an entry
 
-entry-sized : {x : File} → FileBack x → Sized (entryFor x)
+entry-sized : {x : File} → FileBack x → SizeRight (entryFor x)
 entry-sized {x} b =
     let e : List ℕ = entryFor x in
     let i = is-entry (sym (b .first-is [])) in
@@ -129,9 +129,9 @@ module _ {fs gs : List File} (ps : Pairs FileAlike fs gs) where
   contents-are =
       fun-ext
       (λ f.
-        contents-at (savedFiles fs) (f - 1)
-        ∙ ap (λ (ms : List (List ℕ)). getD ms (f - 1) []) saved-contents
-        ∙ sym (contents-at (savedFiles gs) (f - 1)))
+      contents-at (savedFiles fs) (f - 1)
+      ∙ ap (λ (ms : List (List ℕ)). getD ms (f - 1) []) saved-contents
+      ∙ sym (contents-at (savedFiles gs) (f - 1)))
 
   data-size : dataSizeFor fs ≡ dataSizeFor gs
   unfolding isCounted
@@ -166,8 +166,8 @@ module _ {v : ℕ} {fs gs : List File} {area : List ℕ} (one : SetPassed v fs a
             rw (← bytes-are (set-back one) v area program, ← bytes-are (set-back two) v area program)
             (volume-alike program v area (lists-alike (set-back one) (set-back two) ps) p small (set-passed one));
         differ = λ e.
-          statuses-same
-          (sym (set-read-back one program p small .list-is) ∙ ap (λ (f : List ℕ). listOf f) e ∙ set-read-back two program p small .list-is);
+            statuses-same
+            (sym (set-read-back one program p small .list-is) ∙ ap (λ (f : List ℕ). listOf f) e ∙ set-read-back two program p small .list-is);
       }
 
 -- ---- the claim
@@ -195,13 +195,13 @@ pub some-marked : SomeMarked
 some-marked =
     record {
       volumes = λ program v fs gs p right ps.
-        let other = volume-right ps right in
-        let area : List ℕ = dataFor coefficient v fs in
-        let two : SetPassed v gs area = rw (data-same ps v) (volume-set other coefficient) in
-        let made : Remarked (bytesFor version program v fs area) (bytesFor version program v gs area) fs gs =
-        set-alike (volume-set right coefficient) two ps program p (omega (arith, right .volume-high)) in
-        (other, subst (λ (d : List ℕ). Remarked (bytesFor version program v fs area) (bytesFor version program v gs d) fs gs) (data-same ps v) made);
+          let other = volume-right ps right in
+          let area : List ℕ = dataFor coefficient v fs in
+          let two : SetPassed v gs area = rw (data-same ps v) (volume-set other coefficient) in
+          let made : Remarked (bytesFor version program v fs area) (bytesFor version program v gs area) fs gs =
+          set-alike (volume-set right coefficient) two ps program p (omega (arith, right .volume-high)) in
+          (other, subst (λ (d : List ℕ). Remarked (bytesFor version program v fs area) (bytesFor version program v gs d) fs gs) (data-same ps v) made);
       indices = λ program fs gs comment p right ps.
-        let other = index-right ps right in
-        (other, set-alike (index-set right) (index-set other) ps program p (omega arith));
+          let other = index-right ps right in
+          (other, set-alike (index-set right) (index-set other) ps program p (omega arith));
     }

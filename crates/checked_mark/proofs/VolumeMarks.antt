@@ -9,7 +9,6 @@ use mathlib.Core.Path.{_≡_, refl, sym, ap, ap₂, _∙_, subst}
 use mathlib.Core.Bool.{Bool, true, false, cond}
 use mathlib.Core.List.{List, [], _∷_, _++_, append-assoc, append-nil, flatten}
 use Prim.Native.Nat.{ℕ, _+_, _^_, _<_}
-use native.Mathlib.Omega.{arith}
 use lib.Dec.{leb, eqb}
 use lib.ListN.{length, take, drop, length-append}
 use Rattle.entries.specs.Walk.{entriesOf, walkOf}
@@ -23,11 +22,10 @@ use Rattle.little_endian.specs.Bytes.{toLe}
 use Rattle.little_endian.proofs.Numbers.{length-toLe}
 use Rattle.little_endian.proofs.NumberLists.{length-numbers}
 use Rattle.md5.specs.Digest.{md5}
-use Rattle.par1.specs.Claim.{ReadBack}
 use Rattle.par1.proofs.ReadWritten.{ListPassed, list-passed, volume-back, volume-written}
 use Rattle.par1_read.proofs.ReadingLaws.{read-tells}
-use Rattle.par1_rules.specs.Hashes.{setHash, controlHash}
-use Rattle.par1_rules.specs.Layout.{signature, version, controlHashOf}
+use Rattle.par1_rules.specs.Hashes.{setHash}
+use Rattle.par1_rules.specs.Layout.{signature, version}
 use Rattle.par1_rules.proofs.HashLaws.{length-md5, length-set-hash}
 use Rattle.par1_write.specs.VolumeWriting.{numberBytes, bodyBytes, headBytes, volumeBytes, walkRefusal, writeVolumeOf}
 use Rattle.par1_write.proofs.VolumeWritingLaws.{VolumePassed, length-volume}

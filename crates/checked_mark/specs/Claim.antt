@@ -4,18 +4,25 @@
 --   readInChunks cs    what reading gives of a file that came in the chunks cs
 --   SameAnswers f g    reading, reading in chunks, numbering and listing give the same of the files f and g
 --   NothingActs        so they do of files that differ in marks and control hashes only
+--   withoutMark i      what a list begins with, without the mark
+--   FirstAlike         lists that differ in marks only begin with the same, the mark apart
 --   CheckedAlike       contents are checked alike by entries that differ in the mark only
 --   WrittenAlike       lists that differ in marks only are refused alike, and written to files that differ so
---   SomeMarked         volumes and indices of files with other marks differ so, and do differ
+--   Remarked f g fs gs     the volumes or indices f and g of the files fs and gs differ so, and do differ where a status does
+--   SomeMarked         so do those of all files that keep the rules, with any other marks
 -- What excludes an empty reading: the volume of every set of files that keeps the rules differs so from that of the same files with any other marks
 -- (`SomeMarked`), and both are accepted (`par1_set` specs/Claim, `SetRead`). Refused files are covered too, with number and place.
--- The contracts of read, list, list_input, check, write_volume and of a running read cite the definitions below.
+-- The contracts of read, first, check, write_volume, list and list_input cite readOf, firstOf, checkOf, writeVolumeOf, listingOf and inputListing, those
+-- of a running read pushAnswer and endAnswer.
 -- Assumes nothing.
 use mathlib.Core.Path.{_≡_}
 use mathlib.Core.List.{List, map, flatten}
 use Prim.Native.Nat.{ℕ, _^_, _<_}
 use lib.ListN.{take}
 use Rattle.entries.specs.Numbering.{fileNumber}
+use Rattle.entries.specs.Walk.{firstOf}
+use Rattle.entries.specs.declared.Item.{Item}
+use Rattle.entries.specs.declared.Item.the-variants as item
 use Rattle.jobs.specs.Job.{afterPushes}
 use Rattle.lent_bytes.specs.declared.Writing.the-variants.{Written}
 use Rattle.listing.specs.Listing.{listingOf, inputListing}
@@ -29,7 +36,7 @@ use Rattle.par1_write.specs.VolumeWriting.{writeVolumeOf}
 use Rattle.parity.specs.Coefficient.{coefficient}
 use Rattle.running_read.specs.Claim.{readSteps}
 use Rattle.running_read.specs.Running.{startRead, endAnswer}
-use Rattle.checked_mark.specs.Marks.{Pairs, EntryAlike, ListsAlike, AlikeButMarks, FileAlike}
+use Rattle.checked_mark.specs.Marks.{unmarked, Pairs, EntryAlike, ListsAlike, AlikeButMarks, FileAlike}
 
 abbrev pub readInChunks : List (List ℕ) → Reading
 readInChunks chunks = endAnswer (afterPushes readSteps startRead chunks) .reading
@@ -48,7 +55,17 @@ pub record SameAnswers (f g : List ℕ) : Type 0 where
 abbrev pub NothingActs : Type 0
 NothingActs = (f g : List ℕ) → AlikeButMarks f g → SameAnswers f g
 
--- entries that keep the rules or do not, and any contents; proved: proofs/EntryMarks.antt, `checked-alike`
+-- the mark is told, as the other bits of a status are
+abbrev pub withoutMark : Item → Item
+withoutMark (item.Entry length status size) = item.Entry length (unmarked status) size
+withoutMark item.End = item.End
+withoutMark (item.Fault f) = item.Fault f
+
+-- proved: proofs/ListMarks.antt, `first-alike`
+abbrev pub FirstAlike : Type 0
+FirstAlike = (s t : List ℕ) → ListsAlike s t → withoutMark (firstOf s) ≡ withoutMark (firstOf t)
+
+-- entries that keep the rules or do not, and any contents; proved: proofs/CheckMarks.antt, `checked-alike`
 abbrev pub CheckedAlike : Type 0
 CheckedAlike = (e g m : List ℕ) → EntryAlike e g → checkOf e m ≡ checkOf g m
 
@@ -60,7 +77,6 @@ WrittenAlike =
     let two = writeVolumeOf program number t area out in
     (one .0 ≡ two .0) × ((n : ℕ) → one .0 ≡ Written n → AlikeButMarks (take n (one .1)) (take n (two .1)))
 
--- the files gs are the files fs with any other marks
 pub record Remarked (f g : List ℕ) (fs gs : List File) : Type 0 where
   pub alike : AlikeButMarks f g
   -- the marks are in the bytes

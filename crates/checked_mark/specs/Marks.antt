@@ -4,7 +4,7 @@
 --   unmarked st          the status st without bit 1
 --   Pairs R xs ys        the lists xs and ys are as long as each other, and R holds of their elements at each place
 --   EntryAlike e g       the entries e and g differ in bit 1 of the status at most
---   Sized e              the entry e has a size that keeps the rules
+--   SizeRight e          the entry e has a size that keeps the rules
 --   ListsAlike s t       the lists s and t differ in that bit of entries at most
 --   AlikeButMarks f g    so do the files f and g, and in the control hash, which is right in both or in neither
 --   FileAlike x y        the file y is x, with another mark
@@ -39,13 +39,13 @@ pub record EntryAlike (e g : List ℕ) : Type 0 where
 -- ---- lists, right or wrong
 
 -- "An entry size is even and at least 58"; what the entry says may break a rule
-pub record Sized (e : List ℕ) : Type 0 where
+pub record SizeRight (e : List ℕ) : Type 0 where
   pub fills : entrySize e ≡ length e
   pub size-right : entrySizeAllowed (length e) (length e) ≡ true
 
 pub data ListsAlike : List ℕ → List ℕ → Type 0 where
   rest-same : (s : List ℕ) → ListsAlike s s
-  entry-more : {e g s t : List ℕ} → Sized e → EntryAlike e g → ListsAlike s t → ListsAlike (e ++ s) (g ++ t)
+  entry-more : {e g s t : List ℕ} → SizeRight e → EntryAlike e g → ListsAlike s t → ListsAlike (e ++ s) (g ++ t)
 
 -- ---- files, accepted or not
 

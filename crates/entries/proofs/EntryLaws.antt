@@ -1,7 +1,7 @@
 -- What the first entry of a list is, from the tests in turn, and what the answer tells.
 --
 --   Sized n m, sized   an entry of n bytes may stand at the front of m bytes, in numbers
---   first-end, first-size, first-file-size, first-name, first-entry     firstOf, by what the tests found
+--   first-end, first-some, first-size, first-file-size, first-name, first-entry     firstOf, by what the tests found
 --   length-sized       an entry that keeps every rule has 58 bytes or more, and lies in the list
 --   IsEntry, IsFault, is-end, is-entry, is-fault      what each answer of firstOf tells
 --   EntryAt, entry-at                                 an entry at a position of a list, as a loop over it meets it
@@ -45,7 +45,7 @@ unfolding firstOf
 first-end [] h = refl
 first-end (b ∷ s) h = absurd (omega arith)
 
-first-some : (s : List ℕ) → 0 < length s
+pub first-some : (s : List ℕ) → 0 < length s
     → firstOf s ≡ cond (entryAllowed s) (itemOf (take (entrySize s) s)) (item.Fault (faultOf s))
 unfolding firstOf
 first-some [] h = absurd (omega arith)
