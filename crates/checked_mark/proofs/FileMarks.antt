@@ -2,8 +2,8 @@
 --
 --   part-first, part-later     the same part of both headers
 --   read-same       reading
---   chunks-same     reading in chunks, however the files are cut
---   nothing-acts    the claim
+--   listing-same, input-same     the listing
+--   chunks-read     reading in chunks is reading, however a file is cut
 -- Assumes nothing.
 use mathlib.Core.Path.{_≡_, refl, sym, ap, ap₂, _∙_}
 use mathlib.Core.Bool.{Bool, true, false, cond}
@@ -32,9 +32,9 @@ use Rattle.refusals.specs.Limits.{maxListedLength}
 use Rattle.refusals.specs.Tests.{bare, test}
 use Rattle.running_read.specs.Claim.{reading}
 use Rattle.running_read.proofs.Chunks.{read-chunked}
-use Rattle.checked_mark.specs.Claim.{readInChunks, NothingActs}
+use Rattle.checked_mark.specs.Claim.{readInChunks}
 use Rattle.checked_mark.specs.Marks.{Pairs, EntryAlike, AlikeButMarks}
-use Rattle.checked_mark.proofs.EntryMarks.{set-hash-same, number-same, lines-same}
+use Rattle.checked_mark.proofs.EntryMarks.{set-hash-same, lines-same}
 use Rattle.checked_mark.proofs.ListMarks.{walked-alike, walk-same}
 
 module _ {f g : List ℕ} (a : AlikeButMarks f g) where
@@ -88,8 +88,8 @@ module _ {f g : List ℕ} (a : AlikeButMarks f g) where
   parts-same : (saved : ℕ) → partsFrom f saved ≡ partsFrom g saved
   parts-same saved =
       let list-size : listSizeOf f ≡ listSizeOf g = later 8 40 (omega arith) in
-      let data-start : dataStartOf f ≡ dataStartOf g = later 8 48 (omega arith) in
       let data-size : dataSizeOf f ≡ dataSizeOf g = later 8 56 (omega arith) in
+      let data-start : dataStartOf f ≡ dataStartOf g = later 8 48 (omega arith) in
       simp (first 4 12 (omega arith), later 8 16 (omega arith), later 8 24 (omega arith), list-size, data-start, data-size)
 
   from-same : (n : ℕ) (set : List ℕ) (w : Walked) → readFrom f n (controlHash f) set w ≡ readFrom g n (controlHash g) set w
@@ -112,11 +112,11 @@ module _ {f g : List ℕ} (a : AlikeButMarks f g) where
   by-same (Accepted p) = ap (λ (t : List ℕ). headLine (p .number) (p .entries) (p .saved) ++ t) (lines-same 0 entries-alike)
   by-same (Refused r) = refl
 
-  listing-same : listingOf f ≡ listingOf g
+  pub listing-same : listingOf f ≡ listingOf g
   unfolding listingOf
   listing-same = ap (λ (r : Reading). listingBy r f) read-same ∙ by-same (readOf g)
 
-  input-same : inputListing f ≡ inputListing g
+  pub input-same : inputListing f ≡ inputListing g
   unfolding inputListing
   input-same =
       ap₂ (λ (n : ℕ) (t : List ℕ). cond (leb n maxListedLength) t (refusedLine (bare 1))) (a .length-same) listing-same
@@ -127,18 +127,8 @@ each : (cs : List (List ℕ)) → map (λ c. c) cs ≡ cs
 each [] = refl
 each (c ∷ cs) = ap (λ (ds : List (List ℕ)). c ∷ ds) (each cs)
 
-chunks-read : (cs : List (List ℕ)) → readInChunks cs ≡ readOf (flatten cs)
+pub chunks-read : (cs : List (List ℕ)) → readInChunks cs ≡ readOf (flatten cs)
 chunks-read cs =
     let e : reading (readInChunks cs) ≡ reading (readOf (flatten (map (λ c. c) cs))) = read-chunked .cut-anyhow (record {}) cs (record {}) in
     let f : readInChunks cs ≡ readOf (flatten (map (λ c. c) cs)) = cc in
     f ∙ ap (λ (ds : List (List ℕ)). readOf (flatten ds)) (each cs)
-
-pub nothing-acts : NothingActs
-nothing-acts f g a =
-    record {
-      read-same = read-same a;
-      chunks-same = λ cs ds p q. chunks-read cs ∙ ap readOf p ∙ read-same a ∙ sym (chunks-read ds ∙ ap readOf q);
-      numbers-same = λ k. number-same k (entries-alike a);
-      listing-same = listing-same a;
-      input-same = input-same a;
-    }

@@ -1,7 +1,10 @@
+mod AnswerLaws
 pub mod CheckMarks
-pub mod EntryMarks
-pub mod FileMarks
+mod EntryMarks
+mod Examples
+mod FileMarks
 pub mod ListMarks
-pub mod PairLaws
+pub mod NothingActs
+mod PairLaws
 pub mod SetMarks
 pub mod VolumeMarks

@@ -6,14 +6,12 @@
 --   written-alike    the claim
 -- Assumes nothing.
 use mathlib.Core.Path.{_≡_, refl, sym, ap, ap₂, _∙_, subst}
-use mathlib.Core.Bool.{Bool, true, false, cond}
 use mathlib.Core.List.{List, [], _∷_, _++_, append-assoc, append-nil, flatten}
 use Prim.Native.Nat.{ℕ, _+_, _^_, _<_}
-use lib.Dec.{leb, eqb}
 use lib.ListN.{length, take, drop, length-append}
 use Rattle.entries.specs.Walk.{entriesOf, walkOf}
 use Rattle.entries.specs.declared.Walked.{Walked}
-use Rattle.lent_bytes.specs.Writing.{refused, accepted, written, writtenUnless}
+use Rattle.lent_bytes.specs.Writing.{writtenUnless}
 use Rattle.lent_bytes.specs.declared.Writing.{Writing}
 use Rattle.lent_bytes.specs.declared.Writing.the-variants.{Written}
 use Rattle.lent_bytes.proofs.PartsInRow.{At, at-part, at-next}
@@ -29,10 +27,9 @@ use Rattle.par1_rules.specs.Layout.{signature, version}
 use Rattle.par1_rules.proofs.HashLaws.{length-md5, length-set-hash}
 use Rattle.par1_write.specs.VolumeWriting.{numberBytes, bodyBytes, headBytes, volumeBytes, walkRefusal, writeVolumeOf}
 use Rattle.par1_write.proofs.VolumeWritingLaws.{VolumePassed, length-volume}
-use Rattle.refusals.specs.Tests.{bare}
-use Rattle.refusals.specs.declared.Refusal.{Refusal}
 use Rattle.checked_mark.specs.Claim.{WrittenAlike}
 use Rattle.checked_mark.specs.Marks.{ListsAlike, rest-same, entry-more, AlikeButMarks}
+use Rattle.checked_mark.proofs.AnswerLaws.{answer-same}
 use Rattle.checked_mark.proofs.EntryMarks.{set-hash-same}
 use Rattle.checked_mark.proofs.ListMarks.{walked-alike, walk-same}
 use Rattle.checked_mark.proofs.PairLaws.{count-same}
@@ -108,17 +105,6 @@ module _ (program number : ℕ) (area : List ℕ) {s t : List ℕ} (l : ListsAli
       }
 
 -- ---- the claim
-
--- the answer tells no more of the bytes than how many they are
-answer-same : (r : Refusal) (s t out : List ℕ) → length s ≡ length t → writtenUnless r s out .0 ≡ writtenUnless r t out .0
-unfolding writtenUnless written
-answer-same r s t out e = simp e (by (eqb (r .number) 0) (leb (length t) (length out)))
-  where
-    by : (b c : Bool) → cond b (cond c (Written (length t), s ++ drop (length t) out) (refused (bare 14) out)) (refused r out) .0
-        ≡ cond b (cond c (accepted t out) (refused (bare 14) out)) (refused r out) .0
-    by true true = refl
-    by true false = refl
-    by false c = refl
 
 module _ (program number : ℕ) (area out : List ℕ) {s t : List ℕ} (l : ListsAlike s t) where
   abbrev one : Writing × List ℕ

@@ -51,7 +51,7 @@ pub record SameAnswers (f g : List ℕ) : Type 0 where
   pub listing-same : listingOf f ≡ listingOf g
   pub input-same : inputListing f ≡ inputListing g
 
--- proved: proofs/FileMarks.antt, `nothing-acts`
+-- proved: proofs/NothingActs.antt, `nothing-acts`
 abbrev pub NothingActs : Type 0
 NothingActs = (f g : List ℕ) → AlikeButMarks f g → SameAnswers f g
 
