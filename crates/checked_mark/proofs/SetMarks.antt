@@ -8,9 +8,9 @@
 -- Assumes nothing.
 use mathlib.Core.Path.{_≡_, refl, sym, ap, ap₂, _∙_, subst, fun-ext}
 use mathlib.Core.List.{List, [], _∷_, map, foldr, flatten}
-use Prim.Native.Nat.{ℕ, zero, suc, _+_, _-_, _^_, _<_, max}
+use Prim.Native.Nat.{ℕ, _+_, _-_, _^_, _<_, max}
 use native.Mathlib.Omega.{arith}
-use lib.ListN.{length, take, drop, getD, length-append, length-map}
+use lib.ListN.{length, take, drop, getD, length-append, length-map, List·getD-map}
 use Rattle.cut_lists.specs.All.{All, all-none, all-more}
 use Rattle.entries.specs.Entry.{statusOf, isSaved, isCounted, fileSizeAllowed, nameAllowed}
 use Rattle.entries.specs.Walk.{entriesOf}
@@ -112,11 +112,6 @@ files-right (pairs-more {x} {y} a ps) (all-more r rs) =
 
 -- ---- the parity
 
-contents-at : (xs : List File) (k : ℕ) → getD xs k noFile .contents ≡ getD (map (λ x. x .contents) xs) k []
-contents-at [] k = refl
-contents-at (x ∷ xs) zero = refl
-contents-at (x ∷ xs) (suc k) = contents-at xs k
-
 module _ {fs gs : List File} (ps : Pairs FileAlike fs gs) where
   saved-contents : map (λ x. x .contents) (savedFiles fs) ≡ map (λ x. x .contents) (savedFiles gs)
   saved-contents =
@@ -128,10 +123,9 @@ module _ {fs gs : List File} (ps : Pairs FileAlike fs gs) where
   contents-are : contentsOf fs ≡ contentsOf gs
   contents-are =
       fun-ext
-      (λ f.
-      contents-at (savedFiles fs) (f - 1)
+      (λ f. sym (List·getD-map (λ x. x .contents) (savedFiles fs) (f - 1) noFile)
       ∙ ap (λ (ms : List (List ℕ)). getD ms (f - 1) []) saved-contents
-      ∙ sym (contents-at (savedFiles gs) (f - 1)))
+      ∙ List·getD-map (λ x. x .contents) (savedFiles gs) (f - 1) noFile)
 
   data-size : dataSizeFor fs ≡ dataSizeFor gs
   unfolding isCounted
