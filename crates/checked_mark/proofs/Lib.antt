@@ -7,4 +7,5 @@ pub mod ListMarks
 pub mod NothingActs
 mod PairLaws
 pub mod SetMarks
+mod TextMarks
 pub mod VolumeMarks

@@ -5,6 +5,7 @@ use Rattle.par1_read.specs.Reading.{readOf}
 use Rattle.checked_mark.specs.Claim.{NothingActs}
 use Rattle.checked_mark.proofs.EntryMarks.{number-same}
 use Rattle.checked_mark.proofs.FileMarks.{entries-alike, read-same, listing-same, input-same, chunks-read}
+use Rattle.checked_mark.proofs.TextMarks.{export-same, import-same}
 
 pub nothing-acts : NothingActs
 nothing-acts f g a =
@@ -14,4 +15,6 @@ nothing-acts f g a =
       numbers-same = λ k. number-same k (entries-alike a);
       listing-same = listing-same a;
       input-same = input-same a;
+      export-same = export-same a;
+      import-same = import-same a;
     }

@@ -2,7 +2,7 @@
 -- nothing acts on it." Whatever files differ in marks only get the same answers.
 --
 --   readInChunks cs    what reading gives of a file that came in the chunks cs
---   SameAnswers f g    reading, reading in chunks, numbering and listing give the same of the files f and g
+--   SameAnswers f g    reading, reading in chunks, numbering, listing, export and import give the same of the files f and g
 --   NothingActs        so they do of files that differ in marks and control hashes only
 --   withoutMark i      what a list begins with, without the mark
 --   FirstAlike         lists that differ in marks only begin with the same, the mark apart
@@ -12,8 +12,8 @@
 --   SomeMarked         so do those of all files that keep the rules, with any other marks
 -- What excludes an empty reading: the volume of every set of files that keeps the rules differs so from that of the same files with any other marks
 -- (`SomeMarked`), and both are accepted (`par1_set` specs/Claim, `SetRead`). Refused files are covered too, with number and place.
--- The contracts of read, first, check, write_volume, list and list_input cite readOf, firstOf, checkOf, writeVolumeOf, listingOf and inputListing, those
--- of a running read pushAnswer and endAnswer.
+-- The contracts of read, first, check, write_volume, list, list_input, export and import cite readOf, firstOf, checkOf, writeVolumeOf, listingOf, inputListing,
+-- exportInto and importInto, those of a running read pushAnswer and endAnswer.
 -- Assumes nothing.
 use mathlib.Core.Path.{_≡_}
 use mathlib.Core.List.{List, map, flatten}
@@ -26,6 +26,8 @@ use Rattle.entries.specs.declared.Item.the-variants as item
 use Rattle.jobs.specs.Job.{afterPushes}
 use Rattle.lent_bytes.specs.declared.Writing.the-variants.{Written}
 use Rattle.listing.specs.Listing.{listingOf, inputListing}
+use Rattle.md5sum_text.specs.Export.{exportInto}
+use Rattle.md5sum_text.specs.Import.{importInto}
 use Rattle.par1.specs.Checking.{checkOf}
 use Rattle.par1_read.specs.Reading.{entriesIn, readOf}
 use Rattle.par1_read.specs.declared.reading.Reading.{Reading}
@@ -50,6 +52,9 @@ pub record SameAnswers (f g : List ℕ) : Type 0 where
   pub numbers-same : (k : ℕ) → fileNumber (entriesIn f) k ≡ fileNumber (entriesIn g) k
   pub listing-same : listingOf f ≡ listingOf g
   pub input-same : inputListing f ≡ inputListing g
+  -- md5sum text, into any room; with any text
+  pub export-same : (out : List ℕ) → exportInto f out ≡ exportInto g out
+  pub import-same : (text out : List ℕ) → importInto f text out ≡ importInto g text out
 
 -- proved: proofs/NothingActs.antt, `nothing-acts`
 abbrev pub NothingActs : Type 0
