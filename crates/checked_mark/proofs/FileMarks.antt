@@ -2,6 +2,7 @@
 --
 --   part-first, part-later     the same part of both headers
 --   read-same       reading
+--   volume-number, data-size     the numbers that a catalog has of a volume
 --   listing-same, input-same     the listing
 --   chunks-read     reading in chunks is reading, however a file is cut
 -- Assumes nothing.
@@ -26,7 +27,7 @@ use Rattle.par1_read.specs.Reading.{headerRefusal, controlRefusal, totalsRefusa
 use Rattle.par1_read.specs.declared.reading.Reading.{Reading}
 use Rattle.par1_read.specs.declared.reading.Reading.the-variants.{Accepted, Refused}
 use Rattle.par1_rules.specs.Hashes.{setHash, controlHash}
-use Rattle.par1_rules.specs.Layout.{controlHashOf, listSizeOf, dataStartOf, dataSizeOf, listOf}
+use Rattle.par1_rules.specs.Layout.{controlHashOf, volumeNumberOf, listSizeOf, dataStartOf, dataSizeOf, listOf}
 use Rattle.par1_rules.specs.Rules.{layoutAllowed}
 use Rattle.refusals.specs.Limits.{maxListedLength}
 use Rattle.refusals.specs.Tests.{bare, test}
@@ -60,6 +61,12 @@ module _ {f g : List ℕ} (a : AlikeButMarks f g) where
   unfolding leAt
   later k i h = ap fromLe (part-later i k h)
 
+  pub volume-number : volumeNumberOf f ≡ volumeNumberOf g
+  volume-number = later 8 16 (omega arith)
+
+  pub data-size : dataSizeOf f ≡ dataSizeOf g
+  data-size = later 8 56 (omega arith)
+
   -- ---- reading
 
   layout-same : (n : ℕ) → layoutAllowed f n ≡ layoutAllowed g n
@@ -88,7 +95,6 @@ module _ {f g : List ℕ} (a : AlikeButMarks f g) where
   parts-same : (saved : ℕ) → partsFrom f saved ≡ partsFrom g saved
   parts-same saved =
       let list-size : listSizeOf f ≡ listSizeOf g = later 8 40 (omega arith) in
-      let data-size : dataSizeOf f ≡ dataSizeOf g = later 8 56 (omega arith) in
       let data-start : dataStartOf f ≡ dataStartOf g = later 8 48 (omega arith) in
       simp (first 4 12 (omega arith), later 8 16 (omega arith), later 8 24 (omega arith), list-size, data-start, data-size)
 

@@ -1,4 +1,5 @@
 mod AnswerLaws
+mod CatalogMarks
 pub mod CheckMarks
 mod EntryMarks
 mod Examples

@@ -2,7 +2,9 @@
 -- nothing acts on it." Whatever files differ in marks only get the same answers.
 --
 --   readInChunks cs    what reading gives of a file that came in the chunks cs
---   SameAnswers f g    reading, reading in chunks, numbering, listing, export and import give the same of the files f and g
+--   ButHash r s h k    the rooms r and s are the same but for 16 bytes, in which they have h and k
+--   SameAnswers f g    reading, reading in chunks, numbering, listing, export, import and opening a catalog give the same of the files f and g, and so
+--                      does adding them to a catalog, but for the control hash in the row
 --   NothingActs        so they do of files that differ in marks and control hashes only
 --   withoutMark i      what a list begins with, without the mark
 --   FirstAlike         lists that differ in marks only begin with the same, the mark apart
@@ -12,13 +14,15 @@
 --   SomeMarked         so do those of all files that keep the rules, with any other marks
 -- What excludes an empty reading: the volume of every set of files that keeps the rules differs so from that of the same files with any other marks
 -- (`SomeMarked`), and both are accepted (`par1_set` specs/Claim, `SetRead`). Refused files are covered too, with number and place.
--- The contracts of read, first, check, write_volume, list, list_input, export and import cite readOf, firstOf, checkOf, writeVolumeOf, listingOf, inputListing,
--- exportInto and importInto, those of a running read pushAnswer and endAnswer.
+-- The contracts of read, first, check, write_volume, list, list_input, export, import, open and add cite readOf, firstOf, checkOf, writeVolumeOf, listingOf,
+-- inputListing, exportInto, importInto, openOf and addOf, those of a running read pushAnswer and endAnswer.
 -- Assumes nothing.
 use mathlib.Core.Path.{_≡_}
 use mathlib.Core.List.{List, map, flatten}
-use Prim.Native.Nat.{ℕ, _^_, _<_}
-use lib.ListN.{take}
+use mathlib.Core.Logic.{_⊎_}
+use Prim.Native.Nat.{ℕ, _+_, _^_, _<_}
+use lib.ListN.{take, drop}
+use Rattle.catalog.specs.Calls.{openOf, addOf}
 use Rattle.entries.specs.Numbering.{fileNumber}
 use Rattle.entries.specs.Walk.{firstOf}
 use Rattle.entries.specs.declared.Item.{Item}
@@ -31,7 +35,7 @@ use Rattle.md5sum_text.specs.Import.{importInto}
 use Rattle.par1.specs.Checking.{checkOf}
 use Rattle.par1_read.specs.Reading.{entriesIn, readOf}
 use Rattle.par1_read.specs.declared.reading.Reading.{Reading}
-use Rattle.par1_rules.specs.Layout.{version}
+use Rattle.par1_rules.specs.Layout.{version, controlHashOf}
 use Rattle.par1_set.specs.Files.{File}
 use Rattle.par1_set.specs.Volume.{volumeFor, indexFor, VolumeRight, IndexRight}
 use Rattle.par1_write.specs.VolumeWriting.{writeVolumeOf}
@@ -42,6 +46,13 @@ use Rattle.checked_mark.specs.Marks.{unmarked, Pairs, EntryAlike, ListsA
 
 abbrev pub readInChunks : List (List ℕ) → Reading
 readInChunks chunks = endAnswer (afterPushes readSteps startRead chunks) .reading
+
+pub record ButHash (r s h k : List ℕ) : Type 0 where
+  pub at : ℕ
+  pub before-same : take at r ≡ take at s
+  pub one-has : take 16 (drop at r) ≡ h
+  pub other-has : take 16 (drop at s) ≡ k
+  pub after-same : drop (at + 16) r ≡ drop (at + 16) s
 
 pub record SameAnswers (f g : List ℕ) : Type 0 where
   -- the parts, or the number and the place of the refusal
@@ -55,6 +66,10 @@ pub record SameAnswers (f g : List ℕ) : Type 0 where
   -- md5sum text, into any room; with any text
   pub export-same : (out : List ℕ) → exportInto f out ≡ exportInto g out
   pub import-same : (text out : List ℕ) → importInto f text out ≡ importInto g text out
+  -- a catalog, and f or g added as a volume to any room: a row has the control hash of its volume
+  pub opened-same : (out : List ℕ) → openOf f out ≡ openOf g out
+  pub added-same : (room : List ℕ) → addOf room f .0 ≡ addOf room g .0
+  pub rooms-alike : (room : List ℕ) → (addOf room f .1 ≡ addOf room g .1) ⊎ ButHash (addOf room f .1) (addOf room g .1) (controlHashOf f) (controlHashOf g)
 
 -- proved: proofs/NothingActs.antt, `nothing-acts`
 abbrev pub NothingActs : Type 0
