@@ -125,8 +125,9 @@ par1_answer par1_read(const uint8_t *file, size_t file_len, uint8_t *out, size_t
 uint32_t par1_entry(const uint8_t *list, size_t list_len, uint8_t *out, size_t out_len);
 
 /* Writes the entry of a file with these contents, status and name (in 16-bit units, two bytes each) over the first 56 + name_len bytes of
- * `out`. Refuses with 17 where the contents are above 16,777,216 bytes or the status is above 3, with 18 where the name is not one or more whole
- * units other than 47 and 92, then with 14 where `out` is shorter. */
+ * `out`. The status is 1 where the file is saved in the parity, else 0; bit 1, once "checked", is not written any more. Refuses with 17 where the
+ * contents are above 16,777,216 bytes or the status is above 1, with 18 where the name is not one or more whole units other than 47 and 92, then
+ * with 14 where `out` is shorter. */
 uint32_t par1_write_entry(const uint8_t *contents, size_t contents_len, uint64_t status, const uint8_t *name, size_t name_len, uint8_t *out,
                           size_t out_len);
 

@@ -166,7 +166,8 @@ fn written(counts: &mut Counts) {
     let long = vec![0; 16_777_217];
     let names: [(&[u8], u32); 7] = [(b"A\0", 0), (b"", 18), (b"A", 18), (b"A\0B", 18), (b"/\0", 18), (b"A\0\\\0", 18), (b"/\0A", 18)];
     for (name, named) in names {
-        for (contents, status, sized) in [(&b"12345"[..], 3, 0), (b"", 4, 17), (b"", u64::MAX, 17), (&long, 0, 17), (&long, 4, 17)] {
+        let statuses = [(&b"12345"[..], 1, 0), (b"", 2, 17), (b"", 3, 17), (b"", 4, 17), (b"", u64::MAX, 17), (&long, 0, 17), (&long, 2, 17)];
+        for (contents, status, sized) in statuses {
             for room in [0, 100] {
                 let number = if sized != 0 { sized } else if named != 0 { named } else if room == 0 { 14 } else { 0 };
                 let room = vec![3; room];

@@ -2,6 +2,7 @@
 //! short and extended; with fields of any 64-bit number; random bytes; files of another client; entries and volumes written, and
 //! accepted files written again from their parts.
 
+use crate::compare_faults::put;
 use crate::{calls, expected, par1, rounds, small, Counts, Random};
 
 /// A name of one unit or more, at times with a unit that is not allowed or an odd byte.
@@ -23,12 +24,15 @@ fn contents(random: &mut Random) -> Vec<u8> {
     random.bytes(n)
 }
 
-/// A list of up to four entries.
+/// A list of up to four entries, of statuses that older programs wrote too.
 pub fn list(random: &mut Random) -> Vec<u8> {
     let mut list = vec![];
     for _ in 0..random.below(5) {
         let (m, status) = (contents(random), random.below(4) as u64);
-        list.extend(par1::write_entry(&m, status, &name(random)).unwrap_or_default());
+        if let Ok(mut entry) = par1::write_entry(&m, 0, &name(random)) {
+            put(&mut entry, 8, status);
+            list.extend(entry);
+        }
     }
     list
 }
@@ -240,7 +244,7 @@ fn write(counts: &mut Counts, random: &mut Random) {
 fn check(counts: &mut Counts, random: &mut Random) {
     for _ in 0..rounds(400) {
         let m = contents(random);
-        let entry = par1::write_entry(&m, random.below(4) as u64, &name(random)).unwrap_or(random.bytes(70));
+        let entry = par1::write_entry(&m, random.below(2) as u64, &name(random)).unwrap_or(random.bytes(70));
         let mut same = |what: &str, e: &[u8], m: &[u8]| {
             counts.same(|| format!("checking {what}"), calls::check(e, m), par1::check(e, m));
         };

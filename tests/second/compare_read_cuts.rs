@@ -5,6 +5,7 @@
 use crate::compare_faults::{at, good, put, FAULTS, LENGTH};
 use crate::compare_par1::{file, rehashed, unhashed};
 use crate::cuts::{self, Chunks};
+use crate::files::File;
 use crate::job_calls::{read_end, read_push, read_start};
 use crate::jobs::{number, CONTROL_TOTAL, ENTRIES, HASH, READ, READ_ENDED, SAVED, SET_TOTAL, TOTAL};
 use crate::{expected, par1, rounds, small, Counts, Random};
@@ -63,7 +64,7 @@ fn in_three(counts: &mut Counts, whole: &Whole) {
 /// Entries with these names, sizes and states, and one unit a name that is no slash however its bytes are paired with their neighbours.
 fn names() -> Vec<u8> {
     let units: [&[u8]; 4] = [b"A\0", b"/\x01\0/\0\\\\\x02", b"\0/\0\\", b"x\0y\0z\0"];
-    (0..).zip(units).flat_map(|(status, name)| par1::write_entry(b"12345", status, name).unwrap()).collect()
+    (0..).zip(units).flat_map(|(status, name)| File { contents: b"12345".to_vec(), status, name: name.to_vec() }.entry()).collect()
 }
 
 /// Files that are accepted.
@@ -95,7 +96,7 @@ fn refused() -> Vec<(&'static str, u64, Vec<u8>)> {
     let length = index.len() as u64;
     let sums = with(&with(&with(&index, 72, u64::MAX - 1), 80, 94), 88, length - 94);
     let changed = |place: usize| [&volume[..place], &[volume[place] ^ 1], &volume[place + 1..]].concat();
-    let unsaved = par1::write_entry(b"12345", 2, b"A\0").unwrap();
+    let unsaved = par1::write_entry(b"12345", 0, b"A\0").unwrap();
     vec![
         ("95 bytes", 1, index[..95].to_vec()),
         ("no bytes", 1, vec![]),

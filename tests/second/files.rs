@@ -11,7 +11,7 @@ pub struct File {
 }
 
 impl File {
-    /// Its entry, with any status: writing an entry takes none above 3.
+    /// Its entry, with any status: writing an entry takes none above 1.
     pub fn entry(&self) -> Vec<u8> {
         let mut entry = par1::write_entry(&self.contents, 0, &self.name).unwrap();
         put(&mut entry, 8, self.status);

@@ -13,6 +13,7 @@ mod compare_amend_refusals;
 mod compare_amend_stretch;
 mod compare_catalog;
 mod compare_catalog_refusals;
+mod compare_checked;
 mod compare_data_size;
 mod compare_differences;
 mod compare_entries;
@@ -84,7 +85,7 @@ impl Random {
 fn main() {
     let mut counts = Counts { passed: 0, failed: 0 };
     let mut random = Random(2026);
-    let parts: [(&str, fn(&mut Counts, &mut Random)); 19] = [
+    let parts: [(&str, fn(&mut Counts, &mut Random)); 20] = [
         ("md5", compare_md5::run),
         ("field", compare_field::run),
         ("parity", compare_parity::run),
@@ -104,6 +105,7 @@ fn main() {
         ("text of md5sum", compare_md5sum::run),
         ("catalogs", compare_catalog::run),
         ("catalogs refused", compare_catalog_refusals::run),
+        ("the checked mark", compare_checked::run),
     ];
     for (name, run) in parts {
         let before = counts.passed + counts.failed;

@@ -1,4 +1,5 @@
-//! Par 1.0 files, written from document 000, document 01 ("Byte layout", "What comes back") and document 02 (2026-01, 2026-02) alone.
+//! Par 1.0 files, written from document 000, document 01 ("Byte layout", "What comes back") and document 02 (2026-01, 2026-02,
+//! 2026-09) alone.
 
 use crate::md5::digest;
 
@@ -150,9 +151,9 @@ pub fn write_volume(program: u32, volume: u64, list: &[u8], data: &[u8]) -> Resu
     Ok([&MAGIC[..], &VERSION.to_le_bytes(), &program.to_le_bytes(), &digest(&rest), &rest].concat())
 }
 
-/// Tests 17 (contents, status), 18 (a bad name, an empty or odd one too); the caller tests 14.
+/// Tests 17 (contents, a status other than 0 and 1), 18 (a bad name, an empty or odd one too); the caller tests 14.
 pub fn write_entry(contents: &[u8], status: u64, name: &[u8]) -> Result<Vec<u8>, u32> {
-    test(17, contents.len() as u64 <= FILE_LIMIT && status <= 3)?;
+    test(17, contents.len() as u64 <= FILE_LIMIT && status <= 1)?;
     test(18, name_allowed(name))?;
     let mut e = (56 + name.len() as u64).to_le_bytes().to_vec();
     e.extend(status.to_le_bytes());
