@@ -2,28 +2,28 @@
 --
 --   Same t u                  u is of the same files as t
 --   next-same, after-same     calls keep the number of files and their sizes
---   Ranged t                  what is present in t is in range
+--   Ranged t                  what is present or quarantined in t is in range, and no volume is both
 --   next-ranged, after-ranged     calls keep that
 --   gives-one, givesAll-one   the model gives one reply at most to each call
 --   one-reply                 so at document 01's rule
 -- Assumes nothing.
 use mathlib.Core.Path.{_≡_, refl, sym, ap, ap₂, _∙_, subst}
-use mathlib.Core.Bool.{Bool, true, false, not, cond, _||_, false≢true}
+use mathlib.Core.Bool.{Bool, true, false, cond, false≢true}
 use mathlib.Core.List.{List, [], _∷_, _++_}
 use Prim.Native.Nat.{ℕ, _<_, _≤_}
 use native.Mathlib.Omega.{arith}
 use lib.Dec.{eqb}
 use lib.ListN.{drop}
 use borrow.Author.Tests.{eqb-true}
-use Rattle.computed_tests.proofs.Tests.{and-both}
 use Rattle.parity.proofs.Coefficients.{coefficient-byte}
 use Rattle.parity.specs.Coefficient.{coefficient}
 use Rattle.parity.specs.Parity.{isFile}
 use Rattle.inventory.specs.Recoverable.{State, isVolume}
-use Rattle.inventory.specs.Model.{Change, addFile, removeFile, addVolume, removeVolume, insert, changed, numberOf}
-use Rattle.inventory.specs.Steps.{inRange}
-use Rattle.inventory.proofs.ChangeNumbers.{accepted-in-range}
-use Rattle.inventory.specs.Model.{Call, change, count, query, Reply, queried, opened, next, after}
+use Rattle.inventory.specs.Model.{Change, addFile, removeFile, addVolume, removeVolume, quarantine, release, changed, numberOf}
+use Rattle.inventory.specs.Steps.{inRange, whileQuarantined}
+use Rattle.inventory.proofs.ChangeNumbers.{accepted-tests}
+use Rattle.inventory.proofs.ModelSets.{insert-inside, remove-inside, Apart, apart-insert, apart-remove, apart-moved, apart-back}
+use Rattle.inventory.specs.Model.{Call, change, count, query, Reply, queried, opened, withFiles, withVolumes, next, after}
 use Rattle.inventory.specs.Model.{Gives, GivesQuery, GivesMissing, undetermined, noRoom, recoverable, GivesAll}
 use Rattle.inventory.specs.Claim.{OneReply}
 use Rattle.inventory.proofs.Weights.{one-weights}
@@ -40,6 +40,8 @@ changed-same addFile t f = record { same-n = refl; same-size = refl }
 changed-same removeFile t f = record { same-n = refl; same-size = refl }
 changed-same addVolume t v = record { same-n = refl; same-size = refl }
 changed-same removeVolume t v = record { same-n = refl; same-size = refl }
+changed-same quarantine t v = record { same-n = refl; same-size = refl }
+changed-same release t v = record { same-n = refl; same-size = refl }
 
 next-same : (t : State) (c : Call) → Same t (next t c)
 unfolding next
@@ -64,32 +66,49 @@ after-same t (c ∷ cs) =
 pub record Ranged (t : State) : Type 0 where
   pub files : (f : ℕ) → t .files f ≡ true → isFile (t .n) f ≡ true
   pub volumes : (v : ℕ) → t .volumes v ≡ true → isVolume (t .n) v ≡ true
+  pub quarantined : (v : ℕ) → t .quarantined v ≡ true → isVolume (t .n) v ≡ true
+  pub apart : Apart (t .volumes) (t .quarantined)
 
 pub opened-ranged : (n : ℕ) (size : ℕ → ℕ) → Ranged (opened n size)
-opened-ranged n size = record { files = λ f e. absurd (false≢true e); volumes = λ v e. absurd (false≢true e) }
+opened-ranged n size = record {
+  files = λ f e. absurd (false≢true e);
+  volumes = λ v e. absurd (false≢true e);
+  quarantined = λ v e. absurd (false≢true e);
+  apart = λ v e. refl;
+}
 
-insert-in-range : (P : ℕ → Bool) (s : ℕ → Bool) (f : ℕ) → P f ≡ true → ((g : ℕ) → s g ≡ true → P g ≡ true)
-    → (g : ℕ) → insert f s g ≡ true → P g ≡ true
-insert-in-range P s f p h g e = go (eqb g f) refl e
-  where
-    go : (b : Bool) → eqb g f ≡ b → (b || s g) ≡ true → P g ≡ true
-    go true q r = ap P (eqb-true g f q) ∙ p
-    go false q r = h g r
+-- other files; other volumes
+with-files : (t : State) → Ranged t → (s : ℕ → Bool) → ((f : ℕ) → s f ≡ true → isFile (t .n) f ≡ true) → Ranged (withFiles t s)
+with-files t h s r = record { files = r; volumes = h .volumes; quarantined = h .quarantined; apart = h .apart }
 
-changed-ranged : (c : Change) (t : State) (k : ℕ) → Ranged t → inRange c (t .n) k ≡ true → Ranged (changed c t k)
-unfolding inRange changed
-changed-ranged addFile t f h r = record { files = insert-in-range (isFile (t .n)) (t .files) f r (h .files); volumes = h .volumes }
-changed-ranged removeFile t f h r = record { files = λ g e. h .files g (and-both (not (eqb g f)) (t .files g) e .1); volumes = h .volumes }
-changed-ranged addVolume t v h r = record { files = h .files; volumes = insert-in-range (isVolume (t .n)) (t .volumes) v r (h .volumes) }
-changed-ranged removeVolume t v h r = record { files = h .files; volumes = λ g e. h .volumes g (and-both (not (eqb g v)) (t .volumes g) e .1) }
+with-volumes : (t : State) → Ranged t → (s q : ℕ → Bool) → ((v : ℕ) → s v ≡ true → isVolume (t .n) v ≡ true)
+    → ((v : ℕ) → q v ≡ true → isVolume (t .n) v ≡ true) → Apart s q → Ranged (withVolumes t s q)
+with-volumes t h s q r r′ a = record { files = h .files; volumes = r; quarantined = r′; apart = a }
+
+changed-ranged : (c : Change) (t : State) (k : ℕ) → Ranged t → inRange c (t .n) k ≡ true → whileQuarantined c (t .quarantined) k ≡ false
+    → Ranged (changed c t k)
+unfolding inRange whileQuarantined changed
+changed-ranged addFile t f h r e = with-files t h _ (insert-inside (t .files) (isFile (t .n)) f r (h .files))
+changed-ranged removeFile t f h r e = with-files t h _ (λ g m. h .files g (remove-inside (t .files) f g m))
+changed-ranged addVolume t v h r e =
+    with-volumes t h _ _ (insert-inside (t .volumes) (isVolume (t .n)) v r (h .volumes)) (h .quarantined)
+    (apart-insert (t .volumes) (t .quarantined) v (h .apart) e)
+changed-ranged removeVolume t v h r e =
+    with-volumes t h _ _ (λ u m. h .volumes u (remove-inside (t .volumes) v u m)) (λ u m. h .quarantined u (remove-inside (t .quarantined) v u m))
+    (apart-remove (t .volumes) (t .quarantined) v (h .apart))
+changed-ranged quarantine t v h r e =
+    with-volumes t h _ _ (λ u m. h .volumes u (remove-inside (t .volumes) v u m))
+    (insert-inside (t .quarantined) (isVolume (t .n)) v r (h .quarantined)) (apart-moved (t .volumes) (t .quarantined) v (h .apart))
+changed-ranged release t v h r e =
+    with-volumes t h _ _ (insert-inside (t .volumes) (isVolume (t .n)) v r (h .volumes))
+    (λ u m. h .quarantined u (remove-inside (t .quarantined) v u m)) (apart-back (t .volumes) (t .quarantined) v (h .apart))
 
 next-ranged : (t : State) (c : Call) → Ranged t → Ranged (next t c)
 unfolding next
 next-ranged t (change c k) h = go (eqb (numberOf t c k) 0) refl
   where
     go : (b : Bool) → eqb (numberOf t c k) 0 ≡ b → Ranged (cond b (changed c t k) t)
-    go true e =
-        changed-ranged c t k h (accepted-in-range t c k (eqb-true (numberOf t c k) 0 e))
+    go true e = let (r, a) = accepted-tests t c k (eqb-true (numberOf t c k) 0 e) in changed-ranged c t k h r a
     go false e = h
 next-ranged t count h = h
 next-ranged t (query f room) h = h

@@ -29,9 +29,9 @@ use Rattle.inventory.proofs.Calls.{gives-one}
 
 count-one : (r r′ : Counted) → countReply r ≡ countReply r′ → r ≡ r′
 unfolding countReply
-count-one (counted.Counts f v) (counted.Counts g w) e = cc
-count-one (counted.Counts f v) (counted.Refused k) e = cc
-count-one (counted.Refused k) (counted.Counts f v) e = cc
+count-one (counted.Counts f v q) (counted.Counts g w p) e = cc
+count-one (counted.Counts f v q) (counted.Refused k) e = cc
+count-one (counted.Refused k) (counted.Counts f v q) e = cc
 count-one (counted.Refused j) (counted.Refused k) e = cc
 
 pub one-count : OneCount

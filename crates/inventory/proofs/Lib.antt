@@ -10,6 +10,7 @@ mod CoefficientRows
 mod QuerySteps
 mod Queries
 mod ChangeNumbers
+pub mod ModelSets
 pub mod Calls
 pub mod Told
 pub mod Determined

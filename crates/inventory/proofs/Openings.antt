@@ -99,7 +99,7 @@ opened-represents n sizes e =
         let r = and-both (oneTo 254 n) (eqb (length sizes) n) p .0 in
         let l = oneTo-inside 254 n r .1 in (
           l,
-          represents r (none n (omega arith)) (none (255 - n) (omega arith))
+          represents r (none n (omega arith)) (none (255 - n) (omega arith)) (none (255 - n) (omega arith)) (λ k h. refl)
               (within-by n (nonemptyOf sizes n)
               (λ k b h. and-both (isFile n k) (leb 1 (sizeIn sizes k)) (sym (nonempty-member sizes n (omega arith) k) ∙ h) .0))
               (λ f h. nonempty-member sizes n (omega arith) f ∙ ap (λ (b : Bool). b && leb 1 (sizeIn sizes f)) h),

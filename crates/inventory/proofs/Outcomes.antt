@@ -1,6 +1,6 @@
 -- What the calls hand back, case by case.
 --
---   files-changed, volumes-changed, number-same     adding and removing
+--   files-changed, volumes-changed, both-changed, number-same     adding, removing, quarantine and release
 --   first-fails, first-holds                       a row of tests
 --   open-out-of-range, open-miscounted, open-too-large, open-accepted     opening
 --   nonempty-more, nonempty-same                   the loop of opening
@@ -22,7 +22,7 @@ use Rattle.inventory.specs.Steps.{ifInventory, outcome, accepted, withFi
 use Rattle.inventory.specs.declared.Inventory.{Inventory}
 use Rattle.inventory.specs.declared.Outcome.{Outcome}
 
--- ---- adding and removing
+-- ---- adding, removing, quarantine and release
 
 -- a call that changes one of the sets, the files or the volumes, unless it is refused
 module _ (s : Inventory) (ws now changed : List ℕ) (k number : ℕ) (is : changed ≡ ws) (same : k ≡ number) where
@@ -39,12 +39,26 @@ module _ (s : Inventory) (ws now changed : List ℕ) (k number : ℕ) (is : chan
   pub files-changed : now ≡ unlessRefused k changed (s .files) → outcome (withFiles s now) k ≡ accepted number (withFiles s ws) s
   files-changed = set-changed (withFiles s) (s .files) refl
 
-  pub volumes-changed : now ≡ unlessRefused k changed (s .volumes) → outcome (withVolumes s now) k ≡ accepted number (withVolumes s ws) s
-  volumes-changed = set-changed (withVolumes s) (s .volumes) refl
+  pub volumes-changed : now ≡ unlessRefused k changed (s .volumes)
+      → outcome (withVolumes s now (s .quarantined)) k ≡ accepted number (withVolumes s ws (s .quarantined)) s
+  volumes-changed = set-changed (λ ws. withVolumes s ws (s .quarantined)) (s .volumes) refl
+
+  -- a call that changes both sets of volumes, unless it is refused
+  pub both-changed : {qs aside changed′ : List ℕ} → changed′ ≡ qs → now ≡ unlessRefused k changed (s .volumes)
+      → aside ≡ unlessRefused k changed′ (s .quarantined) → outcome (withVolumes s now aside) k ≡ accepted number (withVolumes s ws qs) s
+  both-changed {qs} is′ e f =
+      ap₂ (λ (b c : List ℕ). outcome (withVolumes s b c) k) (e ∙ ap (λ (b : List ℕ). unlessRefused k b (s .volumes)) is)
+      (f ∙ ap (λ (b : List ℕ). unlessRefused k b (s .quarantined)) is′)
+      ∙ go (eqb k 0) ∙ ap (λ (k : ℕ). accepted k (withVolumes s ws qs) s) same
+    where
+      go : (b : Bool) → outcome (withVolumes s (cond b ws (s .volumes)) (cond b qs (s .quarantined))) k ≡ outcome (cond b (withVolumes s ws qs) s) k
+      go true = refl
+      go false = refl
 
 -- the tests of the code are those of the step
-pub number-same : (s : Inventory) {a a′ b b′ : Bool} → a ≡ a′ → b ≡ b′ → ifInventory s (changeNumber a b) ≡ ifInventory s (changeNumber a′ b′)
-number-same s e f = cc
+pub number-same : (s : Inventory) {a a′ b b′ c c′ : Bool} → a ≡ a′ → b ≡ b′ → c ≡ c′
+    → ifInventory s (changeNumber a b c) ≡ ifInventory s (changeNumber a′ b′ c′)
+number-same s e f g = cc
 
 -- ---- a row of tests
 

@@ -20,15 +20,16 @@ use Rattle.parity.specs.Parity.{isFile}
 use Rattle.parity.proofs.Coefficients.{coefficient-byte}
 use Rattle.number_sets.specs.Sets.{member, Words}
 use Rattle.inventory.specs.Recoverable.{State}
-use Rattle.inventory.specs.Model.{Change, addFile, removeFile, addVolume, removeVolume, Call, change, count, query, Reply, opened}
+use Rattle.inventory.specs.Model.{Change, addFile, removeFile, addVolume, removeVolume, quarantine, release}
+use Rattle.inventory.specs.Model.{Call, change, count, query, Reply, opened}
 use Rattle.inventory.specs.Steps.{isInventory, within, nonemptyOf, fresh, outcome, openStep, afterChange, changeStep}
 use Rattle.inventory.specs.Query.{stateOf}
-use Rattle.inventory.specs.Claim.{AddsExactly, sizeIn, Step, Run, Given, ExactlyGivenFor, ExactlyGiven}
+use Rattle.inventory.specs.Claim.{TellsExactly, sizeIn, Step, Run, Given, ExactlyGivenFor, ExactlyGiven}
 use Rattle.inventory.specs.declared.Inventory.{Inventory}
 use Rattle.inventory.specs.declared.Outcome.{Outcome}
 use Rattle.number_sets.proofs.Words.{member-above, words-same, words-none, words-inserted, words-removed}
 use Rattle.inventory.proofs.Outcomes.{open-accepted}
-use Rattle.inventory.proofs.ValidInventories.{within-bits, n-valid, files-valid, nonempty-valid, volumes-valid}
+use Rattle.inventory.proofs.ValidInventories.{within-bits, n-valid, files-valid, nonempty-valid, volumes-valid, quarantined-valid, none-both}
 use Rattle.inventory.proofs.Representation.{Represents}
 use Rattle.inventory.proofs.Openings.{opened-represents, nonempty-words, nonempty-member}
 use Rattle.inventory.proofs.Calls.{Ranged}
@@ -43,47 +44,73 @@ given-valid rule n sizes well cs rs s run =
 
 -- ---- calls keep the number of files, and those that are not empty
 
+-- the sets of what is present or quarantined are words
+record Sets (s : Inventory) : Type 0 where
+  files : Words (s .files)
+  volumes : Words (s .volumes)
+  quarantined : Words (s .quarantined)
+
 record Kept (s e : Inventory) : Type 0 where
   same-n : e .n ≡ s .n
   same-nonempty : e .nonempty ≡ s .nonempty
-  files : Words (e .files)
-  volumes : Words (e .volumes)
+  sets : Sets e
 
-change-kept : (c : Change) (s : Inventory) (k : ℕ) → Words (s .files) → Words (s .volumes) → Kept s (afterChange c s k)
+changed-sets : (c : Change) (s : Inventory) (k : ℕ) → Sets s → Sets (afterChange c s k)
 unfolding afterChange
-change-kept addFile s f fw vw = record { same-n = refl; same-nonempty = refl; files = words-inserted f (s .files) fw; volumes = vw }
-change-kept removeFile s f fw vw = record { same-n = refl; same-nonempty = refl; files = words-removed f (s .files) fw; volumes = vw }
-change-kept addVolume s v fw vw = record { same-n = refl; same-nonempty = refl; files = fw; volumes = words-inserted v (s .volumes) vw }
-change-kept removeVolume s v fw vw = record { same-n = refl; same-nonempty = refl; files = fw; volumes = words-removed v (s .volumes) vw }
+changed-sets addFile s f w = record { files = words-inserted f (s .files) (w .files); volumes = w .volumes; quarantined = w .quarantined }
+changed-sets removeFile s f w = record { files = words-removed f (s .files) (w .files); volumes = w .volumes; quarantined = w .quarantined }
+changed-sets addVolume s v w = record { files = w .files; volumes = words-inserted v (s .volumes) (w .volumes); quarantined = w .quarantined }
+changed-sets removeVolume s v w = record {
+  files = w .files;
+  volumes = words-removed v (s .volumes) (w .volumes);
+  quarantined = words-removed v (s .quarantined) (w .quarantined);
+}
+changed-sets quarantine s v w = record {
+  files = w .files;
+  volumes = words-removed v (s .volumes) (w .volumes);
+  quarantined = words-inserted v (s .quarantined) (w .quarantined);
+}
+changed-sets release s v w = record {
+  files = w .files;
+  volumes = words-inserted v (s .volumes) (w .volumes);
+  quarantined = words-removed v (s .quarantined) (w .quarantined);
+}
 
-kept : {s e : Inventory} → e ≡ s → Words (s .files) → Words (s .volumes) → Kept s e
-kept {s} q fw vw = subst (Kept s) (sym q) record { same-n = refl; same-nonempty = refl; files = fw; volumes = vw }
+change-kept : (c : Change) (s : Inventory) (k : ℕ) → Sets s → Kept s (afterChange c s k)
+unfolding afterChange
+change-kept addFile s f w = record { same-n = refl; same-nonempty = refl; sets = changed-sets addFile s f w }
+change-kept removeFile s f w = record { same-n = refl; same-nonempty = refl; sets = changed-sets removeFile s f w }
+change-kept addVolume s v w = record { same-n = refl; same-nonempty = refl; sets = changed-sets addVolume s v w }
+change-kept removeVolume s v w = record { same-n = refl; same-nonempty = refl; sets = changed-sets removeVolume s v w }
+change-kept quarantine s v w = record { same-n = refl; same-nonempty = refl; sets = changed-sets quarantine s v w }
+change-kept release s v w = record { same-n = refl; same-nonempty = refl; sets = changed-sets release s v w }
+
+kept : {s e : Inventory} → e ≡ s → Sets s → Kept s e
+kept {s} q w = subst (Kept s) (sym q) record { same-n = refl; same-nonempty = refl; sets = w }
 
 module _ (rule : ℕ → ℕ → ℕ) where
-  step-kept : (s : Inventory) (c : Call) (r : Reply) (s₁ : Inventory) → Step rule s c r s₁ → Words (s .files) → Words (s .volumes) → Kept s s₁
+  step-kept : (s : Inventory) (c : Call) (r : Reply) (s₁ : Inventory) → Step rule s c r s₁ → Sets s → Kept s s₁
   unfolding Step changeStep
-  step-kept s (change c k) r s₁ (p, q) fw vw = subst (Kept s) (sym q) (go (eqb (changeStep c s k .number) 0))
+  step-kept s (change c k) r s₁ (p, q) w = subst (Kept s) (sym q) (go (eqb (changeStep c s k .number) 0))
     where
       go : (b : Bool) → Kept s (cond b (afterChange c s k) s)
-      go true = change-kept c s k fw vw
-      go false = kept refl fw vw
-  step-kept s count r s₁ (p, q) fw vw = kept q fw vw
-  step-kept s (query f room) r s₁ (a, room′, Q, p, q) fw vw = kept q fw vw
+      go true = change-kept c s k w
+      go false = kept refl w
+  step-kept s count r s₁ (p, q) w = kept q w
+  step-kept s (query f room) r s₁ (a, room′, Q, p, q) w = kept q w
 
-  run-kept : (s : Inventory) (cs : List Call) (rs : List Reply) (e : Inventory) → Run rule s cs rs e → Words (s .files) → Words (s .volumes)
-      → Kept s e
+  run-kept : (s : Inventory) (cs : List Call) (rs : List Reply) (e : Inventory) → Run rule s cs rs e → Sets s → Kept s e
   unfolding Run
-  run-kept s [] [] e q fw vw = kept (sym q) fw vw
-  run-kept s [] (r ∷ rs) e q fw vw = absurd q
-  run-kept s (c ∷ cs) [] e q fw vw = absurd q
-  run-kept s (c ∷ cs) (r ∷ rs) e (s₁, d, q) fw vw =
-      let one = step-kept s c r s₁ d fw vw in
-      let more = run-kept s₁ cs rs e q (one .files) (one .volumes) in
+  run-kept s [] [] e q w = kept (sym q) w
+  run-kept s [] (r ∷ rs) e q w = absurd q
+  run-kept s (c ∷ cs) [] e q w = absurd q
+  run-kept s (c ∷ cs) (r ∷ rs) e (s₁, d, q) w =
+      let one = step-kept s c r s₁ d w in
+      let more = run-kept s₁ cs rs e q (one .sets) in
       record {
         same-n = more .same-n ∙ one .same-n;
         same-nonempty = more .same-nonempty ∙ one .same-nonempty;
-        files = more .files;
-        volumes = more .volumes;
+        sets = more .sets;
       }
 
 -- ---- sizes for a set of files
@@ -108,7 +135,7 @@ module _ (m : ℕ) (ws : List ℕ) (w : Words ws) (h : within m ws ≡ true) whe
 
 -- ---- every inventory is given
 
-module _ (s : Inventory) (valid : isInventory s ≡ true) (fw : Words (s .files)) (vw : Words (s .volumes)) (ew : Words (s .nonempty)) where
+module _ (s : Inventory) (valid : isInventory s ≡ true) (w : Sets s) (ew : Words (s .nonempty)) where
   n-range : (1 ≤ s .n) × (s .n ≤ 254)
   n-range = oneTo-inside 254 (s .n) (n-valid s valid)
 
@@ -152,11 +179,13 @@ module _ (s : Inventory) (valid : isInventory s ≡ true) (fw : Words (s .files)
   present-ranged : Ranged present
   unfolding present
   present-ranged = record {
-    files = in-range (s .n) (s .files) fw (files-valid s valid);
-    volumes = in-range (255 - s .n) (s .volumes) vw (volumes-valid s valid);
+    files = in-range (s .n) (s .files) (w .files) (files-valid s valid);
+    volumes = in-range (255 - s .n) (s .volumes) (w .volumes) (volumes-valid s valid);
+    quarantined = in-range (255 - s .n) (s .quarantined) (w .quarantined) (quarantined-valid s valid);
+    apart = none-both s valid (w .quarantined .four);
   }
 
-  calls : (cs : List Call) × AddsExactly present cs
+  calls : (cs : List Call) × TellsExactly present cs
   calls = calls-for present present-ranged
 
   module _ (rule : ℕ → ℕ → ℕ) where
@@ -186,22 +215,24 @@ module _ (s : Inventory) (valid : isInventory s ≡ true) (fw : Words (s .files)
             ∙ sound rule (sizeIn sizes) (opened (s .n) (sizeIn sizes)) start (calls .0) rs e R run .1 .state
 
         k : Kept start e
-        k = run-kept rule start (calls .0) rs e run words-none words-none
+        k = run-kept rule start (calls .0) rs e run record { files = words-none; volumes = words-none; quarantined = words-none }
 
         same : e ≡ s
         same = λ i. record {
           n = (k .same-n) i;
-          files = words-same (e .files) (s .files) (k .files) fw (λ j l. sym (ap (λ (t : State). t .files j) state)) i;
-          volumes = words-same (e .volumes) (s .volumes) (k .volumes) vw (λ j l. sym (ap (λ (t : State). t .volumes j) state)) i;
+          files = words-same (e .files) (s .files) (k .sets .files) (w .files) (λ j l. sym (ap (λ (t : State). t .files j) state)) i;
+          volumes = words-same (e .volumes) (s .volumes) (k .sets .volumes) (w .volumes) (λ j l. sym (ap (λ (t : State). t .volumes j) state)) i;
           nonempty = (k .same-nonempty ∙ nonempty-same) i;
+          quarantined = words-same (e .quarantined) (s .quarantined) (k .sets .quarantined) (w .quarantined)
+              (λ j l. sym (ap (λ (t : State). t .quarantined j) state)) i;
         }
 
     valid-given : ((f v : ℕ) → f < 256 → rule f v < 256) → Given rule s
     valid-given small = let (rs, e, run) = answered-for rule small start (calls .0) in given-by rs e run
 
 pub exactly-given-for : (rule : ℕ → ℕ → ℕ) → ((f v : ℕ) → f < 256 → rule f v < 256) → ExactlyGivenFor rule
-exactly-given-for rule small s fw vw ew = (
-  λ valid. valid-given s valid fw vw ew rule small,
+exactly-given-for rule small s fw vw ew qw = (
+  λ valid. valid-given s valid record { files = fw; volumes = vw; quarantined = qw } ew rule small,
   λ given. let (n, sizes, cs, rs, well, run) = given in given-valid rule n sizes well cs rs s run,
 )
 

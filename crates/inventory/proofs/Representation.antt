@@ -19,10 +19,10 @@ use Rattle.parity.specs.Parity.{isFile}
 use Rattle.number_sets.specs.Sets.{member, inserted, removed}
 use Rattle.inventory.specs.Recoverable.{State}
 use Rattle.inventory.specs.Model as M
-use Rattle.inventory.specs.Model.{Change, addFile, removeFile, addVolume, removeVolume}
+use Rattle.inventory.specs.Model.{Change, addFile, removeFile, addVolume, removeVolume, quarantine, release}
 use Rattle.inventory.specs.Model.{insert, remove, changed, numberOf}
 use Rattle.inventory.specs.Model.{Call, change, count, query, Reply, numbered, queried, next, Gives}
-use Rattle.inventory.specs.Steps.{within, isInventory, ifInventory, inRange, already, changeNumber, unlessRefused}
+use Rattle.inventory.specs.Steps.{within, apart, isInventory, ifInventory, inRange, whileQuarantined, already, changeNumber, unlessRefused}
 use Rattle.inventory.specs.Steps.{accepted, withFiles, withVolumes, afterChange, changeStep, countStep, answerNumber}
 use Rattle.inventory.proofs.ChangeNumbers.{model-number}
 use Rattle.inventory.specs.Query.{stateOf, Matches, Queried}
@@ -30,7 +30,9 @@ use Rattle.inventory.specs.Claim.{Step}
 use Rattle.inventory.specs.declared.Inventory.{Inventory}
 use Rattle.inventory.specs.declared.Answer.{Answer}
 use Rattle.number_sets.proofs.Words.{member-inserted, member-removed, length-inserted, length-removed}
-use Rattle.inventory.proofs.ValidInventories.{within-bits, within-by, n-valid, few-files, files-valid, nonempty-valid, volumes-valid}
+use Rattle.inventory.proofs.ModelSets.{Apart, apart-insert, apart-remove, apart-moved, apart-back}
+use Rattle.inventory.proofs.ValidInventories.{within-bits, within-by, apart-by, n-valid, few-files}
+use Rattle.inventory.proofs.ValidInventories.{files-valid, nonempty-valid, volumes-valid, quarantined-valid, none-both}
 
 pub record Represents (size : ℕ → ℕ) (t : State) (s : Inventory) : Type 0 where
   pub valid : isInventory s ≡ true
@@ -38,6 +40,7 @@ pub record Represents (size : ℕ → ℕ) (t : State) (s : Inventory) : Type 0 
   pub matches : Matches s size
   pub file-words : length (s .files) ≡ 4
   pub volume-words : length (s .volumes) ≡ 4
+  pub quarantine-words : length (s .quarantined) ≡ 4
 
 -- ---- sets in range
 
@@ -75,20 +78,30 @@ without-number {m} {ws} f h r = record {
     at : (k : ℕ) → member (removed f ws) k ≡ remove f (member ws) k
     at = let b = oneTo-inside m f r in member-removed ws f (h .words) (omega arith)
 
--- an inventory of two sets stands for the state of these sets
-pub represents : {size : ℕ → ℕ} {n : ℕ} {fs vs es : List ℕ} {files volumes : ℕ → Bool}
-    → oneTo 254 n ≡ true → IsSet n fs files → IsSet (255 - n) vs volumes → within n es ≡ true
-    → ((f : ℕ) → isFile n f ≡ true → member es f ≡ leb 1 (size f))
-    → Represents size record { n = n; size = size; files = files; volumes = volumes } record { n = n; files = fs; volumes = vs; nonempty = es }
+-- an inventory of three sets stands for the state of these sets, if no volume is both present and quarantined
+pub represents : {size : ℕ → ℕ} {n : ℕ} {fs vs es qs : List ℕ} {files volumes quarantined : ℕ → Bool}
+    → oneTo 254 n ≡ true → IsSet n fs files → IsSet (255 - n) vs volumes → IsSet (255 - n) qs quarantined → Apart volumes quarantined
+    → within n es ≡ true → ((f : ℕ) → isFile n f ≡ true → member es f ≡ leb 1 (size f))
+    → Represents size record { n = n; size = size; files = files; volumes = volumes; quarantined = quarantined }
+    record { n = n; files = fs; volumes = vs; nonempty = es; quarantined = qs }
 unfolding isInventory
-represents {size} {n} r F W e m = record {
-  valid = ap₂ _&&_ r (ap₂ _&&_ (F .in-range) (ap₂ _&&_ e (W .in-range)));
-  state = ap₂ (λ (fs vs : ℕ → Bool). record { n = n; size = size; files = fs; volumes = vs })
-      (fun-ext (λ k. sym (F .members k))) (fun-ext (λ k. sym (W .members k)));
+represents {size} {n} {vs = vs} {qs = qs} r F W Q a e m = record {
+  valid = ap₂ _&&_ r (ap₂ _&&_ (F .in-range) (ap₂ _&&_ e (ap₂ _&&_ (W .in-range) (ap₂ _&&_ (Q .in-range) none-both))));
+  state = λ i. record {
+    n = n;
+    size = size;
+    files = fun-ext (λ k. sym (F .members k)) i;
+    volumes = fun-ext (λ k. sym (W .members k)) i;
+    quarantined = fun-ext (λ k. sym (Q .members k)) i;
+  };
   matches = m;
   file-words = F .words;
   volume-words = W .words;
+  quarantine-words = Q .words;
 }
+  where
+    none-both : apart vs qs ≡ true
+    none-both = apart-by vs qs (λ k l h. Q .members k ∙ a k (sym (W .members k) ∙ h))
 
 -- ---- one call
 
@@ -104,18 +117,36 @@ module _ (size : ℕ → ℕ) (s : Inventory) (R : Represents size (stateOf s si
   volumes-set : IsSet (255 - s .n) (s .volumes) (member (s .volumes))
   volumes-set = record { small = omega arith; words = R .volume-words; in-range = volumes-valid s (R .valid); members = λ k. refl }
 
+  quarantined-set : IsSet (255 - s .n) (s .quarantined) (member (s .quarantined))
+  quarantined-set = record {
+    small = omega arith;
+    words = R .quarantine-words;
+    in-range = quarantined-valid s (R .valid);
+    members = λ k. refl;
+  }
+
+  none-shared : Apart (member (s .volumes)) (member (s .quarantined))
+  none-shared = none-both s (R .valid) (R .quarantine-words)
+
   with-files : {ws : List ℕ} {set : ℕ → Bool} → IsSet (s .n) ws set → Represents size (M.withFiles (stateOf s size) set) (withFiles s ws)
-  with-files F = represents (n-valid s (R .valid)) F volumes-set (nonempty-valid s (R .valid)) (R .matches)
+  with-files F = represents (n-valid s (R .valid)) F volumes-set quarantined-set none-shared (nonempty-valid s (R .valid)) (R .matches)
 
-  with-volumes : {ws : List ℕ} {set : ℕ → Bool} → IsSet (255 - s .n) ws set → Represents size (M.withVolumes (stateOf s size) set) (withVolumes s ws)
-  with-volumes W = represents (n-valid s (R .valid)) files-set W (nonempty-valid s (R .valid)) (R .matches)
+  with-volumes : {ws qs : List ℕ} {set aside : ℕ → Bool} → IsSet (255 - s .n) ws set → IsSet (255 - s .n) qs aside → Apart set aside
+      → Represents size (M.withVolumes (stateOf s size) set aside) (withVolumes s ws qs)
+  with-volumes W Q a = represents (n-valid s (R .valid)) files-set W Q a (nonempty-valid s (R .valid)) (R .matches)
 
-  changed-represents : (c : Change) (k : ℕ) → inRange c (s .n) k ≡ true → Represents size (changed c (stateOf s size) k) (afterChange c s k)
-  unfolding inRange changed afterChange
-  changed-represents addFile f e = with-files (with-number f files-set e)
-  changed-represents removeFile f e = with-files (without-number f files-set e)
-  changed-represents addVolume v e = with-volumes (with-number v volumes-set e)
-  changed-represents removeVolume v e = with-volumes (without-number v volumes-set e)
+  changed-represents : (c : Change) (k : ℕ) → inRange c (s .n) k ≡ true → whileQuarantined c (member (s .quarantined)) k ≡ false
+      → Represents size (changed c (stateOf s size) k) (afterChange c s k)
+  unfolding inRange whileQuarantined changed afterChange
+  changed-represents addFile f e a = with-files (with-number f files-set e)
+  changed-represents removeFile f e a = with-files (without-number f files-set e)
+  changed-represents addVolume v e a = with-volumes (with-number v volumes-set e) quarantined-set (apart-insert _ _ v none-shared a)
+  changed-represents removeVolume v e a =
+      with-volumes (without-number v volumes-set e) (without-number v quarantined-set e) (apart-remove _ _ v none-shared)
+  changed-represents quarantine v e a =
+      with-volumes (without-number v volumes-set e) (with-number v quarantined-set e) (apart-moved _ _ v none-shared)
+  changed-represents release v e a =
+      with-volumes (with-number v volumes-set e) (without-number v quarantined-set e) (apart-back _ _ v none-shared)
 
   abbrev Met : (ℕ → ℕ → ℕ) → Call → Reply → Inventory → Type 0
   Met rule c r s₁ = Gives rule (stateOf s size) c r × Represents size (next (stateOf s size) c) s₁
@@ -126,19 +157,22 @@ module _ (size : ℕ → ℕ) (s : Inventory) (R : Represents size (stateOf s si
     unfolding Gives next changeStep ifInventory changeNumber
     meets-change c k =
         let same = model-number (stateOf s size) c k in
-        let met = by (isInventory s) (inRange c (s .n) k) (already c (member (s .files)) (member (s .volumes)) k) (R .valid) (changed-represents c k) in (
+        let met =
+        by (isInventory s) (inRange c (s .n) k) (whileQuarantined c (member (s .quarantined)) k)
+        (already c (member (s .files)) (member (s .volumes)) (member (s .quarantined)) k) (R .valid) (changed-represents c k) in (
           met .0 ∙ ap numbered (sym same),
           subst (λ (n : ℕ). Represents size (cond (eqb n 0) (changed c (stateOf s size) k) (stateOf s size)) (changeStep c s k .next)) (sym same) (met .1),
         )
       where
-        by : {t₁ : State} {s₁ : Inventory} (valid ranged done : Bool) → valid ≡ true → (ranged ≡ true → Represents size t₁ s₁)
-            → (numbered (cond valid (changeNumber ranged done) 10) ≡ numbered (changeNumber ranged done))
-            × Represents size (unlessRefused (changeNumber ranged done) t₁ (stateOf s size))
-            (accepted (cond valid (changeNumber ranged done) 10) s₁ s .next)
-        by true true true e h = (refl, R)
-        by true true false e h = (refl, h refl)
-        by true false done e h = (refl, R)
-        by false ranged done e h = absurd (false≢true e)
+        by : {t₁ : State} {s₁ : Inventory} (valid ranged aside done : Bool) → valid ≡ true → (ranged ≡ true → aside ≡ false → Represents size t₁ s₁)
+            → (numbered (cond valid (changeNumber ranged aside done) 10) ≡ numbered (changeNumber ranged aside done))
+            × Represents size (unlessRefused (changeNumber ranged aside done) t₁ (stateOf s size))
+            (accepted (cond valid (changeNumber ranged aside done) 10) s₁ s .next)
+        by true true true done e h = (refl, R)
+        by true true false true e h = (refl, R)
+        by true true false false e h = (refl, h refl refl)
+        by true false aside done e h = (refl, R)
+        by false ranged aside done e h = absurd (false≢true e)
 
     meets-count : Met rule count (countStep s) s
     unfolding Gives next countStep
@@ -164,6 +198,7 @@ meets rule size t s c r s₁ R step =
       matches = R .matches;
       file-words = R .file-words;
       volume-words = R .volume-words;
+      quarantine-words = R .quarantine-words;
     }
 
     to : (c : Call) (r′ : Reply) (s′ : Inventory) → r ≡ r′ → s₁ ≡ s′ → Met size s own rule c r′ s′ → Met size s own rule c r s₁

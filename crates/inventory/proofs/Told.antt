@@ -1,91 +1,93 @@
--- What is present, told anew to a set newly opened.
+-- What is present and what is quarantined, told anew to a set newly opened.
 --
---   opened-told      calls that add what is present in a state, and nothing else, lead to it
+--   opened-told      calls that tell what is present and what is quarantined in a state, and nothing else, lead to it
 --   after-told       so of a state that calls lead to
 --   retold           there are such calls
 -- Assumes nothing.
 use mathlib.Core.Path.{_≡_, refl, sym, ap, _∙_, subst, fun-ext}
 use mathlib.Core.Logic.{⊎-elim, _⊎_, inl, inr}
-use mathlib.Core.Bool.{Bool, true, false, cond, _||_, false≢true}
+use mathlib.Core.Bool.{Bool, true, false, not, cond, _&&_, _||_, false≢true}
 use mathlib.Core.List.{List, [], _∷_, List·Memᴰ, List·Memᴰ·head, List·Memᴰ·tail, List·Memᴰ·not-nil, List·Memᴰ·cases-cons, Memᴰ·cast}
 use Prim.Native.Nat.{ℕ, zero, suc, _≤_, _+_}
 use native.Mathlib.Omega.{arith}
 use native.Mathlib.Decide.{ℕ-discrete}
 use lib.Dec.{eqb}
-use borrow.Author.Tests.{eq-eqb, eqb-true}
+use borrow.Author.Tests.{eqb-true}
 use Rattle.computed_tests.proofs.Tests.{oneTo-inside}
 use Rattle.parity.specs.Parity.{isFile}
 use Rattle.inventory.specs.Recoverable.{State, isVolume}
-use Rattle.inventory.specs.Model.{addFile, removeFile, addVolume, removeVolume, changed, numberOf}
-use Rattle.inventory.specs.Model.{Call, change, count, query, opened, withFiles, withVolumes, insert, next, after}
-use Rattle.inventory.specs.Claim.{Adds, AddsExactly, Retold}
+use Rattle.inventory.specs.Model.{addFile, removeFile, addVolume, removeVolume, quarantine, release, changed, numberOf}
+use Rattle.inventory.specs.Model.{Call, change, count, query, opened, withFiles, withVolumes, insert, remove, next, after}
+use Rattle.inventory.specs.Claim.{Tells, Before, TellsExactly, Retold}
+use Rattle.inventory.proofs.ModelSets.{tests-same, insert-here, insert-other, insert-inside}
 use Rattle.inventory.proofs.Calls.{after-same, Ranged, opened-ranged, after-ranged}
 
 -- ---- states, one in another
 
--- u is of the same files as t, and what is present in u is present in t
+-- whether a volume is present or quarantined
+abbrev held : State → ℕ → Bool
+held t v = t .volumes v || t .quarantined v
+
+-- u is of the same files as t; what is present in u is present in t, a volume perhaps quarantined there; what is quarantined in u is so in t
 record Inside (u t : State) : Type 0 where
   same-n : u .n ≡ t .n
   same-size : u .size ≡ t .size
   files : (f : ℕ) → u .files f ≡ true → t .files f ≡ true
-  volumes : (v : ℕ) → u .volumes v ≡ true → t .volumes v ≡ true
+  volumes : (v : ℕ) → held u v ≡ true → held t v ≡ true
+  quarantined : (v : ℕ) → u .quarantined v ≡ true → t .quarantined v ≡ true
 
-tests-same : (a b : Bool) → (a ≡ true → b ≡ true) → (b ≡ true → a ≡ true) → a ≡ b
-tests-same true b h k = sym (h refl)
-tests-same false true h k = k refl
-tests-same false false h k = refl
+inside-itself : (u : State) → Inside u u
+inside-itself u = record { same-n = refl; same-size = refl; files = λ f e. e; volumes = λ v e. e; quarantined = λ v e. e }
 
-inside-same : (u t : State) → Inside u t → ((f : ℕ) → t .files f ≡ true → u .files f ≡ true)
-    → ((v : ℕ) → t .volumes v ≡ true → u .volumes v ≡ true) → u ≡ t
-inside-same u t h hf hv = λ i. record {
-  n = (h .same-n) i;
-  size = (h .same-size) i;
-  files = fun-ext (λ f. tests-same (u .files f) (t .files f) (h .files f) (hf f)) i;
-  volumes = fun-ext (λ v. tests-same (u .volumes v) (t .volumes v) (h .volumes v) (hv v)) i;
+inside-more : {t u w : State} → Inside t u → Inside u w → Inside t w
+inside-more h k = record {
+  same-n = h .same-n ∙ k .same-n;
+  same-size = h .same-size ∙ k .same-size;
+  files = λ f e. k .files f (h .files f e);
+  volumes = λ v e. k .volumes v (h .volumes v e);
+  quarantined = λ v e. k .quarantined v (h .quarantined v e);
 }
 
--- ---- a number added to a set
+or-first : (a b : Bool) → a ≡ true → (a || b) ≡ true
+or-first true b e = refl
+or-first false b e = absurd (false≢true e)
 
-insert-here : (s : ℕ → Bool) (f : ℕ) → insert f s f ≡ true
-insert-here s f = ap (λ (b : Bool). b || s f) (eq-eqb f f refl)
+or-second : (a b : Bool) → b ≡ true → (a || b) ≡ true
+or-second true b e = refl
+or-second false b e = e
 
-insert-other : (s : ℕ → Bool) (f g : ℕ) → s g ≡ true → insert f s g ≡ true
-insert-other s f g e = go (eqb g f)
+-- a volume is held, and not both present and quarantined: it is present where it is not quarantined
+present-else : (a b : Bool) → (a || b) ≡ true → b ≡ false → a ≡ true
+present-else true b e n = refl
+present-else false b e n = absurd (false≢true (sym n ∙ e))
+
+-- states, each in the other
+inside-same : (u t : State) → Ranged u → Ranged t → Inside u t → Inside t u → u ≡ t
+inside-same u t ru rt h k = λ i. record {
+  n = (h .same-n) i;
+  size = (h .same-size) i;
+  files = fun-ext (λ f. tests-same (u .files f) (t .files f) (h .files f) (k .files f)) i;
+  volumes = fun-ext (λ v. tests-same (u .volumes v) (t .volumes v) (there u t ru h k v) (there t u rt k h v)) i;
+  quarantined = fun-ext (λ v. tests-same (u .quarantined v) (t .quarantined v) (h .quarantined v) (k .quarantined v)) i;
+}
   where
-    go : (b : Bool) → (b || s g) ≡ true
-    go true = refl
-    go false = e
+    there : (u t : State) → Ranged u → Inside u t → Inside t u → (v : ℕ) → u .volumes v ≡ true → t .volumes v ≡ true
+    there u t ru h k v e =
+        present-else (t .volumes v) (t .quarantined v) (h .volumes v (or-first (u .volumes v) (u .quarantined v) e)) (by (t .quarantined v) refl)
+      where
+        by : (b : Bool) → t .quarantined v ≡ b → b ≡ false
+        by true q = absurd (false≢true (sym (ru .apart v e) ∙ k .quarantined v q))
+        by false q = refl
 
-insert-inside : (s s′ : ℕ → Bool) (f : ℕ) → s′ f ≡ true → ((g : ℕ) → s g ≡ true → s′ g ≡ true)
-    → (g : ℕ) → insert f s g ≡ true → s′ g ≡ true
-insert-inside s s′ f p h g e = go (eqb g f) refl e
-  where
-    go : (b : Bool) → eqb g f ≡ b → (b || s g) ≡ true → s′ g ≡ true
-    go true q r = ap s′ (eqb-true g f q) ∙ p
-    go false q r = h g r
+-- ---- one call that tells
 
--- what is present already is there after adding it
-insert-present : (s : ℕ → Bool) (f : ℕ) → s f ≡ true → insert f s ≡ s
-insert-present s f e = fun-ext (λ g. tests-same (insert f s g) (s g) (insert-inside s s f e (λ g h. h) g) (insert-other s f g))
-
--- adding what is in range gives the set with it, also where it is present already
-add-next : (t : State) (put : (ℕ → Bool) → State) (s : ℕ → Bool) (f : ℕ) (ranged : Bool) → put s ≡ t → ranged ≡ true
-    → cond (eqb (cond ranged (cond (s f) 11 0) 10) 0) (put (insert f s)) t ≡ put (insert f s)
-add-next t put s f ranged same r = go ranged r (s f) refl
-  where
-    go : (a : Bool) → a ≡ true → (b : Bool) → s f ≡ b → cond (eqb (cond a (cond b 11 0) 10) 0) (put (insert f s)) t ≡ put (insert f s)
-    go true r true e = sym same ∙ ap put (sym (insert-present s f e))
-    go true r false e = refl
-    go false r b e = absurd (false≢true r)
-
--- ---- calls that add what is present in t
-
--- the calls cs lead from u to e, which has what they add
-record Added (t u : State) (cs : List Call) (e : State) : Type 0 where
-  inside : Inside e t
-  keeps : Inside u e
-  files : (f : ℕ) → List·Memᴰ (change addFile f) cs → e .files f ≡ true
-  volumes : (v : ℕ) → List·Memᴰ (change addVolume v) cs → e .volumes v ≡ true
+-- the call c leads from u to w, which has what it tells
+record TellsOne (t u : State) (c : Call) (w : State) : Type 0 where
+  inside : Inside w t
+  keeps : Inside u w
+  files : (f : ℕ) → change addFile f ≡ c → w .files f ≡ true
+  volumes : (v : ℕ) → change addVolume v ≡ c → held w v ≡ true
+  quarantined : (v : ℕ) → change quarantine v ≡ c → held u v ≡ true → w .quarantined v ≡ true
 
 file-is : (f g : ℕ) → change addFile f ≡ change addFile g → f ≡ g
 file-is f g e = cc
@@ -93,88 +95,218 @@ file-is f g e = cc
 volume-is : (v w : ℕ) → change addVolume v ≡ change addVolume w → v ≡ w
 volume-is v w e = cc
 
-differ : (f v : ℕ) → change addFile f ≡ change addVolume v → ⊥
-differ f v e = let z : _≡_ {A = ℕ} 0 1 = cc in omega arith
+quarantined-is : (v w : ℕ) → change quarantine v ≡ change quarantine w → v ≡ w
+quarantined-is v w e = cc
 
--- one call more before them: it leads from u to w, which has what it adds
-one-more-added : {t u w e : State} {c : Call} {cs : List Call} → Inside u w → ((f : ℕ) → change addFile f ≡ c → w .files f ≡ true)
-    → ((v : ℕ) → change addVolume v ≡ c → w .volumes v ≡ true) → Added t w cs e → Added t u (c ∷ cs) e
-one-more-added h hf hv a = record {
-  inside = a .inside;
-  keeps = record {
-    same-n = h .same-n ∙ a .keeps .same-n;
-    same-size = h .same-size ∙ a .keeps .same-size;
-    files = λ f e. a .keeps .files f (h .files f e);
-    volumes = λ v e. a .keeps .volumes v (h .volumes v e);
-  };
-  files = λ f m. ⊎-elim (λ p. a .keeps .files f (hf f p)) (a .files f) (List·Memᴰ·cases-cons m);
-  volumes = λ v m. ⊎-elim (λ p. a .keeps .volumes v (hv v p)) (a .volumes v) (List·Memᴰ·cases-cons m);
+file-not-volume : (f v : ℕ) → change addFile f ≡ change addVolume v → ⊥
+file-not-volume f v e = let z : _≡_ {A = ℕ} 0 1 = cc in omega arith
+
+file-not-quarantined : (f v : ℕ) → change addFile f ≡ change quarantine v → ⊥
+file-not-quarantined f v e = let z : _≡_ {A = ℕ} 0 1 = cc in omega arith
+
+volume-not-quarantined : (f v : ℕ) → change addVolume f ≡ change quarantine v → ⊥
+volume-not-quarantined f v e = let z : _≡_ {A = ℕ} 0 1 = cc in omega arith
+
+-- the tests of a call pass, and what it changes is there
+module _ (t u : State) (h : Inside u t) where
+  told-file : (g : ℕ) → t .files g ≡ true → isFile (u .n) g ≡ true → TellsOne t u (change addFile g) (next u (change addFile g))
+  unfolding next numberOf changed
+  told-file g e r = by (isFile (u .n) g) (u .files g) r refl
+    where
+      to : (w : State) → Inside w t → Inside u w → w .files g ≡ true → TellsOne t u (change addFile g) w
+      to w i k m = record {
+        inside = i;
+        keeps = k;
+        files = λ f p. ap (w .files) (file-is f g p) ∙ m;
+        volumes = λ v p. absurd (file-not-volume g v (sym p));
+        quarantined = λ v p. absurd (file-not-quarantined g v (sym p));
+      }
+
+      by : (a b : Bool) → a ≡ true → u .files g ≡ b
+          → TellsOne t u (change addFile g) (cond (eqb (cond a (cond b 11 0) 10) 0) (withFiles u (insert g (u .files))) u)
+      by true true r m = to u h (inside-itself u) m
+      by true false r m =
+          to (withFiles u (insert g (u .files)))
+          record {
+            same-n = h .same-n;
+            same-size = h .same-size;
+            files = insert-inside (u .files) (t .files) g e (h .files);
+            volumes = h .volumes;
+            quarantined = h .quarantined;
+          }
+          record { same-n = refl; same-size = refl; files = insert-other (u .files) g; volumes = λ v m. m; quarantined = λ v m. m }
+          (insert-here (u .files) g)
+      by false b r m = absurd (false≢true r)
+
+  told-volume : (g : ℕ) → held t g ≡ true → isVolume (u .n) g ≡ true → TellsOne t u (change addVolume g) (next u (change addVolume g))
+  unfolding next numberOf changed
+  told-volume g e r = by (isVolume (u .n) g) (u .quarantined g) (u .volumes g) r refl refl
+    where
+      to : (w : State) → Inside w t → Inside u w → held w g ≡ true → TellsOne t u (change addVolume g) w
+      to w i k m = record {
+        inside = i;
+        keeps = k;
+        files = λ f p. absurd (file-not-volume f g p);
+        volumes = λ v p. ap (held w) (volume-is v g p) ∙ m;
+        quarantined = λ v p. absurd (volume-not-quarantined g v (sym p));
+      }
+
+      there : (v : ℕ) → (insert g (u .volumes) v || u .quarantined v) ≡ true → held t v ≡ true
+      there v m = go (insert g (u .volumes) v) refl m
+        where
+          go : (b : Bool) → insert g (u .volumes) v ≡ b → (b || u .quarantined v) ≡ true → held t v ≡ true
+          go true p m = insert-inside (u .volumes) (held t) g e (λ v m. h .volumes v (or-first (u .volumes v) (u .quarantined v) m)) v p
+          go false p m = h .volumes v (or-second (u .volumes v) (u .quarantined v) m)
+
+      here : (v : ℕ) → held u v ≡ true → (insert g (u .volumes) v || u .quarantined v) ≡ true
+      here v m = go (u .volumes v) refl m
+        where
+          go : (b : Bool) → u .volumes v ≡ b → (b || u .quarantined v) ≡ true → (insert g (u .volumes) v || u .quarantined v) ≡ true
+          go true p m = or-first (insert g (u .volumes) v) (u .quarantined v) (insert-other (u .volumes) g v p)
+          go false p m = or-second (insert g (u .volumes) v) (u .quarantined v) m
+
+      by : (a q b : Bool) → a ≡ true → u .quarantined g ≡ q → u .volumes g ≡ b
+          → TellsOne t u (change addVolume g)
+          (cond (eqb (cond a (cond q 27 (cond b 11 0)) 10) 0) (withVolumes u (insert g (u .volumes)) (u .quarantined)) u)
+      by true true b r p m = to u h (inside-itself u) (or-second (u .volumes g) (u .quarantined g) p)
+      by true false true r p m = to u h (inside-itself u) (or-first (u .volumes g) (u .quarantined g) m)
+      by true false false r p m =
+          to (withVolumes u (insert g (u .volumes)) (u .quarantined))
+          record { same-n = h .same-n; same-size = h .same-size; files = h .files; volumes = there; quarantined = h .quarantined }
+          record { same-n = refl; same-size = refl; files = λ f m. m; volumes = here; quarantined = λ v m. m }
+          (or-first (insert g (u .volumes) g) (u .quarantined g) (insert-here (u .volumes) g))
+      by false q b r p m = absurd (false≢true r)
+
+  told-quarantined : (g : ℕ) → t .quarantined g ≡ true → isVolume (u .n) g ≡ true
+      → TellsOne t u (change quarantine g) (next u (change quarantine g))
+  unfolding next numberOf changed
+  told-quarantined g e r = by (isVolume (u .n) g) (u .volumes g) r refl
+    where
+      to : (w : State) → Inside w t → Inside u w → (held u g ≡ true → w .quarantined g ≡ true) → TellsOne t u (change quarantine g) w
+      to w i k m = record {
+        inside = i;
+        keeps = k;
+        files = λ f p. absurd (file-not-quarantined f g p);
+        volumes = λ v p. absurd (volume-not-quarantined v g p);
+        quarantined = λ v p l. ap (w .quarantined) (quarantined-is v g p) ∙ m (ap (held u) (sym (quarantined-is v g p)) ∙ l);
+      }
+
+      -- a volume that is moved is held as before
+      moved : (v : ℕ) → held u g ≡ true → (remove g (u .volumes) v || insert g (u .quarantined) v) ≡ held u v
+      moved v l = go (eqb v g) refl
+        where
+          go : (b : Bool) → eqb v g ≡ b → (not b && u .volumes v || (b || u .quarantined v)) ≡ held u v
+          go true q = sym (ap (held u) (eqb-true v g q) ∙ l)
+          go false q = refl
+
+      by : (a b : Bool) → a ≡ true → u .volumes g ≡ b
+          → TellsOne t u (change quarantine g)
+          (cond (eqb (cond a (cond b 0 11) 10) 0) (withVolumes u (remove g (u .volumes)) (insert g (u .quarantined))) u)
+      by true true r m =
+          let l = or-first (u .volumes g) (u .quarantined g) m in
+          to (withVolumes u (remove g (u .volumes)) (insert g (u .quarantined)))
+          record {
+            same-n = h .same-n;
+            same-size = h .same-size;
+            files = h .files;
+            volumes = λ v k. h .volumes v (sym (moved v l) ∙ k);
+            quarantined = insert-inside (u .quarantined) (t .quarantined) g e (h .quarantined);
+          }
+          record { same-n = refl; same-size = refl; files = λ f m. m; volumes = λ v k. moved v l ∙ k; quarantined = insert-other (u .quarantined) g }
+          (λ l. insert-here (u .quarantined) g)
+      by true false r m = to u h (inside-itself u) (λ l. subst (λ (b : Bool). (b || u .quarantined g) ≡ true) m l)
+      by false b r m = absurd (false≢true r)
+
+-- ---- calls that tell
+
+-- the calls cs lead from u to e, which has what they tell
+record TellsAll (t u : State) (cs : List Call) (e : State) : Type 0 where
+  inside : Inside e t
+  keeps : Inside u e
+  files : (f : ℕ) → List·Memᴰ (change addFile f) cs → e .files f ≡ true
+  volumes : (v : ℕ) → List·Memᴰ (change addVolume v) cs → held e v ≡ true
+  moved : (v : ℕ) → held u v ≡ true → List·Memᴰ (change quarantine v) cs → e .quarantined v ≡ true
+  quarantined : (v : ℕ) → Before (change addVolume v) (change quarantine v) cs → e .quarantined v ≡ true
+
+tells-more : {t u w e : State} {c : Call} {cs : List Call} → TellsOne t u c w → TellsAll t w cs e → TellsAll t u (c ∷ cs) e
+unfolding Before
+tells-more one all = record {
+  inside = all .inside;
+  keeps = inside-more (one .keeps) (all .keeps);
+  files = λ f m. ⊎-elim (λ p. all .keeps .files f (one .files f p)) (all .files f) (List·Memᴰ·cases-cons m);
+  volumes = λ v m. ⊎-elim (λ p. all .keeps .volumes v (one .volumes v p)) (all .volumes v) (List·Memᴰ·cases-cons m);
+  moved = λ v l m.
+      ⊎-elim (λ p. all .keeps .quarantined v (one .quarantined v p l)) (all .moved v (one .keeps .volumes v l)) (List·Memᴰ·cases-cons m);
+  quarantined = λ v m. ⊎-elim (λ p. all .moved v (one .volumes v (p .0)) (p .1)) (all .quarantined v) m;
 }
 
 module _ (t : State) (ranged : Ranged t) where
-  after-adds : (cs : List Call) (u : State) → Inside u t → ((c : Call) → List·Memᴰ c cs → Adds t c) → Added t u cs (after u cs)
-  unfolding after next Adds numberOf changed
-  after-adds [] u h only = record {
+  -- the call c, which tells of t, leads from u to a state that has what it tells
+  next-tells : (c : Call) (u : State) → Inside u t → Tells t c → TellsOne t u c (next u c)
+  unfolding Tells
+  next-tells (change addFile g) u h e = told-file t u h g e (rw (h .same-n) (ranged .files g e))
+  next-tells (change addVolume g) u h e = told-volume t u h g e (rw (h .same-n) (volume-ranged (t .volumes g) refl e))
+    where
+      volume-ranged : (b : Bool) → t .volumes g ≡ b → (b || t .quarantined g) ≡ true → isVolume (t .n) g ≡ true
+      volume-ranged true p e = ranged .volumes g p
+      volume-ranged false p e = ranged .quarantined g e
+  next-tells (change quarantine g) u h e = told-quarantined t u h g e (rw (h .same-n) (ranged .quarantined g e))
+  next-tells (change removeFile g) u h e = absurd e
+  next-tells (change removeVolume g) u h e = absurd e
+  next-tells (change release g) u h e = absurd e
+  next-tells count u h e = absurd e
+  next-tells (query g room) u h e = absurd e
+
+  after-tells : (cs : List Call) (u : State) → Inside u t → ((c : Call) → List·Memᴰ c cs → Tells t c) → TellsAll t u cs (after u cs)
+  unfolding after Before
+  after-tells [] u h only = record {
     inside = h;
-    keeps = record { same-n = refl; same-size = refl; files = λ f e. e; volumes = λ v e. e };
+    keeps = inside-itself u;
     files = λ f m. absurd (List·Memᴰ·not-nil m);
     volumes = λ v m. absurd (List·Memᴰ·not-nil m);
+    moved = λ v l m. absurd (List·Memᴰ·not-nil m);
+    quarantined = λ v m. absurd m;
   }
-  after-adds (change addFile g ∷ cs) u h only =
-      subst (λ (x : State). Added t u (change addFile g ∷ cs) (after x cs))
-      (sym (add-next u (withFiles u) (u .files) g (isFile (u .n) g) refl (rw (h .same-n) (ranged .files g there))))
-      (one-more-added
-      record { same-n = refl; same-size = refl; files = insert-other (u .files) g; volumes = λ v e. e }
-      (λ f p. ap (insert g (u .files)) (file-is f g p) ∙ insert-here (u .files) g) (λ v p. absurd (differ g v (sym p)))
-      (after-adds cs (withFiles u (insert g (u .files)))
-      record {
-        same-n = h .same-n;
-        same-size = h .same-size;
-        files = insert-inside (u .files) (t .files) g there (h .files);
-        volumes = h .volumes;
-      }
-      (λ c m. only c (List·Memᴰ·tail m))))
-    where
-      there : t .files g ≡ true
-      there = only (change addFile g) (List·Memᴰ·head refl)
-  after-adds (change removeFile g ∷ cs) u h only = absurd (only (change removeFile g) (List·Memᴰ·head refl))
-  after-adds (change addVolume w ∷ cs) u h only =
-      subst (λ (x : State). Added t u (change addVolume w ∷ cs) (after x cs))
-      (sym (add-next u (withVolumes u) (u .volumes) w (isVolume (u .n) w) refl (rw (h .same-n) (ranged .volumes w there))))
-      (one-more-added
-      record { same-n = refl; same-size = refl; files = λ f e. e; volumes = insert-other (u .volumes) w }
-      (λ f p. absurd (differ f w p)) (λ v p. ap (insert w (u .volumes)) (volume-is v w p) ∙ insert-here (u .volumes) w)
-      (after-adds cs (withVolumes u (insert w (u .volumes)))
-      record {
-        same-n = h .same-n;
-        same-size = h .same-size;
-        files = h .files;
-        volumes = insert-inside (u .volumes) (t .volumes) w there (h .volumes);
-      }
-      (λ c m. only c (List·Memᴰ·tail m))))
-    where
-      there : t .volumes w ≡ true
-      there = only (change addVolume w) (List·Memᴰ·head refl)
-  after-adds (change removeVolume w ∷ cs) u h only = absurd (only (change removeVolume w) (List·Memᴰ·head refl))
-  after-adds (count ∷ cs) u h only = absurd (only count (List·Memᴰ·head refl))
-  after-adds (query g room ∷ cs) u h only = absurd (only (query g room) (List·Memᴰ·head refl))
+  after-tells (c ∷ cs) u h only =
+      let one = next-tells c u h (only c (List·Memᴰ·head refl)) in
+      tells-more one (after-tells cs (next u c) (one .inside) (λ d m. only d (List·Memᴰ·tail m)))
 
-  pub opened-told : (n : ℕ) (size : ℕ → ℕ) (adds : List Call) → t .n ≡ n → t .size ≡ size → AddsExactly t adds
-      → after (opened n size) adds ≡ t
-  opened-told n size adds en es told =
-      inside-same (after (opened n size) adds) t (a .inside) (λ f e. a .files f (told .files f e)) (λ v e. a .volumes v (told .volumes v e))
+  pub opened-told : (n : ℕ) (size : ℕ → ℕ) (tells : List Call) → t .n ≡ n → t .size ≡ size → TellsExactly t tells
+      → after (opened n size) tells ≡ t
+  opened-told n size tells en es told =
+      inside-same e t (after-ranged (opened n size) tells (opened-ranged n size)) ranged (a .inside)
+      record {
+        same-n = sym (a .inside .same-n);
+        same-size = sym (a .inside .same-size);
+        files = λ f m. a .files f (told .files f m);
+        volumes = λ v m. held-there v (t .volumes v) refl m;
+        quarantined = λ v m. a .quarantined v (told .quarantined v m);
+      }
     where
-      a : Added t (opened n size) adds (after (opened n size) adds)
+      e : State
+      e = after (opened n size) tells
+
+      a : TellsAll t (opened n size) tells e
       a =
-          after-adds adds (opened n size)
-          record { same-n = sym en; same-size = sym es; files = λ f e. absurd (false≢true e); volumes = λ v e. absurd (false≢true e) }
+          after-tells tells (opened n size)
+          record {
+            same-n = sym en;
+            same-size = sym es;
+            files = λ f e. absurd (false≢true e);
+            volumes = λ v e. absurd (false≢true e);
+            quarantined = λ v e. absurd (false≢true e);
+          }
           (told .only)
 
-pub after-told : (n : ℕ) (size : ℕ → ℕ) (cs adds : List Call) → AddsExactly (after (opened n size) cs) adds
-    → after (opened n size) adds ≡ after (opened n size) cs
-after-told n size cs adds told =
+      held-there : (v : ℕ) (b : Bool) → t .volumes v ≡ b → (b || t .quarantined v) ≡ true → held e v ≡ true
+      held-there v true p m = a .volumes v (told .volumes v p)
+      held-there v false p m = or-second (e .volumes v) (e .quarantined v) (a .quarantined v (told .quarantined v m))
+
+pub after-told : (n : ℕ) (size : ℕ → ℕ) (cs tells : List Call) → TellsExactly (after (opened n size) cs) tells
+    → after (opened n size) tells ≡ after (opened n size) cs
+after-told n size cs tells told =
     let same = after-same (opened n size) cs in
-    opened-told (after (opened n size) cs) (after-ranged (opened n size) cs (opened-ranged n size)) n size adds (same .same-n)
+    opened-told (after (opened n size) cs) (after-ranged (opened n size) cs (opened-ranged n size)) n size tells (same .same-n)
     (same .same-size) told
 
 -- ---- there are such calls
@@ -199,49 +331,80 @@ unfolding withCall
 call-cases true c d cs m = ⊎-elim (λ (e : d ≡ c). inl (refl, e)) (λ (n : List·Memᴰ d cs). inr n) (List·Memᴰ·cases-cons m)
 call-cases false c d cs m = inr m
 
--- the calls that add what is present in t, of the numbers 1 to m
+-- two calls, one after the other
+before-first : (b : Bool) (c d : Call) (cs : List Call) {e : Call} → b ≡ true → e ≡ c → List·Memᴰ d cs → Before e d (withCall b c cs)
+unfolding withCall Before
+before-first true c d cs p q m = inl (q, m)
+before-first false c d cs p q m = absurd (false≢true p)
+
+before-later : (b : Bool) (c d e : Call) (cs : List Call) → Before d e cs → Before d e (withCall b c cs)
+unfolding withCall Before
+before-later true c d e cs m = inr m
+before-later false c d e cs m = m
+
+-- the calls that tell what is present and what is quarantined in t, of the numbers 1 to m
 module _ (t : State) where
   callsFor : ℕ → List Call
   callsFor zero = []
   callsFor (suc m) =
-      withCall (t .files (suc m)) (change addFile (suc m)) (withCall (t .volumes (suc m)) (change addVolume (suc m)) (callsFor m))
+      withCall (t .files (suc m)) (change addFile (suc m))
+      (withCall (held t (suc m)) (change addVolume (suc m)) (withCall (t .quarantined (suc m)) (change quarantine (suc m)) (callsFor m)))
 
-  calls-only : (m : ℕ) (c : Call) → List·Memᴰ c (callsFor m) → Adds t c
-  unfolding callsFor Adds
+  calls-only : (m : ℕ) (c : Call) → List·Memᴰ c (callsFor m) → Tells t c
+  unfolding callsFor Tells
   calls-only zero c h = absurd (List·Memᴰ·not-nil h)
   calls-only (suc m) c h =
-      ⊎-elim (λ (p : (t .files (suc m) ≡ true) × (c ≡ change addFile (suc m))). subst (Adds t) (sym (p .1)) (p .0))
-      (λ (q : List·Memᴰ c (withCall (t .volumes (suc m)) (change addVolume (suc m)) (callsFor m))).
-      ⊎-elim (λ (p : (t .volumes (suc m) ≡ true) × (c ≡ change addVolume (suc m))). subst (Adds t) (sym (p .1)) (p .0))
-      (calls-only m c) (call-cases (t .volumes (suc m)) (change addVolume (suc m)) c (callsFor m) q))
-      (call-cases (t .files (suc m)) (change addFile (suc m)) c
-      (withCall (t .volumes (suc m)) (change addVolume (suc m)) (callsFor m)) h)
+      ⊎-elim (λ p. subst (Tells t) (sym (p .1)) (p .0))
+      (λ h. ⊎-elim (λ p. subst (Tells t) (sym (p .1)) (p .0))
+      (λ h. ⊎-elim (λ p. subst (Tells t) (sym (p .1)) (p .0)) (calls-only m c)
+      (call-cases (t .quarantined (suc m)) (change quarantine (suc m)) c _ h)) (call-cases (held t (suc m)) (change addVolume (suc m)) c _ h))
+      (call-cases (t .files (suc m)) (change addFile (suc m)) c _ h)
+
+  -- what tells of the numbers before tells of all
+  calls-before : (m : ℕ) (c : Call) → List·Memᴰ c (callsFor m) → List·Memᴰ c (callsFor (suc m))
+  unfolding callsFor
+  calls-before m c h = call-more _ _ c _ (call-more _ _ c _ (call-more _ _ c _ h))
 
   calls-file : (m f : ℕ) → 1 ≤ f → f ≤ m → t .files f ≡ true → List·Memᴰ (change addFile f) (callsFor m)
   unfolding callsFor
   calls-file zero f h l e = absurd (omega arith)
   calls-file (suc m) f h l e = elim (ℕ-discrete f (suc m)) [
     | yes p ↦ Memᴰ·cast (ap (change addFile) p) (call-in _ (change addFile (suc m)) _ (ap (t .files) (sym p) ∙ e))
-    | no q ↦ call-more _ _ _ _ (call-more _ _ _ _ (calls-file m f h (omega arith) e))
+    | no q ↦ calls-before m _ (calls-file m f h (omega arith) e)
   ]
 
-  calls-volume : (m v : ℕ) → 1 ≤ v → v ≤ m → t .volumes v ≡ true → List·Memᴰ (change addVolume v) (callsFor m)
+  calls-volume : (m v : ℕ) → 1 ≤ v → v ≤ m → held t v ≡ true → List·Memᴰ (change addVolume v) (callsFor m)
   unfolding callsFor
   calls-volume zero v h l e = absurd (omega arith)
   calls-volume (suc m) v h l e = elim (ℕ-discrete v (suc m)) [
-    | yes p ↦
-        call-more _ _ _ _
-        (Memᴰ·cast (ap (change addVolume) p) (call-in _ (change addVolume (suc m)) (callsFor m) (ap (t .volumes) (sym p) ∙ e)))
-    | no q ↦ call-more _ _ _ _ (call-more _ _ _ _ (calls-volume m v h (omega arith) e))
+    | yes p ↦ call-more _ _ _ _ (Memᴰ·cast (ap (change addVolume) p) (call-in _ (change addVolume (suc m)) _ (ap (held t) (sym p) ∙ e)))
+    | no q ↦ calls-before m _ (calls-volume m v h (omega arith) e)
   ]
 
-  pub calls-for : Ranged t → (cs : List Call) × AddsExactly t cs
+  calls-quarantined : (m v : ℕ) → 1 ≤ v → v ≤ m → t .quarantined v ≡ true → Before (change addVolume v) (change quarantine v) (callsFor m)
+  unfolding callsFor
+  calls-quarantined zero v h l e = absurd (omega arith)
+  calls-quarantined (suc m) v h l e = elim (ℕ-discrete v (suc m)) [
+    | yes p ↦
+        before-later _ _ _ _ _
+        (before-first _ _ _ _ (or-second (t .volumes (suc m)) (t .quarantined (suc m)) (ap (t .quarantined) (sym p) ∙ e)) (ap (change addVolume) p)
+        (Memᴰ·cast (ap (change quarantine) p) (call-in _ (change quarantine (suc m)) _ (ap (t .quarantined) (sym p) ∙ e))))
+    | no q ↦
+        before-later _ _ _ _ _ (before-later _ _ _ _ _ (before-later _ _ _ _ _ (calls-quarantined m v h (omega arith) e)))
+  ]
+
+  pub calls-for : Ranged t → (cs : List Call) × TellsExactly t cs
   calls-for ranged = (
     callsFor (t .n + 255),
     record {
       only = calls-only (t .n + 255);
       files = λ f e. let r = oneTo-inside (t .n) f (ranged .files f e) in calls-file (t .n + 255) f (r .0) (omega arith) e;
-      volumes = λ v e. let r = oneTo-inside _ v (ranged .volumes v e) in calls-volume (t .n + 255) v (r .0) (omega arith) e;
+      volumes = λ v e.
+          let r = oneTo-inside _ v (ranged .volumes v e) in
+          calls-volume (t .n + 255) v (r .0) (omega arith) (or-first (t .volumes v) (t .quarantined v) e);
+      quarantined = λ v e.
+          let r = oneTo-inside _ v (ranged .quarantined v e) in
+          calls-quarantined (t .n + 255) v (r .0) (omega arith) e;
     },
   )
 

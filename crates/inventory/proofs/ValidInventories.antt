@@ -2,17 +2,24 @@
 --
 --   within-bits, within-by     the numbers of a set in range are in range, and the other way
 --   n-valid, few-files         the number of files is 1 to 254
---   files-valid, nonempty-valid, volumes-valid     the sets are in range
+--   apart-by                   sets that share no number are apart
+--   files-valid, nonempty-valid, volumes-valid, quarantined-valid     the sets are in range
+--   none-both                  no volume is both present and quarantined
 -- Assumes nothing.
-use mathlib.Core.Path.{_≡_, refl, subst}
-use mathlib.Core.Bool.{Bool, true, false, not, _||_}
+use mathlib.Core.Path.{_≡_, refl, ap, subst}
+use mathlib.Core.Bool.{Bool, true, false, not, _&&_, _||_, false≢true}
 use mathlib.Core.List.{List}
 use Prim.Native.Nat.{ℕ, _<_, _≤_, _-_}
+use native.Mathlib.Omega.{arith}
+use native.Mathlib.Decide.{decLt}
+use lib.ListN.{length}
 use Rattle.computed_tests.specs.Numbers.{oneTo}
 use Rattle.computed_tests.proofs.Tests.{and-both, oneTo-inside, all-true, all-at}
 use Rattle.number_sets.specs.Sets.{member}
-use Rattle.inventory.specs.Steps.{within, isInventory}
+use Rattle.number_sets.proofs.Words.{member-above}
+use Rattle.inventory.specs.Steps.{within, apart, isInventory}
 use Rattle.inventory.specs.declared.Inventory.{Inventory}
+use Rattle.inventory.proofs.ModelSets.{Apart}
 
 -- ---- sets in range
 
@@ -29,26 +36,75 @@ within-by m ws h = all-true 256 (λ k. not (member ws k) || oneTo m k) (λ k l. 
     go k l true e = h k l e
     go k l false e = refl
 
+-- ---- sets that share no number
+
+apart-bits : (ws ws′ : List ℕ) → apart ws ws′ ≡ true → (k : ℕ) → k < 256 → member ws k ≡ true → member ws′ k ≡ false
+unfolding apart
+apart-bits ws ws′ h k l e =
+    go (member ws k) (member ws′ k) e (all-at 256 (λ k. not (member ws k && member ws′ k)) h k l)
+  where
+    go : (a b : Bool) → a ≡ true → not (a && b) ≡ true → b ≡ false
+    go true true e h = absurd (false≢true h)
+    go true false e h = refl
+    go false b e h = absurd (false≢true e)
+
+pub apart-by : (ws ws′ : List ℕ) → ((k : ℕ) → k < 256 → member ws k ≡ true → member ws′ k ≡ false) → apart ws ws′ ≡ true
+unfolding apart
+apart-by ws ws′ h = all-true 256 (λ k. not (member ws k && member ws′ k)) (λ k l. go (member ws k) (member ws′ k) (h k l))
+  where
+    go : (a b : Bool) → (a ≡ true → b ≡ false) → not (a && b) ≡ true
+    go true b h = ap not (h refl)
+    go false b h = refl
+
 -- ---- the parts
 
+record Parts (s : Inventory) : Type 0 where
+  n-part : oneTo 254 (s .n) ≡ true
+  files-part : within (s .n) (s .files) ≡ true
+  nonempty-part : within (s .n) (s .nonempty) ≡ true
+  volumes-part : within (255 - s .n) (s .volumes) ≡ true
+  quarantined-part : within (255 - s .n) (s .quarantined) ≡ true
+  apart-part : apart (s .volumes) (s .quarantined) ≡ true
+
 module _ (s : Inventory) (valid : isInventory s ≡ true) where
-  pub n-valid : oneTo 254 (s .n) ≡ true
+  parts : Parts s
   unfolding isInventory
-  n-valid = and-both (oneTo 254 (s .n)) _ valid .0
+  parts =
+      let a = and-both (oneTo 254 (s .n)) _ valid in
+      let b = and-both (within (s .n) (s .files)) _ (a .1) in
+      let c = and-both (within (s .n) (s .nonempty)) _ (b .1) in
+      let d = and-both (within (255 - s .n) (s .volumes)) _ (c .1) in
+      let e = and-both (within (255 - s .n) (s .quarantined)) _ (d .1) in
+      record {
+        n-part = a .0;
+        files-part = b .0;
+        nonempty-part = c .0;
+        volumes-part = d .0;
+        quarantined-part = e .0;
+        apart-part = e .1;
+      }
+
+  pub n-valid : oneTo 254 (s .n) ≡ true
+  n-valid = parts .n-part
 
   pub few-files : s .n ≤ 254
   few-files = oneTo-inside 254 (s .n) n-valid .1
 
   pub files-valid : within (s .n) (s .files) ≡ true
-  unfolding isInventory
-  files-valid = and-both (within (s .n) (s .files)) _ (and-both (oneTo 254 (s .n)) _ valid .1) .0
+  files-valid = parts .files-part
 
   pub nonempty-valid : within (s .n) (s .nonempty) ≡ true
-  unfolding isInventory
-  nonempty-valid =
-      and-both (within (s .n) (s .nonempty)) _ (and-both (within (s .n) (s .files)) _ (and-both (oneTo 254 (s .n)) _ valid .1) .1) .0
+  nonempty-valid = parts .nonempty-part
 
   pub volumes-valid : within (255 - s .n) (s .volumes) ≡ true
-  unfolding isInventory
-  volumes-valid =
-      and-both (within (s .n) (s .nonempty)) _ (and-both (within (s .n) (s .files)) _ (and-both (oneTo 254 (s .n)) _ valid .1) .1) .1
+  volumes-valid = parts .volumes-part
+
+  pub quarantined-valid : within (255 - s .n) (s .quarantined) ≡ true
+  quarantined-valid = parts .quarantined-part
+
+  pub none-both : length (s .quarantined) ≡ 4 → Apart (member (s .volumes)) (member (s .quarantined))
+  none-both four k e =
+      elim (decLt k 256) [
+        | yes l ↦ apart-bits (s .volumes) (s .quarantined) (parts .apart-part) k l e
+        | no q ↦ member-above (s .quarantined) k four (omega arith)
+      ]

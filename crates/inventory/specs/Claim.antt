@@ -1,32 +1,39 @@
--- Condition 3 of the tender: one claim about a whole list of calls on an inventory newly opened, over any rule for the
--- coefficients and then at document 01's.
+-- Condition 3 of the tender, as document 02 (2026-10) has it: one claim about a whole list of calls on an inventory newly opened, over
+-- any rule for the coefficients and then at document 01's; and what quarantine and release count as.
 --
 --   Step rule s c r s₁        the code's reply to the call c on the inventory s is r, and s₁ is what it hands back: by the very
 --                             definitions that the contracts of the calls cite
 --   Run rule s cs rs e        the calls cs, each on the inventory last handed back, give the replies rs and leave e
 --   Given rule s              an accepted opening and calls give the inventory s
---   Adds t c                  the call c adds a file or a volume that is present in t
---   AddsExactly t cs          the calls cs add what is present in t and nothing else, in whatever order
+--   Tells t c                 the call c adds a file or a volume that is present in t, or adds or sets aside a volume that is quarantined in t
+--   Before c d cs             the call c stands in cs, and the call d after it
+--   TellsExactly t cs         the calls cs tell what is present and what is quarantined in t and nothing else, in whatever order
 --   sizeIn sizes f            the size of file f in the sizes of an opening
 --   roomOf c                  the room lent to the call c
+--   Elsewhere v c             the call c changes nothing of volume v
+--   Agrees c r r′             the replies r and r′ to the call c are the same, but for how many volumes are quarantined
+--   AllAgree cs rs rs′        so are those to the calls cs
 --   Condition rule n size o cs rs s     what holds after the calls cs on the inventory o opened for n files of these sizes
 --   ConditionFor rule         it holds for every accepted opening and every list of calls
---   AnsweredFor rule, ExactlyGivenFor rule     Answered and ExactlyGiven, over any rule
+--   AnsweredFor rule, ExactlyGivenFor rule, QuarantineAsRemovalFor rule, ReleaseAsAddingFor rule     claims, over any rule
 -- The claims:
 --   Condition3                the condition
 --   Answered                  every list of calls has its replies, on whatever inventory
---   Retold                    what is present can be told to a new inventory
+--   Retold                    what is present and what is quarantined can be told to a new inventory
+--   QuarantineAsRemoval       after quarantine of a volume every reply to calls elsewhere is that after its removal
+--   ReleaseAsAdding           after release of a volume every reply is that after its removal, which is accepted, and its addition
 --   OneReply                  the model has one reply at most to each call
 --   OneAnswer, OneCount       what a query and a count promise determines the answer and the room
 --   ExactlyGiven              calls give what isInventory says, and nothing else
 --   OthersRefused             every call refuses any other inventory with 10, and changes nothing
 --   ZerosRefused              so it does that of zeros
 --   EmptyRecoverable          a missing empty file is recoverable, and its weights are zeros
--- Sentences in quotation marks are document 01's, or the tender's condition 3.
+-- Runs of these calls are there (Answered), and so are accepted ones (proofs/Examples.antt), so no claim is empty.
+-- Sentences in quotation marks are document 01's, document 02's (2026-10), or the tender's condition 3.
 -- Assumes nothing.
 use mathlib.Core.Path.{_≡_}
-use mathlib.Core.Logic.{_↔_}
-use mathlib.Core.Bool.{true, false}
+use mathlib.Core.Logic.{_↔_, _⊎_, _≢_}
+use mathlib.Core.Bool.{true, false, _||_}
 use mathlib.Core.List.{List, [], _∷_, List·Memᴰ}
 use Prim.Native.Nat.{ℕ, _≤_, _-_}
 use lib.ListN.{length, getD, replicate, take}
@@ -37,27 +44,35 @@ use Rattle.parity.specs.Parity.{Contents, isFile}
 use Rattle.number_sets.specs.Sets.{Words}
 use Rattle.inventory.specs.Recoverable.{State, IsContents, Recoverable, IsWeights, place, present, ComeFrom}
 use Rattle.inventory.specs.Model.{Call, change, count, query, Reply, reply, numbered, queried, opened, after, GivesAll}
-use Rattle.inventory.specs.Model.{addFile, removeFile, addVolume, removeVolume}
+use Rattle.inventory.specs.Model.{addFile, removeFile, addVolume, removeVolume, quarantine, release}
 use Rattle.inventory.specs.Steps.{isInventory, zeros, openStep, changeStep, countReply, countStep, answerNumber}
 use Rattle.inventory.specs.Query.{Queried}
 use Rattle.inventory.specs.declared.Inventory.{Inventory}
 use Rattle.inventory.specs.declared.Counted.{Counted}
 use Rattle.inventory.specs.declared.Answer.{Answer}
 
--- ---- "told only what is in hand now, in whatever order"
+-- ---- "a new sheet told what is in hand and what is set aside": "told only what is in hand now, in whatever order"
 
-unfoldable pub Adds : State → Call → Type 0
-Adds t (change addFile f) = t .files f ≡ true
-Adds t (change removeFile f) = ⊥
-Adds t (change addVolume v) = t .volumes v ≡ true
-Adds t (change removeVolume v) = ⊥
-Adds t count = ⊥
-Adds t (query f room) = ⊥
+unfoldable pub Tells : State → Call → Type 0
+Tells t (change addFile f) = t .files f ≡ true
+Tells t (change removeFile f) = ⊥
+Tells t (change addVolume v) = (t .volumes v || t .quarantined v) ≡ true
+Tells t (change removeVolume v) = ⊥
+Tells t (change quarantine v) = t .quarantined v ≡ true
+Tells t (change release v) = ⊥
+Tells t count = ⊥
+Tells t (query f room) = ⊥
 
-pub record AddsExactly (t : State) (cs : List Call) : Type 0 where
-  pub only : (c : Call) → List·Memᴰ c cs → Adds t c
+unfoldable pub Before : Call → Call → List Call → Type 0
+Before c d [] = ⊥
+Before c d (b ∷ cs) = ((c ≡ b) × List·Memᴰ d cs) ⊎ Before c d cs
+
+pub record TellsExactly (t : State) (cs : List Call) : Type 0 where
+  pub only : (c : Call) → List·Memᴰ c cs → Tells t c
   pub files : (f : ℕ) → t .files f ≡ true → List·Memᴰ (change addFile f) cs
   pub volumes : (v : ℕ) → t .volumes v ≡ true → List·Memᴰ (change addVolume v) cs
+  -- what is set aside is noted, and later set aside
+  pub quarantined : (v : ℕ) → t .quarantined v ≡ true → Before (change addVolume v) (change quarantine v) cs
 
 -- the sizes of an opening, by file number
 abbrev pub sizeIn : List ℕ → ℕ → ℕ
@@ -67,6 +82,33 @@ abbrev pub roomOf : Call → List ℕ
 roomOf (change c k) = []
 roomOf count = []
 roomOf (query f room) = room
+
+-- ---- "setting aside counts as withdrawal for every answer of condition 3 and for the count"
+
+-- "Save for withdrawing it and the refusals below": calls about another volume, or about none
+unfoldable pub Elsewhere : ℕ → Call → Type 0
+Elsewhere v (change addFile f) = Unit {0}
+Elsewhere v (change removeFile f) = Unit {0}
+Elsewhere v (change addVolume u) = u ≢ v
+Elsewhere v (change removeVolume u) = u ≢ v
+Elsewhere v (change quarantine u) = u ≢ v
+Elsewhere v (change release u) = u ≢ v
+Elsewhere v count = Unit {0}
+Elsewhere v (query f room) = Unit {0}
+
+-- a count's files and volumes in hand; any other reply whole
+unfoldable pub Agrees : Call → Reply → Reply → Type 0
+Agrees (change c k) r r′ = r ≡ r′
+Agrees count (reply k values) (reply k′ values′) = (k ≡ k′) × (take 2 values ≡ take 2 values′)
+Agrees (query f room) r r′ = r ≡ r′
+
+unfoldable pub AllAgree : List Call → List Reply → List Reply → Type 0
+AllAgree [] [] [] = Unit {0}
+AllAgree [] [] (r′ ∷ rs′) = ⊥
+AllAgree [] (r ∷ rs) rs′ = ⊥
+AllAgree (c ∷ cs) [] rs′ = ⊥
+AllAgree (c ∷ cs) (r ∷ rs) [] = ⊥
+AllAgree (c ∷ cs) (r ∷ rs) (r′ ∷ rs′) = Agrees c r r′ × AllAgree cs rs rs′
 
 module _ (rule : ℕ → ℕ → ℕ) where
   -- ---- what the code does
@@ -92,7 +134,8 @@ module _ (rule : ℕ → ℕ → ℕ) where
   AnsweredFor = (s : Inventory) (cs : List Call) → (rs : List Reply) × (e : Inventory) × Run s cs rs e
 
   abbrev pub ExactlyGivenFor : Type 0
-  ExactlyGivenFor = (s : Inventory) → Words (s .files) → Words (s .volumes) → Words (s .nonempty) → (isInventory s ≡ true) ↔ Given s
+  ExactlyGivenFor =
+      (s : Inventory) → Words (s .files) → Words (s .volumes) → Words (s .nonempty) → Words (s .quarantined) → (isInventory s ≡ true) ↔ Given s
 
   -- ---- the condition
 
@@ -100,9 +143,9 @@ module _ (rule : ℕ → ℕ → ℕ) where
     -- "each answer, and each byte of the room lent to an ask, is the one that the outline's tally gives"
     pub replies : GivesAll rule (opened n size) cs rs
     -- "After the list, the sheet answers every further call as a new sheet of the same sizes told only what is in hand now,
-    -- in whatever order."
-    pub afterwards : (adds : List Call) → AddsExactly (after (opened n size) cs) adds
-        → (ra : List Reply) (s′ : Inventory) → Run o adds ra s′
+    -- in whatever order": "a new sheet told what is in hand and what is set aside, and that is condition 3's new sheet"
+    pub afterwards : (tells : List Call) → TellsExactly (after (opened n size) cs) tells
+        → (rt : List Reply) (s′ : Inventory) → Run o tells rt s′
         → (more : List Call) (r r′ : List Reply) (e e′ : Inventory) → Run s more r e → Run s′ more r′ e′ → r ≡ r′
     -- "A file not in hand, asked about with room for the recipe, is called rebuildable exactly when every two sets of contents
     -- with the listed sizes, alike in the files in hand and in the parity of the volumes in hand, are alike in that file"
@@ -118,12 +161,32 @@ module _ (rule : ℕ → ℕ → ℕ) where
         → mulAddAll (place (take 255 room′)) fragment ks (replicate (size f) 0) ≡ X f
 
   -- "For every list of calls on it from there (noting or withdrawing a file, noting or withdrawing a volume, counting, asking;
-  -- refused ones too)"
+  -- refused ones too)"; "Condition 3's list of calls holds setting aside and taking back too"
   abbrev pub ConditionFor : Type 0
   ConditionFor =
       (n : ℕ) (sizes : List ℕ) → openStep n sizes .number ≡ 0
       → (cs : List Call) (rs : List Reply) (s : Inventory) → Run (openStep n sizes .next) cs rs s
       → Condition n (sizeIn sizes) (openStep n sizes .next) cs rs s
+
+  -- ---- quarantine and release
+
+  -- where quarantine is accepted, so is removal in its stead
+  abbrev pub QuarantineAsRemovalFor : Type 0
+  QuarantineAsRemovalFor =
+      (s : Inventory) → Given s
+      → (v : ℕ) (more : List Call) → ((c : Call) → List·Memᴰ c more → Elsewhere v c)
+      → (k : ℕ) (r r′ : List Reply) (e e′ : Inventory)
+      → Run s (change quarantine v ∷ more) (numbered 0 ∷ r) e → Run s (change removeVolume v ∷ more) (numbered k ∷ r′) e′
+      → (k ≡ 0) × AllAgree more r r′
+
+  -- where release is accepted, so are removal and then addition in its stead: after removal it was "neither in hand nor set aside"
+  abbrev pub ReleaseAsAddingFor : Type 0
+  ReleaseAsAddingFor =
+      (s : Inventory) → Given s
+      → (v : ℕ) (more : List Call) (j k : ℕ) (r r′ : List Reply) (e e′ : Inventory)
+      → Run s (change release v ∷ more) (numbered 0 ∷ r) e
+      → Run s (change removeVolume v ∷ change addVolume v ∷ more) (numbered j ∷ numbered k ∷ r′) e′
+      → (j ≡ 0) × (k ≡ 0) × (r ≡ r′)
 
 -- ---- the claims
 
@@ -136,10 +199,20 @@ Condition3 = ConditionFor coefficient
 abbrev pub Answered : Type 0
 Answered = AnsweredFor coefficient
 
--- and the calls that tell what is present
+-- and the calls that tell what is present and what is quarantined
 -- proved: proofs/Told.antt, `retold`
 abbrev pub Retold : Type 0
-Retold = (n : ℕ) (size : ℕ → ℕ) (cs : List Call) → (adds : List Call) × AddsExactly (after (opened n size) cs) adds
+Retold = (n : ℕ) (size : ℕ → ℕ) (cs : List Call) → (tells : List Call) × TellsExactly (after (opened n size) cs) tells
+
+-- "setting aside counts as withdrawal for every answer of condition 3 and for the count"
+-- proved: proofs/Quarantine.antt, `quarantine-as-removal`
+abbrev pub QuarantineAsRemoval : Type 0
+QuarantineAsRemoval = QuarantineAsRemovalFor coefficient
+
+-- "taking it back counts as noting"; "Withdrawing a set-aside volume is accepted and removes it: it is then neither in hand nor set aside."
+-- proved: proofs/Quarantine.antt, `release-as-adding`
+abbrev pub ReleaseAsAdding : Type 0
+ReleaseAsAdding = ReleaseAsAddingFor coefficient
 
 -- proved: proofs/Calls.antt, `one-reply`
 abbrev pub OneReply : Type 0

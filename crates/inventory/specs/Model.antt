@@ -1,10 +1,11 @@
--- The model (document 01, "The sheet": the tally): what each call answers, worked out from the opening and the calls alone.
+-- The model (document 01, "The sheet": the tally; document 02, 2026-10): what each call answers, worked out from the opening and the calls alone.
 --
---   Change                     what adding and removing change
+--   Change                     what adding, removing, quarantine and release change
 --   Call, Reply                the calls, and what comes back: a number and values
---   numbered k, counts f v, queried k room     the replies to a change, a count, a query
+--   numbered k, counts f v q, queried k room     the replies to a change, a count, a query
 --   opened n size              a set of n files of these sizes, nothing present
---   withFiles t s, withVolumes t s     the state t with the files, the volumes of the set s present
+--   withFiles t s              the state t with the files of the set s present
+--   withVolumes t s q          the state t with the volumes of the set s present, and those of the set q quarantined
 --   insert f s, remove f s     the set s with f, without f
 --   changed c t k              the state t after the change c of number k
 --   numberOf t c k             the number of that change
@@ -27,9 +28,9 @@ use Rattle.inventory.specs.Recoverable.{State, isVolume, Recoverable, Is
 
 -- ---- calls and replies
 
--- "note or withdraw a file, note or withdraw a volume"
+-- "note or withdraw a file, note or withdraw a volume", "setting aside and taking back too" (2026-10)
 pub data Change : Type 0 where
-  addFile removeFile addVolume removeVolume : Change
+  addFile removeFile addVolume removeVolume quarantine release : Change
 
 -- "each call with its lent room and its arguments other than the sheet"
 pub data Call : Type 0 where
@@ -44,9 +45,9 @@ pub data Reply : Type 0 where
 abbrev pub numbered : ℕ → Reply
 numbered k = reply k []
 
--- "how many files and how many volumes are in hand"
-abbrev pub counts : ℕ → ℕ → Reply
-counts files volumes = reply 0 (files ∷ volumes ∷ [])
+-- "how many files and how many volumes are in hand"; "The sheet also counts those set aside."
+abbrev pub counts : ℕ → ℕ → ℕ → Reply
+counts files volumes quarantined = reply 0 (files ∷ volumes ∷ quarantined ∷ [])
 
 -- the number of an answer or a refusal, and the room afterwards
 abbrev pub queried : ℕ → List ℕ → Reply
@@ -56,13 +57,13 @@ queried k room = reply k room
 
 -- "n, the sizes, and which files and volumes are in hand, none at first"
 abbrev pub opened : ℕ → (ℕ → ℕ) → State
-opened n size = record { n = n; size = size; files = λ f. false; volumes = λ v. false }
+opened n size = record { n = n; size = size; files = λ f. false; volumes = λ v. false; quarantined = λ v. false }
 
 abbrev pub withFiles : State → (ℕ → Bool) → State
-withFiles t s = record { n = t .n; size = t .size; files = s; volumes = t .volumes }
+withFiles t s = record { n = t .n; size = t .size; files = s; volumes = t .volumes; quarantined = t .quarantined }
 
-abbrev pub withVolumes : State → (ℕ → Bool) → State
-withVolumes t s = record { n = t .n; size = t .size; files = t .files; volumes = s }
+abbrev pub withVolumes : State → (ℕ → Bool) → (ℕ → Bool) → State
+withVolumes t s q = record { n = t .n; size = t .size; files = t .files; volumes = s; quarantined = q }
 
 abbrev pub insert : ℕ → (ℕ → Bool) → ℕ → Bool
 insert f s g = eqb g f || s g
@@ -72,20 +73,26 @@ remove f s g = not (eqb g f) && s g
 
 -- ---- changes
 
--- "and f is in hand", "and f no longer is"
+-- "and f is in hand", "and f no longer is"; "setting aside counts as withdrawal", "taking it back counts as noting"; a withdrawn volume "is
+-- then neither in hand nor set aside"
 unfoldable pub changed : Change → State → ℕ → State
 changed addFile t f = withFiles t (insert f (t .files))
 changed removeFile t f = withFiles t (remove f (t .files))
-changed addVolume t v = withVolumes t (insert v (t .volumes))
-changed removeVolume t v = withVolumes t (remove v (t .volumes))
+changed addVolume t v = withVolumes t (insert v (t .volumes)) (t .quarantined)
+changed removeVolume t v = withVolumes t (remove v (t .volumes)) (remove v (t .quarantined))
+changed quarantine t v = withVolumes t (remove v (t .volumes)) (insert v (t .quarantined))
+changed release t v = withVolumes t (insert v (t .volumes)) (remove v (t .quarantined))
 
 -- "Note file f: 10 if f is not 1 to n, 11 if f is in hand; else accepted", "Withdraw file f: 10 the same, 11 if f is not in hand; else
--- accepted", "Volume v: the same, with 1 to 255 - n for its range"
+-- accepted", "Volume v: the same, with 1 to 255 - n for its range"; "27 noted while set aside; 11 for setting aside what is not in hand, or
+-- taking back what is not set aside; number checks first", "Withdrawing a set-aside volume is accepted"
 unfoldable pub numberOf : State → Change → ℕ → ℕ
 numberOf t addFile f = cond (isFile (t .n) f) (cond (t .files f) 11 0) 10
 numberOf t removeFile f = cond (isFile (t .n) f) (cond (t .files f) 0 11) 10
-numberOf t addVolume v = cond (isVolume (t .n) v) (cond (t .volumes v) 11 0) 10
-numberOf t removeVolume v = cond (isVolume (t .n) v) (cond (t .volumes v) 0 11) 10
+numberOf t addVolume v = cond (isVolume (t .n) v) (cond (t .quarantined v) 27 (cond (t .volumes v) 11 0)) 10
+numberOf t removeVolume v = cond (isVolume (t .n) v) (cond (t .volumes v || t .quarantined v) 0 11) 10
+numberOf t quarantine v = cond (isVolume (t .n) v) (cond (t .volumes v) 0 11) 10
+numberOf t release v = cond (isVolume (t .n) v) (cond (t .quarantined v) 0 11) 10
 
 -- "A refused call changes nothing"
 unfoldable pub next : State → Call → State
@@ -116,7 +123,7 @@ module _ (rule : ℕ → ℕ → ℕ) where
 
   unfoldable pub Gives : State → Call → Reply → Type 0
   Gives t (change c k) r = r ≡ numbered (numberOf t c k)
-  Gives t count r = r ≡ counts (sizeBelow 256 (t .files)) (sizeBelow 256 (t .volumes))
+  Gives t count r = r ≡ counts (sizeBelow 256 (t .files)) (sizeBelow 256 (t .volumes)) (sizeBelow 256 (t .quarantined))
   Gives t (query f room) r = GivesQuery t f room (isFile (t .n) f) (t .files f) r
 
   unfoldable pub GivesAll : State → List Call → List Reply → Type 0

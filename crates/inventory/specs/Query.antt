@@ -26,7 +26,13 @@ use Rattle.inventory.specs.declared.Answer.the-variants as answer
 -- ---- the reply
 
 abbrev pub stateOf : Inventory → (ℕ → ℕ) → State
-stateOf s size = record { n = s .n; size = size; files = member (s .files); volumes = member (s .volumes) }
+stateOf s size = record {
+  n = s .n;
+  size = size;
+  files = member (s .files);
+  volumes = member (s .volumes);
+  quarantined = member (s .quarantined);
+}
 
 abbrev pub Matches : Inventory → (ℕ → ℕ) → Type 0
 Matches s size = (f : ℕ) → isFile (s .n) f ≡ true → member (s .nonempty) f ≡ leb 1 (size f)

@@ -1,6 +1,7 @@
 -- When a missing file comes back, and by which weights (document 01, "The sheet"), over any rule for the coefficients.
 --
---   State                       what is known of a set of n files: their sizes, which files and which volumes are present
+--   State                       what is known of a set of n files: their sizes, which files and which volumes are present, and which
+--                               volumes are quarantined (set aside), which are not present
 --   isVolume n v                whether v is the number of a volume of n files
 --   IsContents t X              the bytes of X are as many as the sizes say
 --   Alike rule t X Y            X and Y have the same bytes in the files present, and the same parity in the volumes present
@@ -26,12 +27,13 @@ use Rattle.gf256.specs.Polynomial.{sumBelow}
 use Rattle.gf256.specs.Field.{product}
 use Rattle.parity.specs.Parity.{Contents, isFile, greatest, parityByte}
 
--- "It holds n, the sizes, and which files and volumes are in hand"
+-- "It holds n, the sizes, and which files and volumes are in hand", "its tally keeps .. what is set aside" (2026-10)
 pub record State : Type 0 where
   pub n : ℕ
   pub size : ℕ → ℕ
   pub files : ℕ → Bool
   pub volumes : ℕ → Bool
+  pub quarantined : ℕ → Bool
 
 -- "volume numbers 1 to 255 - n"
 abbrev pub isVolume : ℕ → ℕ → Bool

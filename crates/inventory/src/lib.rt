@@ -1,6 +1,7 @@
-// What of a set of files and parity volumes is present, and which missing files come back (document 01, "The sheet").
+// What of a set of files and parity volumes is present, and which missing files come back (document 01, "The sheet"; document 02, 2026-10).
 ghost use mathlib.Core.Path.{_≡_};
-ghost use Rattle.inventory.specs.Model.{addFile, removeFile, addVolume, removeVolume};
+ghost use mathlib.Core.Bool.{_||_};
+ghost use Rattle.inventory.specs.Model.{addFile, removeFile, addVolume, removeVolume, quarantine, release};
 ghost use Rattle.inventory.specs.Steps.{ifInventory, zeros, openStep, refusedOpening, changeStep, countReply, countStep};
 ghost use Rattle.inventory.specs.Steps.{changeNumber, unlessRefused};
 
@@ -18,15 +19,17 @@ use refusals::ALREADY;
 use refusals::MAX_FILE_SIZE;
 use refusals::MAX_FILES;
 use refusals::OUT_OF_RANGE;
+use refusals::QUARANTINED;
 use refusals::SIZE;
 
-// The number of files, and three sets of numbers, one bit each: the files present, the volumes present, and the files of
-// size 1 or more. Number k is bit k mod 64 of word k div 64.
+// The number of files, and four sets of numbers, one bit each: the files present, the volumes present, the files of size 1 or
+// more, and the volumes in quarantine, which are not present. Number k is bit k mod 64 of word k div 64.
 pub struct Inventory {
     pub n: u64,
     pub files: [u64; 4],
     pub volumes: [u64; 4],
     pub nonempty: [u64; 4],
+    pub quarantined: [u64; 4],
 }
 
 // The next inventory, and 0 or the number of the refusal.
@@ -35,9 +38,9 @@ pub struct Outcome {
     pub number: u32,
 }
 
-// How many files and how many volumes are present.
+// How many files and how many volumes are present, and how many volumes are in quarantine.
 pub enum Counted {
-    Counts(u32, u32),
+    Counts(u32, u32, u32),
     Refused(u32),
 }
 
@@ -80,6 +83,7 @@ impl Inventory {
                 files: [0u64; 4],
                 volumes: [0u64; 4],
                 nonempty,
+                quarantined: [0u64; 4],
             },
             number: 0,
         }
@@ -90,7 +94,7 @@ impl Inventory {
         ensures { λ r. ⌜ r ≡ changeStep addFile self file ⌝ }
     {
         let files = self.files;
-        let number = change_number(self, one_to(self.n, file), has(files, file));
+        let number = change_number(self, one_to(self.n, file), false, has(files, file));
         let now = unless_refused(number, insert(files, file), files);
         self.files = now;
         Outcome { next: self, number }
@@ -101,35 +105,68 @@ impl Inventory {
         ensures { λ r. ⌜ r ≡ changeStep removeFile self file ⌝ }
     {
         let files = self.files;
-        let number = change_number(self, one_to(self.n, file), !has(files, file));
+        let number = change_number(self, one_to(self.n, file), false, !has(files, file));
         let now = unless_refused(number, remove(files, file), files);
         self.files = now;
         Outcome { next: self, number }
     }
 
-    // The inventory with a volume present: 10 for a number out of range, 11 for one that is present.
+    // The inventory with a volume present: 10 for a number out of range, 27 for one in quarantine, 11 for one that is present.
     pub fn add_volume(mut self, volume: u64) -> Outcome
         ensures { λ r. ⌜ r ≡ changeStep addVolume self volume ⌝ }
     {
         let volumes = self.volumes;
-        let number = change_number(self, is_volume(self.n, volume), has(volumes, volume));
+        let quarantined = self.quarantined;
+        let number = change_number(self, is_volume(self.n, volume), has(quarantined, volume), has(volumes, volume));
         let now = unless_refused(number, insert(volumes, volume), volumes);
         self.volumes = now;
         Outcome { next: self, number }
     }
 
-    // The inventory with a volume missing: 10 for a number out of range, 11 for one that is missing.
+    // The inventory with a volume missing, neither present nor in quarantine: 10 for a number out of range, 11 for one that is neither.
     pub fn remove_volume(mut self, volume: u64) -> Outcome
         ensures { λ r. ⌜ r ≡ changeStep removeVolume self volume ⌝ }
     {
         let volumes = self.volumes;
-        let number = change_number(self, is_volume(self.n, volume), !has(volumes, volume));
+        let quarantined = self.quarantined;
+        let held = either(has(volumes, volume), has(quarantined, volume));
+        let number = change_number(self, is_volume(self.n, volume), false, !held);
         let now = unless_refused(number, remove(volumes, volume), volumes);
+        let aside = unless_refused(number, remove(quarantined, volume), quarantined);
         self.volumes = now;
+        self.quarantined = aside;
         Outcome { next: self, number }
     }
 
-    // How many files and volumes are present.
+    // The inventory with a volume in quarantine, no longer present: 10 for a number out of range, 11 for one that is not present.
+    pub fn quarantine(mut self, volume: u64) -> Outcome
+        ensures { λ r. ⌜ r ≡ changeStep quarantine self volume ⌝ }
+    {
+        let volumes = self.volumes;
+        let quarantined = self.quarantined;
+        let number = change_number(self, is_volume(self.n, volume), false, !has(volumes, volume));
+        let now = unless_refused(number, remove(volumes, volume), volumes);
+        let aside = unless_refused(number, insert(quarantined, volume), quarantined);
+        self.volumes = now;
+        self.quarantined = aside;
+        Outcome { next: self, number }
+    }
+
+    // The inventory with a volume out of quarantine, present again: 10 for a number out of range, 11 for one that is not in quarantine.
+    pub fn release(mut self, volume: u64) -> Outcome
+        ensures { λ r. ⌜ r ≡ changeStep release self volume ⌝ }
+    {
+        let volumes = self.volumes;
+        let quarantined = self.quarantined;
+        let number = change_number(self, is_volume(self.n, volume), false, !has(quarantined, volume));
+        let now = unless_refused(number, insert(volumes, volume), volumes);
+        let aside = unless_refused(number, remove(quarantined, volume), quarantined);
+        self.volumes = now;
+        self.quarantined = aside;
+        Outcome { next: self, number }
+    }
+
+    // How many files and volumes are present, and how many volumes are in quarantine.
     pub fn count(self) -> Counted
         ensures { λ r. ⌜ countReply r ≡ countStep self ⌝ }
     {
@@ -138,7 +175,8 @@ impl Inventory {
         }
         let files = self.files;
         let volumes = self.volumes;
-        Counted::Counts(size(files), size(volumes))
+        let quarantined = self.quarantined;
+        Counted::Counts(size(files), size(volumes), size(quarantined))
     }
 }
 
@@ -151,6 +189,7 @@ pub fn zeros() -> Inventory
         files: [0u64; 4],
         volumes: [0u64; 4],
         nonempty: [0u64; 4],
+        quarantined: [0u64; 4],
     }
 }
 
@@ -162,9 +201,9 @@ pub fn refused_opening(number: u32) -> Outcome
     Outcome { next, number }
 }
 
-// The number of an addition to the inventory s or a removal: 10, then 11 where all is already as it is to be.
-fn change_number(s: Inventory, in_range: bool, already: bool) -> u32
-    ensures { λ r. ⌜ r ≡ ifInventory s (changeNumber in_range already) ⌝ }
+// The number of a change of the inventory s: 10, then 27 where a volume in quarantine is to be added, then 11 where there is nothing to do.
+fn change_number(s: Inventory, in_range: bool, aside: bool, already: bool) -> u32
+    ensures { λ r. ⌜ r ≡ ifInventory s (changeNumber in_range aside already) ⌝ }
 {
     if !is_inventory(s) {
         return OUT_OF_RANGE;
@@ -172,10 +211,23 @@ fn change_number(s: Inventory, in_range: bool, already: bool) -> u32
     if !in_range {
         return OUT_OF_RANGE;
     }
+    if aside {
+        return QUARANTINED;
+    }
     if already { ALREADY } else { 0 }
 }
 
-// What is present after a call: as before, where it is refused.
+// Whether one of two tests passed.
+fn either(a: bool, b: bool) -> bool
+    ensures { λ r. ⌜ r ≡ (a || b) ⌝ }
+{
+    if a {
+        return true;
+    }
+    b
+}
+
+// A set after a call: as before, where it is refused.
 fn unless_refused(number: u32, changed: [u64; 4], before: [u64; 4]) -> [u64; 4]
     ensures { λ r. ⌜ r ≡ unlessRefused number changed before ⌝ }
 {

@@ -1,8 +1,8 @@
-// Which numbers are in range, and which inventories calls give (document 01, "What comes back", number 10).
+// Which numbers are in range, and which inventories calls give (document 01, "What comes back", number 10; document 02, 2026-10).
 ghost use mathlib.Core.Path.{_≡_};
 ghost use Rattle.computed_tests.specs.Numbers.{oneTo};
 ghost use Rattle.inventory.specs.Recoverable.{isVolume};
-ghost use Rattle.inventory.specs.Steps.{within, isInventory};
+ghost use Rattle.inventory.specs.Steps.{within, apart, isInventory};
 use crate::Inventory;
 use number_sets::has;
 use refusals::MAX_FILES;
@@ -24,7 +24,14 @@ pub fn is_inventory(s: Inventory) -> bool
         return false;
     }
     let volumes = s.volumes;
-    within(255 - n, volumes)
+    if !within(255 - n, volumes) {
+        return false;
+    }
+    let quarantined = s.quarantined;
+    if !within(255 - n, quarantined) {
+        return false;
+    }
+    apart(volumes, quarantined)
 }
 
 // Whether k is one of 1 to m.
@@ -55,6 +62,22 @@ fn within(m: u64, set: [u64; 4]) -> bool
     while k < 256 {
         if has(set, k) {
             if !one_to(m, k) {
+                return false;
+            }
+        }
+        k += 1;
+    }
+    true
+}
+
+// Whether no number is in both sets.
+fn apart(a: [u64; 4], b: [u64; 4]) -> bool
+    ensures { λ r. ⌜ r ≡ apart a b ⌝ }
+{
+    let mut k: u64 = 0;
+    while k < 256 {
+        if has(a, k) {
+            if has(b, k) {
                 return false;
             }
         }

@@ -29,7 +29,11 @@ returns-3 c = simp (valid (c .before .before), ranged (c .before), c .if3 .taken
 
 returns-4 : tie.Need-returns-4
 unfolding ifInventory changeNumber
-returns-4 c = simp (valid (c .before .before), ranged (c .before), c .if3 .left)
+returns-4 c = simp (valid (c .before .before .before), ranged (c .before .before), c .before .if3 .left, c .if4 .taken)
+
+returns-5 : tie.Need-returns-5
+unfolding ifInventory changeNumber
+returns-5 c = simp (valid (c .before .before .before), ranged (c .before .before), c .before .if3 .left, c .if4 .left)
 
 pub change-number-spec : {M : Type 1} → statement M
-change-number-spec = tie.close (tie.spec (λ c κs. search needs) returns returns-2 returns-3 returns-4)
+change-number-spec = tie.close (tie.spec (λ c κs. search needs) returns returns-2 returns-3 returns-4 returns-5)

@@ -65,7 +65,8 @@ returns-4 c =
     let in-range = sym (ranged .before .one-to .ensures) ∙ not-false (ranged .before .one-to .result) (ranged .if1 .left) in
     let counted : length (a .sizes .now) ≡ a .n = c .before .before .if2 .left in
     let e : l .k ≡ a .n = omega arith in
-    ap (λ (ws : List ℕ). outcome (record { n = a .n; files = replicate 4 0; volumes = replicate 4 0; nonempty = ws }) 0)
+    ap (λ (ws : List ℕ).
+    outcome (record { n = a .n; files = replicate 4 0; volumes = replicate 4 0; nonempty = ws; quarantined = replicate 4 0 }) 0)
     (l .inv .1 ∙ ap (nonemptyOf (a .sizes .now)) e)
     ∙ open-accepted (a .n) (a .sizes .now) in-range counted (rw e at (l .inv .2))
 
