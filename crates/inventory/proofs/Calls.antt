@@ -43,7 +43,7 @@ changed-same removeVolume t v = record { same-n = refl; same-size = refl }
 changed-same quarantine t v = record { same-n = refl; same-size = refl }
 changed-same release t v = record { same-n = refl; same-size = refl }
 
-next-same : (t : State) (c : Call) → Same t (next t c)
+pub next-same : (t : State) (c : Call) → Same t (next t c)
 unfolding next
 next-same t (change c k) = go (eqb (numberOf t c k) 0)
   where

@@ -12,11 +12,16 @@ mod Queries
 mod ChangeNumbers
 pub mod ModelSets
 pub mod Calls
+mod Beside
+mod Inside
+mod TellingCalls
 pub mod Told
 pub mod Determined
 pub mod Refused
 pub mod Representation
 pub mod Openings
 pub mod Condition
+pub mod Quarantine
 pub mod Answered
 pub mod Reachable
+mod Examples

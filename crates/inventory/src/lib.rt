@@ -117,7 +117,12 @@ impl Inventory {
     {
         let volumes = self.volumes;
         let quarantined = self.quarantined;
-        let number = change_number(self, is_volume(self.n, volume), has(quarantined, volume), has(volumes, volume));
+        let number = change_number(
+            self,
+            is_volume(self.n, volume),
+            has(quarantined, volume),
+            has(volumes, volume),
+        );
         let now = unless_refused(number, insert(volumes, volume), volumes);
         self.volumes = now;
         Outcome { next: self, number }
@@ -144,7 +149,12 @@ impl Inventory {
     {
         let volumes = self.volumes;
         let quarantined = self.quarantined;
-        let number = change_number(self, is_volume(self.n, volume), false, !has(volumes, volume));
+        let number = change_number(
+            self,
+            is_volume(self.n, volume),
+            false,
+            !has(volumes, volume),
+        );
         let now = unless_refused(number, remove(volumes, volume), volumes);
         let aside = unless_refused(number, insert(quarantined, volume), quarantined);
         self.volumes = now;
@@ -158,7 +168,12 @@ impl Inventory {
     {
         let volumes = self.volumes;
         let quarantined = self.quarantined;
-        let number = change_number(self, is_volume(self.n, volume), false, !has(quarantined, volume));
+        let number = change_number(
+            self,
+            is_volume(self.n, volume),
+            false,
+            !has(quarantined, volume),
+        );
         let now = unless_refused(number, insert(volumes, volume), volumes);
         let aside = unless_refused(number, remove(quarantined, volume), quarantined);
         self.volumes = now;

@@ -1,0 +1,57 @@
+-- The steps run on an inventory of two files, of 2 bytes and 1.
+--
+--   replies s cs       the replies to changes, one after another, and to a count at the end
+--   set-aside          a volume that is set aside, noted and withdrawn
+--   taken-back         one that is taken back
+-- Assumes nothing.
+use mathlib.Core.Path.{_≡_, refl}
+use mathlib.Core.List.{List, [], _∷_}
+use Prim.Native.Nat.{ℕ}
+use Rattle.inventory.specs.Model.{Change, addVolume, removeVolume, quarantine, release, Reply, numbered, counts}
+use Rattle.inventory.specs.Steps.{isInventory, within, apart, ifInventory, nonemptyOf, openStep, inRange, whileQuarantined, already, changeNumber}
+use Rattle.inventory.specs.Steps.{afterChange, changeStep, countStep}
+use Rattle.inventory.specs.declared.Inventory.{Inventory}
+use Rattle.number_sets.specs.Sets.{member, inserted, removed, sizeBelow}
+
+replies : Inventory → List (Change × ℕ) → List Reply
+replies s [] = countStep s ∷ []
+replies s ((c, k) ∷ cs) = numbered (changeStep c s k .number) ∷ replies (changeStep c s k .next) cs
+
+start : Inventory
+start = openStep 2 (2 ∷ 1 ∷ []) .next
+
+-- a volume that is set aside is noted (27) and set aside again (11); another is taken back (11); it is withdrawn, and is neither (11, 11)
+set-aside : replies start
+    ((addVolume, 4)
+    ∷ (quarantine, 4)
+    ∷ (addVolume, 4)
+    ∷ (quarantine, 4)
+    ∷ (release, 5)
+    ∷ (quarantine, 254)
+    ∷ (addVolume, 253)
+    ∷ (quarantine, 253)
+    ∷ (removeVolume, 4)
+    ∷ (removeVolume, 4)
+    ∷ (release, 4)
+    ∷ [])
+    ≡ (numbered 0
+    ∷ numbered 0
+    ∷ numbered 27
+    ∷ numbered 11
+    ∷ numbered 11
+    ∷ numbered 10
+    ∷ numbered 0
+    ∷ numbered 0
+    ∷ numbered 0
+    ∷ numbered 11
+    ∷ numbered 11
+    ∷ counts 0 0 1
+    ∷ [])
+unfolding replies start isInventory within apart ifInventory nonemptyOf openStep inRange whileQuarantined already changeNumber afterChange changeStep countStep member inserted removed sizeBelow
+set-aside = refl
+
+-- one that is taken back is in hand again
+taken-back : replies start ((addVolume, 4) ∷ (quarantine, 4) ∷ (release, 4) ∷ (addVolume, 4) ∷ [])
+    ≡ (numbered 0 ∷ numbered 0 ∷ numbered 0 ∷ numbered 11 ∷ counts 0 1 0 ∷ [])
+unfolding replies start isInventory within apart ifInventory nonemptyOf openStep inRange whileQuarantined already changeNumber afterChange changeStep countStep member inserted removed sizeBelow
+taken-back = refl

@@ -1,0 +1,143 @@
+-- What quarantine and release count as (document 02, 2026-10).
+--
+--   quarantine-as-removal-for, quarantine-as-removal     after quarantine of a volume replies to calls elsewhere are those after its removal:
+--                             over any rule, and at document 01's
+--   release-as-adding-for, release-as-adding     after release of a volume all replies are those after its removal and its addition
+-- Assumes nothing.
+use mathlib.Core.Path.{_≡_, refl, sym, ap, ap₂, _∙_, subst, fun-ext}
+use mathlib.Core.Bool.{Bool, true, false, not, cond, _&&_, _||_}
+use mathlib.Core.List.{List, _∷_, List·Memᴰ}
+use Prim.Native.Nat.{ℕ, _<_, _≤_}
+use native.Mathlib.Omega.{arith}
+use lib.Dec.{eqb}
+use borrow.Author.Tests.{ne-eqb}
+use Rattle.parity.specs.Coefficient.{coefficient}
+use Rattle.parity.proofs.Coefficients.{coefficient-byte}
+use Rattle.inventory.specs.Recoverable.{State, isVolume}
+use Rattle.inventory.specs.Model.{Change, addVolume, removeVolume, quarantine, release, insert, remove, withVolumes, changed, numberOf}
+use Rattle.inventory.specs.Model.{Call, change, Reply, numbered, opened, next, after, Gives, GivesAll}
+use Rattle.inventory.specs.Steps.{openStep}
+use Rattle.inventory.specs.Claim.{sizeIn, Given, Elsewhere, AllAgree}
+use Rattle.inventory.specs.Claim.{QuarantineAsRemovalFor, ReleaseAsAddingFor, QuarantineAsRemoval, ReleaseAsAdding}
+use Rattle.inventory.specs.declared.Inventory.{Inventory}
+use Rattle.inventory.proofs.ModelSets.{remove-here}
+use Rattle.inventory.proofs.Calls.{after-same, givesAll-one}
+use Rattle.inventory.proofs.Representation.{Represents}
+use Rattle.inventory.proofs.Openings.{opened-represents}
+use Rattle.inventory.proofs.Condition.{sound}
+use Rattle.inventory.proofs.Beside.{Off, all-agree}
+
+-- ---- the model
+
+number-is : (j k : ℕ) → numbered j ≡ numbered k → j ≡ k
+number-is j k e = cc
+
+module _ (t : State) (v : ℕ) where
+  next-accepted : (c : Change) → numberOf t c v ≡ 0 → next t (change c v) ≡ changed c t v
+  unfolding next
+  next-accepted c e = ap (λ (k : ℕ). cond (eqb k 0) (changed c t v) t) e
+
+  -- where quarantine is accepted the volume is present, and removal is accepted
+  quarantine-accepted : numberOf t quarantine v ≡ 0 → numberOf t removeVolume v ≡ 0
+  unfolding numberOf
+  quarantine-accepted = go (isVolume (t .n) v) (t .volumes v)
+    where
+      go : (ranged has : Bool) → _≡_ {A = ℕ} (cond ranged (cond has 0 11) 10) 0
+          → _≡_ {A = ℕ} (cond ranged (cond (has || t .quarantined v) 0 11) 10) 0
+      go true true e = refl
+      go true false e = absurd (omega arith)
+      go false has e = absurd (omega arith)
+
+  -- where release is accepted the volume is quarantined, and removal is accepted, and addition after it
+  release-accepted : numberOf t release v ≡ 0 → (numberOf t removeVolume v ≡ 0) × (numberOf (changed removeVolume t v) addVolume v ≡ 0)
+  unfolding numberOf changed
+  release-accepted e =
+      let (removed, added) = go (isVolume (t .n) v) (t .volumes v) (t .quarantined v) e in (
+        removed,
+        ap₂ (λ (aside has : Bool). cond (isVolume (t .n) v) (cond aside 27 (cond has 11 0)) 10) (remove-here (t .quarantined) v)
+            (remove-here (t .volumes) v)
+            ∙ added,
+      )
+    where
+      go : (ranged has aside : Bool) → _≡_ {A = ℕ} (cond ranged (cond aside 0 11) 10) 0
+          → _≡_ {A = ℕ} (cond ranged (cond (has || aside) 0 11) 10) 0 × _≡_ {A = ℕ} (cond ranged 0 10) 0
+      go true true true e = (refl, refl)
+      go true false true e = (refl, refl)
+      go true has false e = absurd (omega arith)
+      go false has aside e = absurd (omega arith)
+
+  -- elsewhere the same is quarantined after both
+  quarantine-off : Off v (insert v (t .quarantined)) (changed removeVolume t v)
+  unfolding changed
+  quarantine-off u n =
+      ap (λ (b : Bool). b || t .quarantined u) (ne-eqb u v n) ∙ sym (ap (λ (b : Bool). not b && t .quarantined u) (ne-eqb u v n))
+
+  -- after removal and addition all is as after release
+  release-same : changed addVolume (changed removeVolume t v) v ≡ changed release t v
+  unfolding changed
+  release-same = ap (λ (s : ℕ → Bool). withVolumes t s (remove v (t .quarantined))) (fun-ext (λ u. go (eqb u v) (t .volumes u)))
+    where
+      go : (same has : Bool) → (same || (not same && has)) ≡ (same || has)
+      go true has = refl
+      go false has = refl
+
+module _ (rule : ℕ → ℕ → ℕ) (small : (f v : ℕ) → f < 256 → rule f v < 256) (t : State) (fits : t .n ≤ 254) (v : ℕ) where
+  removal-agrees : (more : List Call) → ((c : Call) → List·Memᴰ c more → Elsewhere v c) → (k : ℕ) (r r′ : List Reply)
+      → GivesAll rule t (change quarantine v ∷ more) (numbered 0 ∷ r) → GivesAll rule t (change removeVolume v ∷ more) (numbered k ∷ r′)
+      → (k ≡ 0) × AllAgree more r r′
+  unfolding Gives GivesAll changed
+  removal-agrees more away k r r′ (a, g) (b, h) =
+      let accepted = sym (number-is 0 (numberOf t quarantine v) a) in
+      let removed = quarantine-accepted t v accepted in (
+        number-is k (numberOf t removeVolume v) b ∙ removed,
+        all-agree rule small v more away (changed removeVolume t v) (insert v (t .quarantined)) (quarantine-off t v) fits r r′
+            (subst (λ (u : State). GivesAll rule u more r) (next-accepted t v quarantine accepted) g)
+            (subst (λ (u : State). GivesAll rule u more r′) (next-accepted t v removeVolume removed) h),
+      )
+
+  adding-same : (more : List Call) (j k : ℕ) (r r′ : List Reply) → GivesAll rule t (change release v ∷ more) (numbered 0 ∷ r)
+      → GivesAll rule t (change removeVolume v ∷ change addVolume v ∷ more) (numbered j ∷ numbered k ∷ r′)
+      → (j ≡ 0) × (k ≡ 0) × (r ≡ r′)
+  unfolding Gives GivesAll changed
+  adding-same more j k r r′ (a, g) (b, rest) =
+      let accepted = sym (number-is 0 (numberOf t release v) a) in
+      let (removed, added) = release-accepted t v accepted in
+      let u : State = changed removeVolume t v in
+      let (d, h) = subst (λ (x : State). GivesAll rule x (change addVolume v ∷ more) (numbered k ∷ r′)) (next-accepted t v removeVolume removed) rest in (
+        number-is j (numberOf t removeVolume v) b ∙ removed,
+        number-is k (numberOf u addVolume v) d ∙ added,
+        givesAll-one rule small (changed release t v) fits more r r′
+            (subst (λ (x : State). GivesAll rule x more r) (next-accepted t v release accepted) g)
+            (subst (λ (x : State). GivesAll rule x more r′) (next-accepted u v addVolume added ∙ release-same t v) h),
+      )
+
+-- ---- inventories that calls give
+
+module _ (rule : ℕ → ℕ → ℕ) (small : (f v : ℕ) → f < 256 → rule f v < 256) (s : Inventory) (given : Given rule s) where
+  -- a state that the inventory stands for
+  stands : (size : ℕ → ℕ) × (t : State) × (t .n ≤ 254) × Represents size t s
+  stands =
+      let (n, sizes, cs, rs, well, run) = given in
+      let size : ℕ → ℕ = sizeIn sizes in
+      let (few, R) = opened-represents n sizes well in (
+        size,
+        after (opened n size) cs,
+        subst (λ (k : ℕ). k ≤ 254) (sym (after-same (opened n size) cs .same-n)) few,
+        sound rule size (opened n size) (openStep n sizes .next) cs rs s R run .1,
+      )
+
+pub quarantine-as-removal-for : (rule : ℕ → ℕ → ℕ) → ((f v : ℕ) → f < 256 → rule f v < 256) → QuarantineAsRemovalFor rule
+quarantine-as-removal-for rule small s given v more away k r r′ e e′ run run′ =
+    let (size, t, fits, R) = stands rule small s given in
+    removal-agrees rule small t fits v more away k r r′ (sound rule size t s _ _ e R run .0) (sound rule size t s _ _ e′ R run′ .0)
+
+pub release-as-adding-for : (rule : ℕ → ℕ → ℕ) → ((f v : ℕ) → f < 256 → rule f v < 256) → ReleaseAsAddingFor rule
+release-as-adding-for rule small s given v more j k r r′ e e′ run run′ =
+    let (size, t, fits, R) = stands rule small s given in
+    adding-same rule small t fits v more j k r r′ (sound rule size t s _ _ e R run .0) (sound rule size t s _ _ e′ R run′ .0)
+
+pub quarantine-as-removal : QuarantineAsRemoval
+quarantine-as-removal = quarantine-as-removal-for coefficient coefficient-byte
+
+pub release-as-adding : ReleaseAsAdding
+release-as-adding = release-as-adding-for coefficient coefficient-byte
