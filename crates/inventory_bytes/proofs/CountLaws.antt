@@ -1,6 +1,6 @@
 -- A count in lent bytes, by its case.
 --
---   count-refused, count-written     a refusal, and two counts
+--   count-refused, count-written     a refusal, and three counts
 -- Assumes nothing.
 use mathlib.Core.Path.{_≡_, refl, ap}
 use mathlib.Core.Bool.{Bool, true, false, cond}
@@ -24,7 +24,7 @@ module _ (out : List ℕ) where
       go true e = simp (leb·zero (length out)) (ap (λ (n : ℕ). (n, out)) (eqb-true k 0 e))
       go false e = refl
 
-  pub count-written : {r : ℕ × List ℕ} (files volumes : ℕ) → r ≡ withNumber (written (numbers (files ∷ volumes ∷ [])) out)
-      → r ≡ countedInto (counts files volumes) out
+  pub count-written : {r : ℕ × List ℕ} (files volumes quarantined : ℕ)
+      → r ≡ withNumber (written (numbers (files ∷ volumes ∷ quarantined ∷ [])) out) → r ≡ countedInto (counts files volumes quarantined) out
   unfolding countedInto writtenUnless
-  count-written files volumes e = e
+  count-written files volumes quarantined e = e

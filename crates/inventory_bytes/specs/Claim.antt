@@ -2,7 +2,7 @@
 --
 --   Held s        bytes can hold the inventory s: n is a u64, and each set is four words
 --   LoadedBack    the bytes of an inventory are that inventory
---   StoredBack    104 bytes are the bytes of the inventory that they are
+--   StoredBack    136 bytes are the bytes of the inventory that they are
 -- Assumes nothing.
 use mathlib.Core.Path.{_≡_}
 use mathlib.Core.List.{List}
@@ -18,6 +18,7 @@ pub record Held (s : Inventory) : Type 0 where
   pub files : Words (s .files)
   pub volumes : Words (s .volumes)
   pub nonempty : Words (s .nonempty)
+  pub quarantined : Words (s .quarantined)
 
 -- proved: proofs/BackLaws.antt, `loaded-back`
 abbrev pub LoadedBack : Type 0
@@ -25,4 +26,4 @@ LoadedBack = (s : Inventory) → Held s → inventoryOf (inventoryBytes s) ≡ s
 
 -- proved: proofs/BackLaws.antt, `stored-back`
 abbrev pub StoredBack : Type 0
-StoredBack = (b : List ℕ) → Bytes b → length b ≡ 104 → inventoryBytes (inventoryOf b) ≡ b
+StoredBack = (b : List ℕ) → Bytes b → length b ≡ 136 → inventoryBytes (inventoryOf b) ≡ b

@@ -1,7 +1,8 @@
--- Inventories in lent bytes: 13 numbers of 64 bits (n; files present, volumes present, files of size 1 or more, four words each).
+-- Inventories in lent bytes: 17 numbers of 64 bits (n; files present, volumes present, files of size 1 or more, volumes in quarantine, four
+-- words each).
 --
---   inventoryIn b       the inventory in the 13 numbers of the bytes b
---   inventoryOf b       the inventory that the bytes b are, if they are 104, else zeros
+--   inventoryIn b       the inventory in the 17 numbers of the bytes b
+--   inventoryOf b       the inventory that the bytes b are, if they are 136, else zeros
 --   inventoryBytes s    the bytes of the inventory s
 --   openedBy n s        what opening with the sizes in the bytes s gives
 --   storedBy o out      the number of the outcome o, or 14, and what `out` then holds
@@ -22,14 +23,20 @@ use Rattle.refusals.specs.Limits.{maxFiles}
 use Rattle.little_endian.specs.Bytes.{leAt, numbers, numbersAt}
 
 abbrev pub inventoryIn : List ℕ → Inventory
-inventoryIn b = record { n = leAt 8 b 0; files = numbersAt 4 b 8; volumes = numbersAt 4 b 40; nonempty = numbersAt 4 b 72 }
+inventoryIn b = record {
+  n = leAt 8 b 0;
+  files = numbersAt 4 b 8;
+  volumes = numbersAt 4 b 40;
+  nonempty = numbersAt 4 b 72;
+  quarantined = numbersAt 4 b 104;
+}
 
 -- bytes of another length are no inventory: zeros, which every call refuses with 10
 unfoldable pub inventoryOf : List ℕ → Inventory
-inventoryOf b = cond (eqb (length b) 104) (inventoryIn b) zeros
+inventoryOf b = cond (eqb (length b) 136) (inventoryIn b) zeros
 
 unfoldable pub inventoryBytes : Inventory → List ℕ
-inventoryBytes s = numbers (s .n ∷ s .files ++ s .volumes ++ s .nonempty)
+inventoryBytes s = numbers (s .n ∷ s .files ++ s .volumes ++ s .nonempty ++ s .quarantined)
 
 -- the sizes are n numbers; else 10
 unfoldable pub openedBy : ℕ → List ℕ → Outcome

@@ -1,4 +1,4 @@
-// Inventories in lent bytes: 13 numbers of 64 bits.
+// Inventories in lent bytes: 17 numbers of 64 bits.
 ghost use mathlib.Core.Path.{_≡_};
 ghost use mathlib.Core.List.{[], _∷_};
 ghost use lib.ListN.{length};
@@ -20,10 +20,10 @@ use refusals::PRESENT;
 use refusals::UNDETERMINED;
 
 // The length of an inventory, in bytes.
-pub const LENGTH: usize = 104;
+pub const LENGTH: usize = 136;
 
 // The length of a count, in bytes.
-const COUNT_LENGTH: usize = 16;
+const COUNT_LENGTH: usize = 24;
 
 // The greatest number of files.
 const MAX_FILES: usize = 254;
@@ -51,7 +51,7 @@ fn opened_by<'a, 'b>(n: u64, sizes: &'a [u8], numbers: &'b mut [u64]) -> Outcome
     Inventory::open(n, numbers)
 }
 
-// The inventory that the bytes are; zeros where they are not 104.
+// The inventory that the bytes are; zeros where they are not 136.
 pub fn loaded(bytes: &[u8]) -> Inventory
     ensures { λ r. ⌜ r ≡ inventoryOf (now (bytes .entry)) ⌝ }
 {
@@ -61,11 +61,13 @@ pub fn loaded(bytes: &[u8]) -> Inventory
     let files = four_at(bytes, 8);
     let volumes = four_at(bytes, 40);
     let nonempty = four_at(bytes, 72);
+    let quarantined = four_at(bytes, 104);
     Inventory {
         n: read64(bytes, 0),
         files,
         volumes,
         nonempty,
+        quarantined,
     }
 }
 
@@ -90,7 +92,7 @@ pub fn store(outcome: Outcome, out: &mut [u8]) -> u32
     write(out, &bytes)
 }
 
-// The inventory's 13 numbers.
+// The inventory's 17 numbers.
 fn bytes_of(inventory: Inventory) -> [u8; LENGTH]
     ensures { λ r. ⌜ r ≡ inventoryBytes inventory ⌝ }
 {
@@ -98,15 +100,17 @@ fn bytes_of(inventory: Inventory) -> [u8; LENGTH]
     let files = inventory.files;
     let volumes = inventory.volumes;
     let nonempty = inventory.nonempty;
+    let quarantined = inventory.quarantined;
     let mut bytes = [0u8; LENGTH];
     write_numbers(&mut bytes, 0, &n);
     write_numbers(&mut bytes, 8, &files);
     write_numbers(&mut bytes, 40, &volumes);
     write_numbers(&mut bytes, 72, &nonempty);
+    write_numbers(&mut bytes, 104, &quarantined);
     bytes
 }
 
-// The two numbers of a count over the first bytes of `out`, and 0; or the number of the refusal.
+// The three numbers of a count over the first bytes of `out`, and 0; or the number of the refusal.
 pub fn store_count(counted: Counted, out: &mut [u8]) -> u32
     ensures { λ r. ⌜ (r, now (out .exit)) ≡ countedInto (countReply counted) (now (out .entry)) ⌝ }
 {
@@ -114,18 +118,18 @@ pub fn store_count(counted: Counted, out: &mut [u8]) -> u32
         Counted::Refused(number) => {
             return number;
         }
-        Counted::Counts(files, volumes) => {
-            let bytes = bytes_of_count(files, volumes);
+        Counted::Counts(files, volumes, quarantined) => {
+            let bytes = bytes_of_count(files, volumes, quarantined);
             return write(out, &bytes);
         }
     }
 }
 
-// The two numbers of a count.
-fn bytes_of_count(files: u32, volumes: u32) -> [u8; COUNT_LENGTH]
-    ensures { λ r. ⌜ r ≡ numbersOf (files ∷ volumes ∷ []) ⌝ }
+// The three numbers of a count.
+fn bytes_of_count(files: u32, volumes: u32, quarantined: u32) -> [u8; COUNT_LENGTH]
+    ensures { λ r. ⌜ r ≡ numbersOf (files ∷ volumes ∷ quarantined ∷ []) ⌝ }
 {
-    let counts = [files as u64, volumes as u64];
+    let counts = [files as u64, volumes as u64, quarantined as u64];
     let mut bytes = [0u8; COUNT_LENGTH];
     write_numbers(&mut bytes, 0, &counts);
     bytes

@@ -17,22 +17,30 @@ volumes-length c = search needs
 nonempty-length : (c : tie.Start) → length (c .args .inventory .nonempty) ≡ 4
 nonempty-length c = search needs
 
+quarantined-length : (c : tie.Start) → length (c .args .inventory .quarantined) ≡ 4
+quarantined-length c = search needs
+
 returns : tie.Need-returns
 unfolding inventoryBytes
 returns c =
-    let fourth = c .before in
+    let fifth = c .before in
+    let fourth = fifth .before .before .before .before in
     let third = fourth .before .before .before .before in
     let second = third .before .before .before .before in
     let first = second .before .before .before .before in
-    let start = first .before .before .before .before .before .before in
+    let start = first .before .before .before .before .before .before .before in
     let i = start .args .inventory in
-    inventory-whole _ (i .n) (i .files) (i .volumes) (i .nonempty) refl (files-length start) (volumes-length start) (nonempty-length start)
-    (first .write-numbers .ensures) (second .write-numbers2 .ensures) (third .write-numbers3 .ensures) (fourth .write-numbers4 .ensures)
+    inventory-whole _ (i .n) (i .files) (i .volumes) (i .nonempty) (i .quarantined) refl (files-length start) (volumes-length start)
+    (nonempty-length start) (quarantined-length start) (first .write-numbers .ensures) (second .write-numbers2 .ensures)
+    (third .write-numbers3 .ensures) (fourth .write-numbers4 .ensures) (fifth .write-numbers5 .ensures)
 
 pub bytes-of-spec : {M : Type 1} → statement M
 bytes-of-spec =
     tie.close
     (tie.spec
+    (λ c. search needs)
+    (λ c. search needs)
+    (λ c κs. search needs)
     (λ c. search needs)
     (λ c. search needs)
     (λ c κs. search needs)

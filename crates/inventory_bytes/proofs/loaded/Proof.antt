@@ -11,7 +11,7 @@ returns : tie.Need-returns
 returns c = c .zeros .ensures ∙ sym (inventory-none _ (c .before .if1 .taken))
 
 returns-2 : tie.Need-returns-2
-returns-2 c = cc (inventory-of (now (c .before .before .before .before .before .before .args .bytes)) (c .before .before .before .before .if1 .left))
+returns-2 c = cc (inventory-of (now (c .before .before .before .before .before .before .before .args .bytes)) (c .before .before .before .before .before .if1 .left))
 
 pub loaded-spec : {M : Type 1} → statement M
 loaded-spec =
@@ -19,6 +19,7 @@ loaded-spec =
     (tie.spec
     (λ c κs. search needs)
     returns
+    (λ c κs. search needs)
     (λ c κs. search needs)
     (λ c κs. search needs)
     (λ c κs. search needs)

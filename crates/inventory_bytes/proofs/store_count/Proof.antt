@@ -22,7 +22,7 @@ returns-2 c =
     let b = w .before .before .before in
     let out : List ℕ = now (b .before .before .before .before .before .args .out) in
     rw (b .before .before .counted2 .given .1)
-    (count-written out _ _ (w .write .ensures ∙ ap (λ (l : List ℕ). withNumber (written l out)) (b .bytes-of-count .ensures)))
+    (count-written out _ _ _ (w .write .ensures ∙ ap (λ (l : List ℕ). withNumber (written l out)) (b .bytes-of-count .ensures)))
 
 pub store-count-spec : {M : Type 1} → statement M
 store-count-spec =
