@@ -1,7 +1,7 @@
 -- From C each call on the bytes of an inventory is the call on the inventory.
 --
 --   opened-on-bytes      an opening
---   changed-on-bytes     the calls that add and remove
+--   changed-on-bytes     the calls that add, remove, set aside and take back
 --   counted-on-bytes     a count
 --   queried-on-bytes     a query
 -- Assumes nothing.
@@ -17,7 +17,7 @@ use lib.Dec.{eqb, leb}
 use lib.ListN.{getD, length, drop, drop-of-length-le}
 use Rattle.lent_bytes.proofs.WritingLaws.{written-fits, unless-none, unless-refused, numbered-as}
 use Rattle.parity.specs.Coefficient.{coefficient}
-use Rattle.inventory.specs.Model.{Change, addFile, removeFile, addVolume, removeVolume}
+use Rattle.inventory.specs.Model.{Change, addFile, removeFile, addVolume, removeVolume, quarantine, release}
 use Rattle.inventory.specs.Query.{Queried}
 use Rattle.inventory.specs.Steps.{zeros, fresh, refusedOpening, openStep, outcome, accepted, withFiles, withVolumes, afterChange, changeStep}
 use Rattle.inventory.specs.declared.Inventory.{Inventory}
@@ -74,17 +74,22 @@ on-bytes step s k n changed e hc hs =
 
 -- the inventory with other words for a set
 with-files : (s : Inventory) (ws : List ℕ) → Held s → Words ws → Held (withFiles s ws)
-with-files s ws h w = record { small = h .small; files = w; volumes = h .volumes; nonempty = h .nonempty }
+with-files s ws h w = record { small = h .small; files = w; volumes = h .volumes; nonempty = h .nonempty; quarantined = h .quarantined }
 
-with-volumes : (s : Inventory) (ws : List ℕ) → Held s → Words ws → Held (withVolumes s ws)
-with-volumes s ws h w = record { small = h .small; files = h .files; volumes = w; nonempty = h .nonempty }
+with-volumes : (s : Inventory) (ws qs : List ℕ) → Held s → Words ws → Words qs → Held (withVolumes s ws qs)
+with-volumes s ws qs h w q = record { small = h .small; files = h .files; volumes = w; nonempty = h .nonempty; quarantined = q }
 
 held-change : (c : Change) (s : Inventory) (k : ℕ) → Held s → Held (afterChange c s k)
 unfolding afterChange
 held-change addFile s k h = with-files s _ h (words-inserted k (s .files) (h .files))
 held-change removeFile s k h = with-files s _ h (words-removed k (s .files) (h .files))
-held-change addVolume s k h = with-volumes s _ h (words-inserted k (s .volumes) (h .volumes))
-held-change removeVolume s k h = with-volumes s _ h (words-removed k (s .volumes) (h .volumes))
+held-change addVolume s k h = with-volumes s _ _ h (words-inserted k (s .volumes) (h .volumes)) (h .quarantined)
+held-change removeVolume s k h =
+    with-volumes s _ _ h (words-removed k (s .volumes) (h .volumes)) (words-removed k (s .quarantined) (h .quarantined))
+held-change quarantine s k h =
+    with-volumes s _ _ h (words-removed k (s .volumes) (h .volumes)) (words-inserted k (s .quarantined) (h .quarantined))
+held-change release s k h =
+    with-volumes s _ _ h (words-inserted k (s .volumes) (h .volumes)) (words-removed k (s .quarantined) (h .quarantined))
 
 pub changed-on-bytes : ChangedOnBytes
 unfolding changeStep
@@ -127,13 +132,25 @@ unfolding openStep
 held-opened n sizes = by (oneTo 254 n && eqb (length sizes) n) (allBelow n (λ i. leb (getD sizes i 0) 16777216)) refl
   where
     none : Held zeros
-    none = record { small = zero-lt-suc 18446744073709551615; files = words-none; volumes = words-none; nonempty = words-none }
+    none = record {
+      small = zero-lt-suc 18446744073709551615;
+      files = words-none;
+      volumes = words-none;
+      nonempty = words-none;
+      quarantined = words-none;
+    }
 
     by : (a b : Bool) → (oneTo 254 n && eqb (length sizes) n) ≡ a
         → Held (cond a (cond b (outcome (fresh n sizes) 0) (refusedOpening 1)) (refusedOpening 10) .next)
     by true true e =
         let few : n ≤ 254 = leb-true n 254 (and-both (leb 1 n) (leb n 254) (and-both (oneTo 254 n) (eqb (length sizes) n) e .0) .1) in
-        record { small = omega arith; files = words-none; volumes = words-none; nonempty = nonempty-words sizes n }
+        record {
+          small = omega arith;
+          files = words-none;
+          volumes = words-none;
+          nonempty = nonempty-words sizes n;
+          quarantined = words-none;
+        }
     by true false e = none
     by false b e = none
 

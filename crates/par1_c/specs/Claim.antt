@@ -12,7 +12,7 @@
 --   LoadTold             and that of a load, or the number of entries
 --   OnBytes step s k     a call that changes s: its number, and the bytes of the inventory that it hands back, which bytes can hold again
 --   OpenedOnBytes        an opening with the bytes of the sizes is one with the sizes, and bytes can hold what it gives
---   ChangedOnBytes       so are the calls that add and remove
+--   ChangedOnBytes       so are the calls that add, remove, set aside and take back
 --   CountedOnBytes       so is a count
 --   QueriedOnBytes       so is a query
 --   OthersRefused        bytes of another length are refused with 10 by each of them, and nothing changes
@@ -120,7 +120,7 @@ QueriedOnBytes =
 -- "10: .. a sheet that no calls give": bytes that are no inventory are none; proved: proofs/OtherBytes.antt, `others-refused`
 abbrev pub OthersRefused : Type 0
 OthersRefused =
-    (b : List ℕ) → (length b ≡ 104 → ⊥)
+    (b : List ℕ) → (length b ≡ 136 → ⊥)
     → ((c : Change) (k : ℕ) → changedBy (changeStep c) k b ≡ (10, b))
     × ((out : List ℕ) → countInto b out ≡ (10, out))
     × ((f : ℕ) (out : List ℕ) (r : ℕ) (out′ : List ℕ) → QueryInto b f out r out′ → (r ≡ 10) × (out′ ≡ out))

@@ -1,7 +1,7 @@
 // The calls on inventories in lent bytes. Bytes of another length than an inventory's are loaded as the inventory of zeros, which every call
 // refuses with 10.
 ghost use mathlib.Core.Path.{_≡_};
-ghost use Rattle.inventory.specs.Model.{addFile, removeFile, addVolume, removeVolume};
+ghost use Rattle.inventory.specs.Model.{addFile, removeFile, addVolume, removeVolume, quarantine, release};
 ghost use Rattle.inventory.specs.Steps.{changeStep};
 ghost use Rattle.par1_c.specs.Inventories.{openInto, changedBy, countInto, QueryInto};
 use inventory_bytes::answer_number;
@@ -10,7 +10,7 @@ use inventory_bytes::opened;
 use inventory_bytes::store;
 use inventory_bytes::store_count;
 
-// Opens an inventory of n files, whose sizes are n numbers, over the first 104 bytes of `out`.
+// Opens an inventory of n files, whose sizes are n numbers, over the first 136 bytes of `out`.
 #[no_mangle]
 pub extern "C" fn par1_open(n: u64, sizes: &[u8], out: &mut [u8]) -> u32
     ensures { λ r. ⌜ (r, now (out .exit)) ≡ openInto n (now (sizes .entry)) (now (out .entry)) ⌝ }
@@ -42,7 +42,7 @@ pub extern "C" fn par1_add_volume(inventory: &mut [u8], volume: u64) -> u32
     store(loaded(inventory).add_volume(volume), inventory)
 }
 
-// Removes a volume from what is present.
+// Removes a volume from what is present or in quarantine.
 #[no_mangle]
 pub extern "C" fn par1_remove_volume(inventory: &mut [u8], volume: u64) -> u32
     ensures { λ r. ⌜ (r, now (inventory .exit)) ≡ changedBy (changeStep removeVolume) volume (now (inventory .entry)) ⌝ }
@@ -50,7 +50,23 @@ pub extern "C" fn par1_remove_volume(inventory: &mut [u8], volume: u64) -> u32
     store(loaded(inventory).remove_volume(volume), inventory)
 }
 
-// How many files and how many volumes are present, two numbers over the first 16 bytes of `out`.
+// Sets a volume that is present aside.
+#[no_mangle]
+pub extern "C" fn par1_quarantine(inventory: &mut [u8], volume: u64) -> u32
+    ensures { λ r. ⌜ (r, now (inventory .exit)) ≡ changedBy (changeStep quarantine) volume (now (inventory .entry)) ⌝ }
+{
+    store(loaded(inventory).quarantine(volume), inventory)
+}
+
+// Takes a volume back that is in quarantine.
+#[no_mangle]
+pub extern "C" fn par1_release(inventory: &mut [u8], volume: u64) -> u32
+    ensures { λ r. ⌜ (r, now (inventory .exit)) ≡ changedBy (changeStep release) volume (now (inventory .entry)) ⌝ }
+{
+    store(loaded(inventory).release(volume), inventory)
+}
+
+// How many files and how many volumes are present, and how many volumes are in quarantine, three numbers over the first 24 bytes of `out`.
 #[no_mangle]
 pub extern "C" fn par1_count(inventory: &[u8], out: &mut [u8]) -> u32
     ensures { λ r. ⌜ (r, now (out .exit)) ≡ countInto (now (inventory .entry)) (now (out .entry)) ⌝ }
