@@ -137,9 +137,9 @@ impl Inventory {
         let held = either(has(volumes, volume), has(quarantined, volume));
         let number = change_number(self, is_volume(self.n, volume), false, !held);
         let now = unless_refused(number, remove(volumes, volume), volumes);
-        let aside = unless_refused(number, remove(quarantined, volume), quarantined);
+        let rest = unless_refused(number, remove(quarantined, volume), quarantined);
         self.volumes = now;
-        self.quarantined = aside;
+        self.quarantined = rest;
         Outcome { next: self, number }
     }
 
@@ -155,9 +155,9 @@ impl Inventory {
             false,
             !has(volumes, volume),
         );
-        let now = unless_refused(number, remove(volumes, volume), volumes);
+        let present = unless_refused(number, remove(volumes, volume), volumes);
         let aside = unless_refused(number, insert(quarantined, volume), quarantined);
-        self.volumes = now;
+        self.volumes = present;
         self.quarantined = aside;
         Outcome { next: self, number }
     }
@@ -174,9 +174,9 @@ impl Inventory {
             false,
             !has(quarantined, volume),
         );
-        let now = unless_refused(number, insert(volumes, volume), volumes);
+        let present = unless_refused(number, insert(volumes, volume), volumes);
         let aside = unless_refused(number, remove(quarantined, volume), quarantined);
-        self.volumes = now;
+        self.volumes = present;
         self.quarantined = aside;
         Outcome { next: self, number }
     }

@@ -74,14 +74,14 @@ fn within(m: u64, set: [u64; 4]) -> bool
 fn apart(a: [u64; 4], b: [u64; 4]) -> bool
     ensures { λ r. ⌜ r ≡ apart a b ⌝ }
 {
-    let mut k: u64 = 0;
-    while k < 256 {
-        if has(a, k) {
-            if has(b, k) {
+    let mut number: u64 = 0;
+    while number < 256 {
+        if has(a, number) {
+            if has(b, number) {
                 return false;
             }
         }
-        k += 1;
+        number += 1;
     }
     true
 }

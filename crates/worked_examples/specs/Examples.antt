@@ -42,6 +42,7 @@ stateOf n size missing volumes = record {
   size = size;
   files = λ f. not (listed f missing);
   volumes = λ v. listed v volumes;
+  quarantined = λ v. false;
 }
 
 -- n = 2, sizes 2 and 1

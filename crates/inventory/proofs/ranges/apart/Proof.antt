@@ -15,10 +15,10 @@ use Rattle.inventory.proofs.ranges.apart.Statement.{statement}
 use Rattle.inventory.proofs.ranges.apart.Tie as tie
 
 abbrev Inv-loop : tie.InvT-loop
-Inv-loop a b k₀ k = (k ≤ 256) × ((j : ℕ) → j < k → not (member a j && member b j) ≡ true)
+Inv-loop a b number₀ number = (number ≤ 256) × ((j : ℕ) → j < number → not (member a j && member b j) ≡ true)
 
 abbrev μ-loop : tie.MeasureT-loop
-μ-loop a b k₀ k = 256 - k
+μ-loop a b number₀ number = 256 - number
 
 loop-holds : tie.Need-loop-holds Inv-loop μ-loop
 loop-holds c = (omega arith, λ j l. absurd (not-suc-le-zero l))
@@ -28,7 +28,7 @@ unfolding apart
 returns c =
     let l = c .before .before .before .before .before .loop in
     let a = c .before .before .before .before .before .before .args in
-    sym (all-false 256 (λ k. not (member (a .a) k && member (a .b) k)) (l .k) (omega arith)
+    sym (all-false 256 (λ k. not (member (a .a) k && member (a .b) k)) (l .number) (omega arith)
     (ap₂ (λ (x y : Bool). not (x && y)) (sym (c .before .before .before .has .ensures) ∙ c .before .before .if1 .taken)
     (sym (c .before .has2 .ensures) ∙ c .if2 .taken)))
 
@@ -36,10 +36,10 @@ loop-again : tie.Need-loop-again Inv-loop μ-loop
 loop-again c =
     let l = c .before .before .before .loop in
     let a = c .before .before .before .before .args in
-    let in-a = member (a .a) (l .k) in
-    let in-b = member (a .b) (l .k) in (
+    let in-a = member (a .a) (l .number) in
+    let in-b = member (a .b) (l .number) in (
       omega arith,
-      one-more (λ k. not (member (a .a) k && member (a .b) k) ≡ true) (l .k) (l .inv .1)
+      one-more (λ k. not (member (a .a) k && member (a .b) k) ≡ true) (l .number) (l .inv .1)
           (⊎-elim (λ w. ap (λ (x : Bool). not (in-a && x)) (sym (w .1 .ensures) ∙ w .2 .left) ∙ ap not (and-false in-a))
           (λ w. ap (λ (x : Bool). not (x && in-b)) (sym (c .before .has .ensures) ∙ w .left)) (c .if1 .came)),
     )
@@ -49,7 +49,7 @@ unfolding apart
 returns-2 c =
     let l = c .before .loop in
     let a = c .before .before .args in
-    let e : l .k ≡ 256 = omega arith in
+    let e : l .number ≡ 256 = omega arith in
     sym (all-true 256 (λ k. not (member (a .a) k && member (a .b) k)) (rw e at (l .inv .1)))
 
 pub apart-spec : {M : Type 1} → statement M
