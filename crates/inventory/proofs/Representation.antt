@@ -20,7 +20,7 @@ use Rattle.number_sets.specs.Sets.{member, inserted, removed}
 use Rattle.inventory.specs.Recoverable.{State}
 use Rattle.inventory.specs.Model as M
 use Rattle.inventory.specs.Model.{Change, addFile, removeFile, addVolume, removeVolume, quarantine, release}
-use Rattle.inventory.specs.Model.{insert, remove, changed, numberOf}
+use Rattle.inventory.specs.Model.{insert, remove, changed}
 use Rattle.inventory.specs.Model.{Call, change, count, query, Reply, numbered, queried, next, Gives}
 use Rattle.inventory.specs.Steps.{within, apart, isInventory, ifInventory, inRange, whileQuarantined, already, changeNumber, unlessRefused}
 use Rattle.inventory.specs.Steps.{accepted, withFiles, withVolumes, afterChange, changeStep, countStep, answerNumber}

@@ -117,12 +117,8 @@ impl Inventory {
     {
         let volumes = self.volumes;
         let quarantined = self.quarantined;
-        let number = change_number(
-            self,
-            is_volume(self.n, volume),
-            has(quarantined, volume),
-            has(volumes, volume),
-        );
+        let ranged = is_volume(self.n, volume);
+        let number = change_number(self, ranged, has(quarantined, volume), has(volumes, volume));
         let now = unless_refused(number, insert(volumes, volume), volumes);
         self.volumes = now;
         Outcome { next: self, number }
@@ -134,8 +130,9 @@ impl Inventory {
     {
         let volumes = self.volumes;
         let quarantined = self.quarantined;
+        let ranged = is_volume(self.n, volume);
         let held = either(has(volumes, volume), has(quarantined, volume));
-        let number = change_number(self, is_volume(self.n, volume), false, !held);
+        let number = change_number(self, ranged, false, !held);
         let now = unless_refused(number, remove(volumes, volume), volumes);
         let rest = unless_refused(number, remove(quarantined, volume), quarantined);
         self.volumes = now;
@@ -149,12 +146,8 @@ impl Inventory {
     {
         let volumes = self.volumes;
         let quarantined = self.quarantined;
-        let number = change_number(
-            self,
-            is_volume(self.n, volume),
-            false,
-            !has(volumes, volume),
-        );
+        let ranged = is_volume(self.n, volume);
+        let number = change_number(self, ranged, false, !has(volumes, volume));
         let present = unless_refused(number, remove(volumes, volume), volumes);
         let aside = unless_refused(number, insert(quarantined, volume), quarantined);
         self.volumes = present;
@@ -168,12 +161,8 @@ impl Inventory {
     {
         let volumes = self.volumes;
         let quarantined = self.quarantined;
-        let number = change_number(
-            self,
-            is_volume(self.n, volume),
-            false,
-            !has(quarantined, volume),
-        );
+        let ranged = is_volume(self.n, volume);
+        let number = change_number(self, ranged, false, !has(quarantined, volume));
         let present = unless_refused(number, insert(volumes, volume), volumes);
         let aside = unless_refused(number, remove(quarantined, volume), quarantined);
         self.volumes = present;
