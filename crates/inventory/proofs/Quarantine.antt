@@ -3,11 +3,12 @@
 --   quarantine-as-removal-for, quarantine-as-removal     after quarantine of a volume replies to calls elsewhere are those after its removal:
 --                             over any rule, and at document 01's
 --   release-as-adding-for, release-as-adding     after release of a volume all replies are those after its removal and its addition
+--   quarantine-refusals-for, quarantine-refusals     what is refused of a volume in quarantine, and of one that is withdrawn
 -- Assumes nothing.
 use mathlib.Core.Path.{_≡_, refl, sym, ap, ap₂, _∙_, subst, fun-ext}
 use mathlib.Core.Bool.{Bool, true, false, not, cond, _&&_, _||_}
-use mathlib.Core.List.{List, _∷_, List·Memᴰ}
-use Prim.Native.Nat.{ℕ, _<_, _≤_}
+use mathlib.Core.List.{List, [], _∷_, List·Memᴰ}
+use Prim.Native.Nat.{ℕ, suc, _<_, _≤_}
 use native.Mathlib.Omega.{arith}
 use lib.Dec.{eqb}
 use borrow.Author.Tests.{ne-eqb}
@@ -16,11 +17,13 @@ use Rattle.parity.proofs.Coefficients.{coefficient-byte}
 use Rattle.inventory.specs.Recoverable.{State, isVolume}
 use Rattle.inventory.specs.Model.{Change, addVolume, removeVolume, quarantine, release, insert, remove, withVolumes, changed, numberOf}
 use Rattle.inventory.specs.Model.{Call, change, Reply, numbered, opened, next, after, Gives, GivesAll}
-use Rattle.inventory.specs.Steps.{openStep}
+use Rattle.inventory.specs.Steps.{openStep, inRange}
 use Rattle.inventory.specs.Claim.{sizeIn, Given, Elsewhere, AllAgree}
-use Rattle.inventory.specs.Claim.{QuarantineAsRemovalFor, ReleaseAsAddingFor, QuarantineAsRemoval, ReleaseAsAdding}
+use Rattle.inventory.specs.Claim.{QuarantineAsRemovalFor, ReleaseAsAddingFor, QuarantineRefusalsFor}
+use Rattle.inventory.specs.Claim.{QuarantineAsRemoval, ReleaseAsAdding, QuarantineRefusals}
 use Rattle.inventory.specs.declared.Inventory.{Inventory}
-use Rattle.inventory.proofs.ModelSets.{remove-here}
+use Rattle.inventory.proofs.ModelSets.{insert-here, remove-here}
+use Rattle.inventory.proofs.ChangeNumbers.{accepted-tests}
 use Rattle.inventory.proofs.Calls.{after-same, givesAll-one}
 use Rattle.inventory.proofs.Representation.{Represents}
 use Rattle.inventory.proofs.Openings.{opened-represents}
@@ -111,9 +114,64 @@ module _ (rule : ℕ → ℕ → ℕ) (small : (f v : ℕ) → f < 256 → rule 
             (subst (λ (x : State). GivesAll rule x more r′) (next-accepted u v addVolume added ∙ release-same t v) h),
       )
 
+-- ---- what the model refuses
+
+module _ (t : State) (v : ℕ) (ranged : isVolume (t .n) v ≡ true) where
+  quarantined-27 : t .quarantined v ≡ true → numberOf t addVolume v ≡ 27
+  unfolding numberOf
+  quarantined-27 q = simp (ranged, q)
+
+  not-present-11 : t .volumes v ≡ false → numberOf t quarantine v ≡ 11
+  unfolding numberOf
+  not-present-11 q = simp (ranged, q)
+
+  not-quarantined-11 : t .quarantined v ≡ false → numberOf t release v ≡ 11
+  unfolding numberOf
+  not-quarantined-11 q = simp (ranged, q)
+
+next-refused : (t : State) (v : ℕ) (c : Change) (k : ℕ) → numberOf t c v ≡ suc k → next t (change c v) ≡ t
+unfolding next
+next-refused t v c k e = ap (λ (b : Bool). cond b (changed c t v) t) (ne-eqb (numberOf t c v) 0 (λ z. omega arith))
+
+-- a change that is accepted, and two that are refused after it
+two-refused : (rule : ℕ → ℕ → ℕ) (t u : State) (v j k : ℕ) (a b c : Change) (r r′ : Reply) → next t (change a v) ≡ u
+    → numberOf u b v ≡ suc j → numberOf u c v ≡ k → GivesAll rule t (change a v ∷ change b v ∷ change c v ∷ []) (numbered 0 ∷ r ∷ r′ ∷ [])
+    → (r ≡ numbered (suc j)) × (r′ ≡ numbered k)
+unfolding Gives GivesAll
+two-refused rule t u v j k a b c r r′ to p q g = (
+  g .1 .0 ∙ ap numbered (ap (λ (x : State). numberOf x b v) to ∙ p),
+  g .1 .1 .0 ∙ ap numbered (ap (λ (x : State). numberOf x c v) (ap (λ (x : State). next x (change b v)) to ∙ next-refused u v b j p) ∙ q),
+)
+
+module _ (rule : ℕ → ℕ → ℕ) (t : State) (v : ℕ) (r r′ : Reply) where
+  -- a change whose reply is 0 is accepted
+  first-accepted : (c : Change) (cs : List Call) (rs : List Reply) → GivesAll rule t (change c v ∷ cs) (numbered 0 ∷ rs) → numberOf t c v ≡ 0
+  unfolding Gives GivesAll
+  first-accepted c cs rs g = sym (number-is 0 (numberOf t c v) (g .0))
+
+  quarantine-refuses : GivesAll rule t (change quarantine v ∷ change addVolume v ∷ change quarantine v ∷ []) (numbered 0 ∷ r ∷ r′ ∷ [])
+      → (r ≡ numbered 27) × (r′ ≡ numbered 11)
+  unfolding changed inRange
+  quarantine-refuses g =
+      let accepted = first-accepted quarantine _ _ g in
+      let ranged = accepted-tests t quarantine v accepted .0 in
+      let u : State = changed quarantine t v in
+      two-refused rule t u v 26 11 quarantine addVolume quarantine r r′ (next-accepted t v quarantine accepted)
+      (quarantined-27 u v ranged (insert-here (t .quarantined) v)) (not-present-11 u v ranged (remove-here (t .volumes) v)) g
+
+  removal-refuses : GivesAll rule t (change removeVolume v ∷ change quarantine v ∷ change release v ∷ []) (numbered 0 ∷ r ∷ r′ ∷ [])
+      → (r ≡ numbered 11) × (r′ ≡ numbered 11)
+  unfolding changed inRange
+  removal-refuses g =
+      let accepted = first-accepted removeVolume _ _ g in
+      let ranged = accepted-tests t removeVolume v accepted .0 in
+      let u : State = changed removeVolume t v in
+      two-refused rule t u v 10 11 removeVolume quarantine release r r′ (next-accepted t v removeVolume accepted)
+      (not-present-11 u v ranged (remove-here (t .volumes) v)) (not-quarantined-11 u v ranged (remove-here (t .quarantined) v)) g
+
 -- ---- inventories that calls give
 
-module _ (rule : ℕ → ℕ → ℕ) (small : (f v : ℕ) → f < 256 → rule f v < 256) (s : Inventory) (given : Given rule s) where
+module _ (rule : ℕ → ℕ → ℕ) (s : Inventory) (given : Given rule s) where
   -- a state that the inventory stands for
   stands : (size : ℕ → ℕ) × (t : State) × (t .n ≤ 254) × Represents size t s
   stands =
@@ -128,16 +186,26 @@ module _ (rule : ℕ → ℕ → ℕ) (small : (f v : ℕ) → f < 256 → rule 
 
 pub quarantine-as-removal-for : (rule : ℕ → ℕ → ℕ) → ((f v : ℕ) → f < 256 → rule f v < 256) → QuarantineAsRemovalFor rule
 quarantine-as-removal-for rule small s given v more away k r r′ e e′ run run′ =
-    let (size, t, fits, R) = stands rule small s given in
+    let (size, t, fits, R) = stands rule s given in
     removal-agrees rule small t fits v more away k r r′ (sound rule size t s _ _ e R run .0) (sound rule size t s _ _ e′ R run′ .0)
 
 pub release-as-adding-for : (rule : ℕ → ℕ → ℕ) → ((f v : ℕ) → f < 256 → rule f v < 256) → ReleaseAsAddingFor rule
 release-as-adding-for rule small s given v more j k r r′ e e′ run run′ =
-    let (size, t, fits, R) = stands rule small s given in
+    let (size, t, fits, R) = stands rule s given in
     adding-same rule small t fits v more j k r r′ (sound rule size t s _ _ e R run .0) (sound rule size t s _ _ e′ R run′ .0)
+
+pub quarantine-refusals-for : (rule : ℕ → ℕ → ℕ) → QuarantineRefusalsFor rule
+quarantine-refusals-for rule s given v r r′ e =
+    let (size, t, fits, R) = stands rule s given in (
+      λ run. quarantine-refuses rule t v r r′ (sound rule size t s _ _ e R run .0),
+      λ run. removal-refuses rule t v r r′ (sound rule size t s _ _ e R run .0),
+    )
 
 pub quarantine-as-removal : QuarantineAsRemoval
 quarantine-as-removal = quarantine-as-removal-for coefficient coefficient-byte
 
 pub release-as-adding : ReleaseAsAdding
 release-as-adding = release-as-adding-for coefficient coefficient-byte
+
+pub quarantine-refusals : QuarantineRefusals
+quarantine-refusals = quarantine-refusals-for coefficient

@@ -15,13 +15,15 @@
 --   AllAgree cs rs rs′        so are those to the calls cs
 --   Condition rule n size o cs rs s     what holds after the calls cs on the inventory o opened for n files of these sizes
 --   ConditionFor rule         it holds for every accepted opening and every list of calls
---   AnsweredFor rule, ExactlyGivenFor rule, QuarantineAsRemovalFor rule, ReleaseAsAddingFor rule     claims, over any rule
+--   AnsweredFor rule, ExactlyGivenFor rule, QuarantineAsRemovalFor rule, ReleaseAsAddingFor rule, QuarantineRefusalsFor rule
+--                             claims, over any rule
 -- The claims:
 --   Condition3                the condition
 --   Answered                  every list of calls has its replies, on whatever inventory
 --   Retold                    what is present and what is quarantined can be told to a new inventory
 --   QuarantineAsRemoval       after quarantine of a volume every reply to calls elsewhere is that after its removal
 --   ReleaseAsAdding           after release of a volume every reply is that after its removal, which is accepted, and its addition
+--   QuarantineRefusals        what is refused of a volume in quarantine, and of one that is neither present nor in quarantine
 --   OneReply                  the model has one reply at most to each call
 --   OneAnswer, OneCount       what a query and a count promise determines the answer and the room
 --   ExactlyGiven              calls give what isInventory says, and nothing else
@@ -188,6 +190,16 @@ module _ (rule : ℕ → ℕ → ℕ) where
       → Run s (change removeVolume v ∷ change addVolume v ∷ more) (numbered j ∷ numbered k ∷ r′) e′
       → (j ≡ 0) × (k ≡ 0) × (r ≡ r′)
 
+  -- a volume that is set aside is noted, and set aside again; one that is withdrawn is set aside, and taken back
+  abbrev pub QuarantineRefusalsFor : Type 0
+  QuarantineRefusalsFor =
+      (s : Inventory) → Given s
+      → (v : ℕ) (r r′ : Reply) (e : Inventory)
+      → (Run s (change quarantine v ∷ change addVolume v ∷ change quarantine v ∷ []) (numbered 0 ∷ r ∷ r′ ∷ []) e
+      → (r ≡ numbered 27) × (r′ ≡ numbered 11))
+      × (Run s (change removeVolume v ∷ change quarantine v ∷ change release v ∷ []) (numbered 0 ∷ r ∷ r′ ∷ []) e
+      → (r ≡ numbered 11) × (r′ ≡ numbered 11))
+
 -- ---- the claims
 
 -- proved: proofs/Condition.antt, `condition`
@@ -213,6 +225,11 @@ QuarantineAsRemoval = QuarantineAsRemovalFor coefficient
 -- proved: proofs/Quarantine.antt, `release-as-adding`
 abbrev pub ReleaseAsAdding : Type 0
 ReleaseAsAdding = ReleaseAsAddingFor coefficient
+
+-- "27 noted while set aside; 11 for setting aside what is not in hand, or taking back what is not set aside"
+-- proved: proofs/Quarantine.antt, `quarantine-refusals`
+abbrev pub QuarantineRefusals : Type 0
+QuarantineRefusals = QuarantineRefusalsFor coefficient
 
 -- proved: proofs/Calls.antt, `one-reply`
 abbrev pub OneReply : Type 0
