@@ -20,7 +20,8 @@ replies s ((c, k) ∷ cs) = numbered (changeStep c s k .number) ∷ replies (cha
 start : Inventory
 start = openStep 2 (2 ∷ 1 ∷ []) .next
 
--- a volume that is set aside is noted (27) and set aside again (11); another is taken back (11); it is withdrawn, and is neither (11, 11)
+-- a volume that is set aside is noted (27) and set aside again (11); another is taken back (11); one out of range
+-- is set aside and taken back (10, 10); it is withdrawn, and is neither (11, 11)
 set-aside : replies start
     ((addVolume, 4)
     ∷ (quarantine, 4)
@@ -28,6 +29,7 @@ set-aside : replies start
     ∷ (quarantine, 4)
     ∷ (release, 5)
     ∷ (quarantine, 254)
+    ∷ (release, 254)
     ∷ (addVolume, 253)
     ∷ (quarantine, 253)
     ∷ (removeVolume, 4)
@@ -39,6 +41,7 @@ set-aside : replies start
     ∷ numbered 27
     ∷ numbered 11
     ∷ numbered 11
+    ∷ numbered 10
     ∷ numbered 10
     ∷ numbered 0
     ∷ numbered 0

@@ -3,7 +3,8 @@
 --   quarantine-as-removal-for, quarantine-as-removal     after quarantine of a volume replies to calls elsewhere are those after its removal:
 --                             over any rule, and at document 01's
 --   release-as-adding-for, release-as-adding     after release of a volume all replies are those after its removal and its addition
---   quarantine-refusals-for, quarantine-refusals     what is refused of a volume in quarantine, and of one that is withdrawn
+--   quarantine-refusals-for, quarantine-refusals     what is refused of a volume in quarantine, and of one that is withdrawn; it is released
+--                             once, and removed once
 -- Assumes nothing.
 use mathlib.Core.Path.{_≡_, refl, sym, ap, ap₂, _∙_, subst, fun-ext}
 use mathlib.Core.Bool.{Bool, true, false, not, cond, _&&_, _||_}
@@ -129,18 +130,31 @@ module _ (t : State) (v : ℕ) (ranged : isVolume (t .n) v ≡ true) where
   unfolding numberOf
   not-quarantined-11 q = simp (ranged, q)
 
+  quarantined-0 : t .quarantined v ≡ true → numberOf t release v ≡ 0
+  unfolding numberOf
+  quarantined-0 q = simp (ranged, q)
+
+  aside-removed-0 : t .volumes v ≡ false → t .quarantined v ≡ true → numberOf t removeVolume v ≡ 0
+  unfolding numberOf
+  aside-removed-0 p q = simp (ranged, p, q)
+
+  neither-11 : t .volumes v ≡ false → t .quarantined v ≡ false → numberOf t removeVolume v ≡ 11
+  unfolding numberOf
+  neither-11 p q = simp (ranged, p, q)
+
 next-refused : (t : State) (v : ℕ) (c : Change) (k : ℕ) → numberOf t c v ≡ suc k → next t (change c v) ≡ t
 unfolding next
 next-refused t v c k e = ap (λ (b : Bool). cond b (changed c t v) t) (ne-eqb (numberOf t c v) 0 (λ z. omega arith))
 
--- a change that is accepted, and two that are refused after it
-two-refused : (rule : ℕ → ℕ → ℕ) (t u : State) (v j k : ℕ) (a b c : Change) (r r′ : Reply) → next t (change a v) ≡ u
-    → numberOf u b v ≡ suc j → numberOf u c v ≡ k → GivesAll rule t (change a v ∷ change b v ∷ change c v ∷ []) (numbered 0 ∷ r ∷ r′ ∷ [])
-    → (r ≡ numbered (suc j)) × (r′ ≡ numbered k)
+-- three changes, one after another, the first of which is accepted
+two-replies : (rule : ℕ → ℕ → ℕ) (t u w : State) (v j k : ℕ) (a b c : Change) (r r′ : Reply) → next t (change a v) ≡ u
+    → next u (change b v) ≡ w → numberOf u b v ≡ j → numberOf w c v ≡ k
+    → GivesAll rule t (change a v ∷ change b v ∷ change c v ∷ []) (numbered 0 ∷ r ∷ r′ ∷ [])
+    → (r ≡ numbered j) × (r′ ≡ numbered k)
 unfolding Gives GivesAll
-two-refused rule t u v j k a b c r r′ to p q g = (
+two-replies rule t u w v j k a b c r r′ to on p q g = (
   g .1 .0 ∙ ap numbered (ap (λ (x : State). numberOf x b v) to ∙ p),
-  g .1 .1 .0 ∙ ap numbered (ap (λ (x : State). numberOf x c v) (ap (λ (x : State). next x (change b v)) to ∙ next-refused u v b j p) ∙ q),
+  g .1 .1 .0 ∙ ap numbered (ap (λ (x : State). numberOf x c v) (ap (λ (x : State). next x (change b v)) to ∙ on) ∙ q),
 )
 
 module _ (rule : ℕ → ℕ → ℕ) (t : State) (v : ℕ) (r r′ : Reply) where
@@ -156,8 +170,9 @@ module _ (rule : ℕ → ℕ → ℕ) (t : State) (v : ℕ) (r r′ : Reply) whe
       let accepted = first-accepted quarantine _ _ g in
       let ranged = accepted-tests t quarantine v accepted .0 in
       let u : State = changed quarantine t v in
-      two-refused rule t u v 26 11 quarantine addVolume quarantine r r′ (next-accepted t v quarantine accepted)
-      (quarantined-27 u v ranged (insert-here (t .quarantined) v)) (not-present-11 u v ranged (remove-here (t .volumes) v)) g
+      let noted = quarantined-27 u v ranged (insert-here (t .quarantined) v) in
+      two-replies rule t u u v 27 11 quarantine addVolume quarantine r r′ (next-accepted t v quarantine accepted)
+      (next-refused u v addVolume 26 noted) noted (not-present-11 u v ranged (remove-here (t .volumes) v)) g
 
   removal-refuses : GivesAll rule t (change removeVolume v ∷ change quarantine v ∷ change release v ∷ []) (numbered 0 ∷ r ∷ r′ ∷ [])
       → (r ≡ numbered 11) × (r′ ≡ numbered 11)
@@ -166,8 +181,34 @@ module _ (rule : ℕ → ℕ → ℕ) (t : State) (v : ℕ) (r r′ : Reply) whe
       let accepted = first-accepted removeVolume _ _ g in
       let ranged = accepted-tests t removeVolume v accepted .0 in
       let u : State = changed removeVolume t v in
-      two-refused rule t u v 10 11 removeVolume quarantine release r r′ (next-accepted t v removeVolume accepted)
-      (not-present-11 u v ranged (remove-here (t .volumes) v)) (not-quarantined-11 u v ranged (remove-here (t .quarantined) v)) g
+      let aside = not-present-11 u v ranged (remove-here (t .volumes) v) in
+      two-replies rule t u u v 11 11 removeVolume quarantine release r r′ (next-accepted t v removeVolume accepted)
+      (next-refused u v quarantine 10 aside) aside (not-quarantined-11 u v ranged (remove-here (t .quarantined) v)) g
+
+  release-once : GivesAll rule t (change quarantine v ∷ change release v ∷ change release v ∷ []) (numbered 0 ∷ r ∷ r′ ∷ [])
+      → (r ≡ numbered 0) × (r′ ≡ numbered 11)
+  unfolding changed inRange
+  release-once g =
+      let accepted = first-accepted quarantine _ _ g in
+      let ranged = accepted-tests t quarantine v accepted .0 in
+      let u : State = changed quarantine t v in
+      let back = quarantined-0 u v ranged (insert-here (t .quarantined) v) in
+      two-replies rule t u (changed release u v) v 0 11 quarantine release release r r′ (next-accepted t v quarantine accepted)
+      (next-accepted u v release back) back
+      (not-quarantined-11 (changed release u v) v ranged (remove-here (u .quarantined) v)) g
+
+  removal-once : GivesAll rule t (change quarantine v ∷ change removeVolume v ∷ change removeVolume v ∷ []) (numbered 0 ∷ r ∷ r′ ∷ [])
+      → (r ≡ numbered 0) × (r′ ≡ numbered 11)
+  unfolding changed inRange
+  removal-once g =
+      let accepted = first-accepted quarantine _ _ g in
+      let ranged = accepted-tests t quarantine v accepted .0 in
+      let u : State = changed quarantine t v in
+      let w : State = changed removeVolume u v in
+      let gone = aside-removed-0 u v ranged (remove-here (t .volumes) v) (insert-here (t .quarantined) v) in
+      two-replies rule t u w v 0 11 quarantine removeVolume removeVolume r r′ (next-accepted t v quarantine accepted)
+      (next-accepted u v removeVolume gone) gone
+      (neither-11 w v ranged (remove-here (u .volumes) v) (remove-here (u .quarantined) v)) g
 
 -- ---- inventories that calls give
 
@@ -199,6 +240,8 @@ quarantine-refusals-for rule s given v r r′ e =
     let (size, t, fits, R) = stands rule s given in (
       λ run. quarantine-refuses rule t v r r′ (sound rule size t s _ _ e R run .0),
       λ run. removal-refuses rule t v r r′ (sound rule size t s _ _ e R run .0),
+      λ run. release-once rule t v r r′ (sound rule size t s _ _ e R run .0),
+      λ run. removal-once rule t v r r′ (sound rule size t s _ _ e R run .0),
     )
 
 pub quarantine-as-removal : QuarantineAsRemoval

@@ -23,7 +23,8 @@
 --   Retold                    what is present and what is quarantined can be told to a new inventory
 --   QuarantineAsRemoval       after quarantine of a volume every reply to calls elsewhere is that after its removal
 --   ReleaseAsAdding           after release of a volume every reply is that after its removal, which is accepted, and its addition
---   QuarantineRefusals        what is refused of a volume in quarantine, and of one that is neither present nor in quarantine
+--   QuarantineRefusals        what is refused of a volume in quarantine, and of one that is neither present nor in quarantine; and that one in
+--                             quarantine is released once, and removed once
 --   OneReply                  the model has one reply at most to each call
 --   OneAnswer, OneCount       what a query and a count promise determines the answer and the room
 --   ExactlyGiven              calls give what isInventory says, and nothing else
@@ -190,7 +191,8 @@ module _ (rule : ℕ → ℕ → ℕ) where
       → Run s (change removeVolume v ∷ change addVolume v ∷ more) (numbered j ∷ numbered k ∷ r′) e′
       → (j ≡ 0) × (k ≡ 0) × (r ≡ r′)
 
-  -- a volume that is set aside is noted, and set aside again; one that is withdrawn is set aside, and taken back
+  -- a volume that is set aside is noted, and set aside again; one that is withdrawn is set aside, and taken back; one that is set aside is
+  -- taken back, and again; or withdrawn, and again
   abbrev pub QuarantineRefusalsFor : Type 0
   QuarantineRefusalsFor =
       (s : Inventory) → Given s
@@ -199,6 +201,10 @@ module _ (rule : ℕ → ℕ → ℕ) where
       → (r ≡ numbered 27) × (r′ ≡ numbered 11))
       × (Run s (change removeVolume v ∷ change quarantine v ∷ change release v ∷ []) (numbered 0 ∷ r ∷ r′ ∷ []) e
       → (r ≡ numbered 11) × (r′ ≡ numbered 11))
+      × (Run s (change quarantine v ∷ change release v ∷ change release v ∷ []) (numbered 0 ∷ r ∷ r′ ∷ []) e
+      → (r ≡ numbered 0) × (r′ ≡ numbered 11))
+      × (Run s (change quarantine v ∷ change removeVolume v ∷ change removeVolume v ∷ []) (numbered 0 ∷ r ∷ r′ ∷ []) e
+      → (r ≡ numbered 0) × (r′ ≡ numbered 11))
 
 -- ---- the claims
 
@@ -226,7 +232,8 @@ QuarantineAsRemoval = QuarantineAsRemovalFor coefficient
 abbrev pub ReleaseAsAdding : Type 0
 ReleaseAsAdding = ReleaseAsAddingFor coefficient
 
--- "27 noted while set aside; 11 for setting aside what is not in hand, or taking back what is not set aside"
+-- "27 noted while set aside; 11 for setting aside what is not in hand, or taking back what is not set aside"; "Withdrawing a set-aside volume is
+-- accepted and removes it"
 -- proved: proofs/Quarantine.antt, `quarantine-refusals`
 abbrev pub QuarantineRefusals : Type 0
 QuarantineRefusals = QuarantineRefusalsFor coefficient
