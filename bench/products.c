@@ -5,8 +5,9 @@
 #include <dlfcn.h>
 #include <string.h>
 
-/* A build: the calls that are timed. */
+/* A build: how long an inventory is, and the calls that are timed. */
 struct build {
+    size_t inventory_length;
     uint32_t (*open)(uint64_t, const uint8_t *, size_t, uint8_t *, size_t);
     uint32_t (*add_file)(uint8_t *, size_t, uint64_t);
     uint32_t (*add_volume)(uint8_t *, size_t, uint64_t);
@@ -42,6 +43,23 @@ static struct build load(const char *path) {
     return b;
 }
 
+/* An inventory has been longer since volumes can be in quarantine: the length with which this build takes one. */
+static size_t inventory_length(const struct build *b) {
+    uint8_t sizes[8] = {1}, inventory[PAR1_INVENTORY_BYTES];
+    b->open(1, sizes, sizeof sizes, inventory, sizeof inventory);
+    return b->add_file(inventory, sizeof inventory, 1) == 0 ? sizeof inventory : 104;
+}
+
+/* An inventory in which `missing` files of n are missing, one in `step` from file 1 on, and the first volumes are present. */
+static void fill(const struct build *b, int n, int missing, int step, int volumes, uint8_t *inventory) {
+    uint8_t sizes[8 * 254] = {0};
+    for (int f = 0; f < n; f++) sizes[8 * f] = 1;
+    b->open((uint64_t)n, sizes, 8 * (size_t)n, inventory, b->inventory_length);
+    for (int f = 1; f <= n; f++)
+        if ((f - 1) % step != 0 || (f - 1) / step >= missing) b->add_file(inventory, b->inventory_length, (uint64_t)f);
+    for (int v = 1; v <= volumes; v++) b->add_volume(inventory, b->inventory_length, (uint64_t)v);
+}
+
 static struct build now, before;
 
 /* A row of the table: the times of a call in nanoseconds, and the ratio that is wanted, or 0. Whether that is reached. */
@@ -56,15 +74,13 @@ static int compared(const char *what, double ours, double other, double wanted) 
 
 /* A query for the first of `missing` files of n, one in `step` from file 1 on, with the first volumes present. */
 static int query(int n, int missing, int step, int volumes, int turns, double wanted) {
-    uint8_t sizes[8 * 254] = {0}, inventory[104], ours[255] = {0}, theirs[255] = {0};
+    uint8_t one[PAR1_INVENTORY_BYTES], two[PAR1_INVENTORY_BYTES], ours[255] = {0}, theirs[255] = {0};
+    size_t l = now.inventory_length, m = before.inventory_length;
     double a = 0, b = 0;
-    for (int f = 0; f < n; f++) sizes[8 * f] = 1;
-    now.open((uint64_t)n, sizes, 8 * (size_t)n, inventory, 104);
-    for (int f = 1; f <= n; f++)
-        if ((f - 1) % step != 0 || (f - 1) / step >= missing) now.add_file(inventory, 104, (uint64_t)f);
-    for (int v = 1; v <= volumes; v++) now.add_volume(inventory, 104, (uint64_t)v);
-    uint32_t x = now.query(inventory, 104, 1, ours, 255), y = before.query(inventory, 104, 1, theirs, 255);
-    COMPARE(turns, 1, now.query(inventory, 104, 1, ours, 255), before.query(inventory, 104, 1, theirs, 255), a, b)
+    fill(&now, n, missing, step, volumes, one);
+    fill(&before, n, missing, step, volumes, two);
+    uint32_t x = now.query(one, l, 1, ours, 255), y = before.query(two, m, 1, theirs, 255);
+    COMPARE(turns, 1, now.query(one, l, 1, ours, 255), before.query(two, m, 1, theirs, 255), a, b)
     char what[64];
     snprintf(what, sizeof what, "query, %d missing of %d, one in %d, %d volumes%s", missing, n, step, volumes, x == 12 ? " (12)" : "");
     int same = x == y && memcmp(ours, theirs, 255) == 0;
@@ -90,6 +106,8 @@ int main(int argc, char **argv) {
     if (argc != 3) return 2;
     now = load(argv[1]);
     before = load(argv[2]);
+    now.inventory_length = inventory_length(&now);
+    before.inventory_length = inventory_length(&before);
     int right = 1;
     puts("| what                                                 |  before, ns |     now, ns | ratio | wanted |");
     puts("|---|---|---|---|---|");

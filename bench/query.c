@@ -56,13 +56,13 @@ int main(void) {
         for (int b = 0; b < 256; b++) products[a][b] = product((uint8_t)a, (uint8_t)b);
     for (int i = 0; i < 3; i++) {
         int n = files[i];
-        uint8_t sizes[8 * 254] = {0}, inventory[104], ours[255], loops[255];
+        uint8_t sizes[8 * 254] = {0}, inventory[PAR1_INVENTORY_BYTES], ours[255], loops[255];
         double a = 0, b = 0;
         for (int f = 0; f < n; f++) sizes[8 * f] = 1;
-        par1_open((uint64_t)n, sizes, 8 * (size_t)n, inventory, 104);
-        for (int v = 1; v <= 255 - n; v++) par1_add_volume(inventory, 104, (uint64_t)v);
-        uint32_t number = par1_query(inventory, 104, 1, ours, 255);
-        COMPARE(60, 1, par1_query(inventory, 104, 1, ours, 255), by_loops(n, 1, loops), a, b)
+        par1_open((uint64_t)n, sizes, 8 * (size_t)n, inventory, PAR1_INVENTORY_BYTES);
+        for (int v = 1; v <= 255 - n; v++) par1_add_volume(inventory, PAR1_INVENTORY_BYTES, (uint64_t)v);
+        uint32_t number = par1_query(inventory, PAR1_INVENTORY_BYTES, 1, ours, 255);
+        COMPARE(60, 1, par1_query(inventory, PAR1_INVENTORY_BYTES, 1, ours, 255), by_loops(n, 1, loops), a, b)
         /* The loops do not ask whether the file comes back, so weights are compared only where it does. */
         int same = number == 12 || (number == 0 && memcmp(ours, loops, 255) == 0);
         char what[64];

@@ -38,22 +38,22 @@ static void create(void) {
 static void take_inventory(uint8_t *inventory) {
     uint8_t sizes[8 * FILES] = {0}, parts[56];
     for (int f = 1; f <= FILES; f++) sizes[8 * f - 6] = SIZE >> 16;
-    accepted("open", par1_open(FILES, sizes, sizeof sizes, inventory, 104));
+    accepted("open", par1_open(FILES, sizes, sizeof sizes, inventory, PAR1_INVENTORY_BYTES));
     for (int f = VOLUMES + 1; f <= FILES; f++) {
         accepted("check", par1_check(list + (f - 1) * ENTRY, ENTRY, files[f], SIZE));
-        accepted("add_file", par1_add_file(inventory, 104, (uint64_t)f));
+        accepted("add_file", par1_add_file(inventory, PAR1_INVENTORY_BYTES, (uint64_t)f));
     }
     for (int v = 1; v <= VOLUMES; v++) {
         accepted("read", par1_read(volumes[v], VOLUME_SIZE, parts, 56));
-        accepted("add_volume", par1_add_volume(inventory, 104, (uint64_t)v));
+        accepted("add_volume", par1_add_volume(inventory, PAR1_INVENTORY_BYTES, (uint64_t)v));
     }
 }
 
 static void rebuild(void) {
-    uint8_t inventory[104], weights[255];
+    uint8_t inventory[PAR1_INVENTORY_BYTES], weights[255];
     take_inventory(inventory);
     for (int missing = 1; missing <= VOLUMES; missing++) {
-        accepted("query", par1_query(inventory, 104, (uint64_t)missing, weights, 255));
+        accepted("query", par1_query(inventory, PAR1_INVENTORY_BYTES, (uint64_t)missing, weights, 255));
         memset(rebuilt[missing], 0, SIZE);
         for (int f = VOLUMES + 1; f <= FILES; f++) par1_mul_add(weights[f - 1], files[f], SIZE, rebuilt[missing], SIZE);
         for (int v = 1; v <= VOLUMES; v++) par1_mul_add(weights[FILES + v - 1], volumes[v] + 96 + LIST, SIZE, rebuilt[missing], SIZE);

@@ -48,6 +48,8 @@ static void add_file(void) { number = par1_add_file(inventory, sizeof inventory,
 static void remove_file(void) { number = par1_remove_file(inventory, sizeof inventory, 1); }
 static void add_volume(void) { number = par1_add_volume(inventory, sizeof inventory, 128); }
 static void remove_volume(void) { number = par1_remove_volume(inventory, sizeof inventory, 128); }
+static void quarantine(void) { number = par1_quarantine(inventory, sizeof inventory, 128); }
+static void release(void) { number = par1_release(inventory, sizeof inventory, 128); }
 static void count(void) { number = par1_count(inventory, sizeof inventory, room, VOLUME); }
 static void query(void) { number = par1_query(inventory, sizeof inventory, 1, room, VOLUME); }
 
@@ -61,7 +63,7 @@ static const struct { const char *name; void (*run)(void); } calls[] = {
     {"par1_mul_add_start", mul_add_start}, {"par1_mul_add_push", mul_add_push}, {"par1_mul_add_end", mul_add_end},
     {"par1_read_start", read_start}, {"par1_read_push", read_push}, {"par1_read_end", read_end},
     {"par1_open", open_}, {"par1_add_file", add_file}, {"par1_remove_file", remove_file}, {"par1_add_volume", add_volume},
-    {"par1_remove_volume", remove_volume}, {"par1_count", count}, {"par1_query", query}};
+    {"par1_quarantine", quarantine}, {"par1_release", release}, {"par1_remove_volume", remove_volume}, {"par1_count", count}, {"par1_query", query}};
 
 /* How far below this function's frame the call changed the stack. */
 static size_t depth(void (*call)(void)) {

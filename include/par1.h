@@ -35,7 +35,7 @@ enum {
     PAR1_SET_HASH = 8,      /* the set hash differs */
     PAR1_DATA_SIZE = 9,     /* the data's size is odd in an index, or in a volume not the greatest file size among the saved entries */
     PAR1_OUT_OF_RANGE = 10, /* a number is out of range, no calls give the inventory, 0 has no inverse, or an index is to be amended or added */
-    PAR1_ALREADY = 11,      /* present already, or not present */
+    PAR1_ALREADY = 11,      /* present already, or not present, or not in quarantine */
     PAR1_UNDETERMINED = 12, /* what is present does not determine the file */
     PAR1_PRESENT = 13,      /* the file is present */
     PAR1_NO_ROOM = 14,      /* the bytes lent for the result, or for a volume to be amended, are too few */
@@ -51,6 +51,7 @@ enum {
     PAR1_UNFIT = 24,        /* a name that does not fit a line */
     PAR1_ROWS = 25,         /* the volume's list gives other entry rows than the catalog has */
     PAR1_ENTRIES = 26,      /* more than 1,024 entries for a catalog */
+    PAR1_QUARANTINED = 27,  /* the volume is in quarantine */
     PAR1_CATALOG = 30       /* the catalog ends early, or no list and volumes give it */
 };
 
@@ -68,8 +69,8 @@ enum {
     PAR1_MD5_BYTES = 16,
     PAR1_PARTS_BYTES = 56,
     PAR1_ENTRY_BYTES = 24,
-    PAR1_INVENTORY_BYTES = 104,
-    PAR1_COUNT_BYTES = 16,
+    PAR1_INVENTORY_BYTES = 136,
+    PAR1_COUNT_BYTES = 24,
     PAR1_WEIGHTS = 255,
     PAR1_WEIGHTS_BYTES = PAR1_WEIGHTS
 };
@@ -93,7 +94,7 @@ enum {
 
 /* Where the numbers stand that par1_entry writes, and those that par1_count writes. */
 enum { PAR1_ENTRY_LENGTH = 0, PAR1_ENTRY_STATUS = 8, PAR1_ENTRY_FILE_SIZE = 16 };
-enum { PAR1_COUNT_FILES = 0, PAR1_COUNT_VOLUMES = 8 };
+enum { PAR1_COUNT_FILES = 0, PAR1_COUNT_VOLUMES = 8, PAR1_COUNT_QUARANTINED = 16 };
 
 /* Where the list starts in an index file or volume; where an entry has its file's size, its MD5s and its name, which goes to its end. */
 enum { PAR1_LIST_AT = 96, PAR1_FILE_SIZE_AT = 16, PAR1_MD5_AT = 24, PAR1_MD5_16K_AT = 40, PAR1_NAME_AT = 56 };
@@ -294,23 +295,31 @@ uint32_t par1_read_push(uint8_t *job, size_t job_len, const uint8_t *bytes, size
  * then as par1_read, 14 last; that ends the reading too. */
 par1_answer par1_read_end(uint8_t *job, size_t job_len, uint8_t *out, size_t out_len);
 
-/* An inventory says what of a set of n files and their volumes is present. It is 104 bytes, 13 numbers: n; the files present, the volumes
- * present, the files of size 1 or more, four words each, number k being bit k mod 64 of word k div 64. Every call on one refuses with 10,
- * first of all, bytes of another length or that no calls give. */
+/* An inventory says what of a set of n files and their volumes is present, and which volumes are in quarantine: held, but set aside. It is 136
+ * bytes, 17 numbers: n; the files present, the volumes present, the files of size 1 or more, the volumes in quarantine, four words each, number k
+ * being bit k mod 64 of word k div 64. No volume is both present and in quarantine. Every call on one refuses with 10, first of all, bytes of another
+ * length or that no calls give. */
 
-/* Opens an inventory of n files, whose sizes are n numbers, nothing present, into the first 104 bytes of `inventory`. Refuses with 10 where n
+/* Opens an inventory of n files, whose sizes are n numbers, nothing present, into the first 136 bytes of `inventory`. Refuses with 10 where n
  * is not 1 to 254 or the sizes are not n numbers, with 1 where a size is above 16,777,216, then with 14 where `inventory` is shorter. */
 uint32_t par1_open(uint64_t n, const uint8_t *sizes, size_t sizes_len, uint8_t *inventory, size_t inventory_len);
 
-/* Adds a file or a volume to what is present, or removes it: changes the 104 bytes in place. Refuses with 10 where the number is out of
- * range (files 1 to n, volumes 1 to 255 - n), then with 11 where it is present already, or is not. */
+/* Adds a file or a volume to what is present, or removes it: changes the 136 bytes in place. Refuses with 10 where the number is out of
+ * range (files 1 to n, volumes 1 to 255 - n); then an addition with 27 where the volume is in quarantine, and with 11 where it is present already; a
+ * removal with 11 where it is neither present nor in quarantine. A volume that is removed from quarantine is then neither. */
 uint32_t par1_add_file(uint8_t *inventory, size_t inventory_len, uint64_t file);
 uint32_t par1_remove_file(uint8_t *inventory, size_t inventory_len, uint64_t file);
 uint32_t par1_add_volume(uint8_t *inventory, size_t inventory_len, uint64_t volume);
 uint32_t par1_remove_volume(uint8_t *inventory, size_t inventory_len, uint64_t volume);
 
-/* How many files and how many volumes are present, into the first 16 bytes of `out`: two numbers, at PAR1_COUNT_... Refuses with 14 where
- * `out` is shorter. */
+/* Puts a volume that is present into quarantine, say because a file rebuilt with it differs from its entry (15); and takes it back. For every query
+ * and for the counts of what is present, the first counts as its removal and the second as its addition. Refuses with 10 where the number is out of
+ * range, then with 11 where the volume is not present, or is not in quarantine. */
+uint32_t par1_quarantine(uint8_t *inventory, size_t inventory_len, uint64_t volume);
+uint32_t par1_release(uint8_t *inventory, size_t inventory_len, uint64_t volume);
+
+/* How many files and how many volumes are present, and how many volumes are in quarantine, into the first 24 bytes of `out`: three numbers, at
+ * PAR1_COUNT_... Refuses with 14 where `out` is shorter. */
 uint32_t par1_count(const uint8_t *inventory, size_t inventory_len, uint8_t *out, size_t out_len);
 
 /* Whether a file comes back from what is present. 0: it does, and its 255 weights are the first 255 bytes of `out`, file f's at f - 1,

@@ -21,6 +21,8 @@ extern "C" {
     fn par1_remove_file(inventory: *mut u8, len: usize, file: u64) -> u32;
     fn par1_add_volume(inventory: *mut u8, len: usize, volume: u64) -> u32;
     fn par1_remove_volume(inventory: *mut u8, len: usize, volume: u64) -> u32;
+    fn par1_quarantine(inventory: *mut u8, len: usize, volume: u64) -> u32;
+    fn par1_release(inventory: *mut u8, len: usize, volume: u64) -> u32;
     fn par1_count(inventory: *const u8, len: usize, out: *mut u8, out_len: usize) -> u32;
     fn par1_query(inventory: *const u8, len: usize, file: u64, out: *mut u8, out_len: usize) -> u32;
     fn par1_mul_add(weight: u8, fragment: *const u8, fragment_len: usize, buffer: *mut u8, buffer_len: usize);
@@ -130,6 +132,12 @@ pub fn change(inventory: &[u8], volume: bool, add: bool, number: u64) -> (u32, V
         (true, true) => par1_add_volume,
         (true, false) => par1_remove_volume,
     };
+    lent(inventory, |bytes, len| unsafe { call(bytes, len, number) })
+}
+
+/// Setting a volume aside, or taking it back.
+pub fn set_aside(inventory: &[u8], aside: bool, number: u64) -> (u32, Vec<u8>) {
+    let call = if aside { par1_quarantine } else { par1_release };
     lent(inventory, |bytes, len| unsafe { call(bytes, len, number) })
 }
 

@@ -12,12 +12,16 @@ fn every_call(counts: &mut Counts, random: &mut Random, bytes: &[u8]) {
             let what = || format!("change {volume} {add} {number} of {bytes:?}");
             counts.same(what, calls::change(bytes, volume, add, number), expected::change(bytes, volume, add, number));
         }
+        for aside in [true, false] {
+            let what = || format!("set aside {aside} {number} of {bytes:?}");
+            counts.same(what, calls::set_aside(bytes, aside, number), expected::set_aside(bytes, aside, number));
+        }
         let n = [0, 254, 255, 300][random.below(4)];
         let room = random.bytes(n);
         let what = || format!("query {number} of {bytes:?}");
         counts.same(what, calls::query(bytes, number, &room), expected::query(bytes, number, &room));
     }
-    for room in [0, 15, 16, 20] {
+    for room in [0, 16, 23, 24, 28] {
         let room = vec![5; room];
         counts.same(|| format!("count of {bytes:?}"), calls::count(bytes, &room), expected::count(bytes, &room));
     }
@@ -32,7 +36,7 @@ fn opening(counts: &mut Counts, random: &mut Random) {
                 if random.below(8) == 0 {
                     sizes.push(0);
                 }
-                let n_of_room = [0, 103, 104, 110][random.below(4)];
+                let n_of_room = [0, 104, 135, 136, 140][random.below(5)];
                 let room = random.bytes(n_of_room);
                 let what = || format!("open {n} with {count} sizes");
                 counts.same(what, calls::open(n, &sizes, &room), expected::open(n, &sizes, &room));
@@ -50,8 +54,15 @@ fn lists(counts: &mut Counts, random: &mut Random) {
         for _ in 0..60 {
             let (volume, add) = (random.below(2) == 0, random.below(4) > 0);
             let number = random.below(if volume { 14 } else { n + 2 }) as u64;
-            let got = calls::change(&bytes, volume, add, number);
-            counts.same(|| format!("change {volume} {add} {number}"), got.clone(), expected::change(&bytes, volume, add, number));
+            let got = if random.below(4) > 0 {
+                let got = calls::change(&bytes, volume, add, number);
+                counts.same(|| format!("change {volume} {add} {number}"), got.clone(), expected::change(&bytes, volume, add, number));
+                got
+            } else {
+                let got = calls::set_aside(&bytes, add, number);
+                counts.same(|| format!("set aside {add} {number}"), got.clone(), expected::set_aside(&bytes, add, number));
+                got
+            };
             bytes = got.1;
             let f = random.below(n + 2) as u64;
             let n_of_room = [254, 255, 260][random.below(3)];
@@ -73,7 +84,7 @@ fn invalid(counts: &mut Counts, random: &mut Random) {
             every_call(counts, random, &bytes);
         }
     }
-    for n in [0, 1, 103, 105] {
+    for n in [0, 1, 104, 135, 137] {
         every_call(counts, random, &vec![0; n]);
     }
     every_call(counts, random, &[0; LENGTH]);
@@ -207,7 +218,7 @@ fn large(counts: &mut Counts) {
             counts.same(|| format!("change {volume} {add} {number} of {n}"), got.clone(), expected::change(&bytes, volume, add, number));
             bytes = got.1;
             if !add {
-                counts.same(|| format!("count of {n}"), calls::count(&bytes, &[3; 16]), expected::count(&bytes, &[3; 16]));
+                counts.same(|| format!("count of {n}"), calls::count(&bytes, &[3; 24]), expected::count(&bytes, &[3; 24]));
                 for f in [1, n / 2, n] {
                     counts.same(|| format!("query {f} of {n}"), calls::query(&bytes, f, &[3; 256]), expected::query(&bytes, f, &[3; 256]));
                 }

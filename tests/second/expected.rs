@@ -116,9 +116,15 @@ pub fn change(inventory: &[u8], volume: bool, add: bool, number: u64) -> (u32, V
     (refusal, if refusal == 0 { next.bytes() } else { inventory.to_vec() })
 }
 
+pub fn set_aside(inventory: &[u8], aside: bool, number: u64) -> (u32, Vec<u8>) {
+    let Some(mut next) = Inventory::parse(inventory) else { return (10, inventory.to_vec()) };
+    let refusal = next.set_aside(aside, number);
+    (refusal, if refusal == 0 { next.bytes() } else { inventory.to_vec() })
+}
+
 pub fn count(inventory: &[u8], room: &[u8]) -> (u32, Vec<u8>) {
     let counts = Inventory::parse(inventory).map(|i| i.count()).ok_or(10);
-    written(counts.map(|(files, volumes)| bytes(&[files, volumes])), room)
+    written(counts.map(|counts| bytes(&counts)), room)
 }
 
 pub fn query(inventory: &[u8], file: u64, room: &[u8]) -> (u32, Vec<u8>) {

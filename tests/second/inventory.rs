@@ -1,4 +1,4 @@
-//! What is present of a set, and which missing files come back: written from document 01, "The sheet", alone.
+//! What is present of a set, and which missing files come back: written from document 01, "The sheet", and document 02 (2026-10) alone.
 
 use crate::field::{coefficient, inverse, product};
 
@@ -10,10 +10,11 @@ pub struct Inventory {
     nonempty: Vec<bool>,
     files: Vec<bool>,
     volumes: Vec<bool>,
+    quarantined: Vec<bool>,
 }
 
-/// The 104 bytes of an inventory: n, then three sets of 256 bits.
-pub const LENGTH: usize = 104;
+/// The 136 bytes of an inventory: n, then four sets of 256 bits.
+pub const LENGTH: usize = 136;
 
 fn set_bytes(set: &[bool]) -> Vec<u8> {
     let bit = |k: usize| set.get(k).copied().unwrap_or(false) as u8;
@@ -31,12 +32,13 @@ impl Inventory {
         }
         let mut nonempty = vec![false];
         nonempty.extend(sizes.iter().map(|&s| s > 0));
-        Ok(Inventory { n: n as usize, nonempty, files: vec![false; 256], volumes: vec![false; 256] })
+        let none = vec![false; 256];
+        Ok(Inventory { n: n as usize, nonempty, files: none.clone(), volumes: none.clone(), quarantined: none })
     }
 
     pub fn bytes(&self) -> Vec<u8> {
         let n = (self.n as u64).to_le_bytes().to_vec();
-        [n, set_bytes(&self.files), set_bytes(&self.volumes), set_bytes(&self.nonempty)].concat()
+        [n, set_bytes(&self.files), set_bytes(&self.volumes), set_bytes(&self.nonempty), set_bytes(&self.quarantined)].concat()
     }
 
     /// An inventory that opening and accepted calls could have given, or nothing.
@@ -50,17 +52,24 @@ impl Inventory {
         }
         let n = n as usize;
         let set = |at: usize| (0..256).map(|k| bytes[at + k / 8] >> (k % 8) & 1 == 1).collect::<Vec<bool>>();
-        let (files, volumes, nonempty) = (set(8), set(40), set(72));
+        let (files, volumes, nonempty, quarantined) = (set(8), set(40), set(72), set(104));
         let inside = |set: &[bool], last: usize| (0..256).all(|k| !set[k] || (1..=last).contains(&k));
-        let valid = inside(&files, n) && inside(&nonempty, n) && inside(&volumes, 255 - n);
-        valid.then_some(Inventory { n, nonempty: nonempty[..=n].to_vec(), files, volumes })
+        let apart = (0..256).all(|k| !(volumes[k] && quarantined[k]));
+        let valid = inside(&files, n) && inside(&nonempty, n) && inside(&volumes, 255 - n) && inside(&quarantined, 255 - n) && apart;
+        valid.then_some(Inventory { n, nonempty: nonempty[..=n].to_vec(), files, volumes, quarantined })
     }
 
-    /// The number of adding or removing a file or a volume; where it is 0 the inventory changes.
+    /// The number of adding or removing a file or a volume; where it is 0 the inventory changes. "27 noted while set aside"; "Withdrawing a set-aside
+    /// volume is accepted and removes it".
     pub fn change(&mut self, volume: bool, add: bool, number: u64) -> u32 {
         let (set, last) = if volume { (&mut self.volumes, 255 - self.n) } else { (&mut self.files, self.n) };
         if number < 1 || number > last as u64 {
             return 10;
+        }
+        let aside = &mut self.quarantined[number as usize];
+        if volume && *aside {
+            *aside = add;
+            return if add { 27 } else { 0 };
         }
         let present = &mut set[number as usize];
         if *present == add {
@@ -70,9 +79,24 @@ impl Inventory {
         0
     }
 
-    pub fn count(&self) -> (u64, u64) {
-        let size = |set: &[bool]| set.iter().filter(|&&b| b).count() as u64;
-        (size(&self.files), size(&self.volumes))
+    /// The number of setting a volume aside, or of taking it back: "11 for setting aside what is not in hand, or taking back what is not set aside;
+    /// number checks first".
+    pub fn set_aside(&mut self, aside: bool, number: u64) -> u32 {
+        if number < 1 || number > 255 - self.n as u64 {
+            return 10;
+        }
+        let (from, to) = if aside { (&mut self.volumes, &mut self.quarantined) } else { (&mut self.quarantined, &mut self.volumes) };
+        if !from[number as usize] {
+            return 11;
+        }
+        from[number as usize] = false;
+        to[number as usize] = true;
+        0
+    }
+
+    /// Files and volumes in hand, and "those set aside".
+    pub fn count(&self) -> [u64; 3] {
+        [&self.files, &self.volumes, &self.quarantined].map(|set| set.iter().filter(|&&b| b).count() as u64)
     }
 
     /// The weights of file f, or 10, 13 or 12; the caller tests 14.

@@ -26,6 +26,7 @@ mod compare_md5sum;
 mod compare_mul_add_job;
 mod compare_par1;
 mod compare_parity;
+mod compare_quarantine;
 mod compare_read_cuts;
 mod compare_read_job;
 mod cuts;
@@ -85,7 +86,7 @@ impl Random {
 fn main() {
     let mut counts = Counts { passed: 0, failed: 0 };
     let mut random = Random(2026);
-    let parts: [(&str, fn(&mut Counts, &mut Random)); 20] = [
+    let parts: [(&str, fn(&mut Counts, &mut Random)); 21] = [
         ("md5", compare_md5::run),
         ("field", compare_field::run),
         ("parity", compare_parity::run),
@@ -106,6 +107,7 @@ fn main() {
         ("catalogs", compare_catalog::run),
         ("catalogs refused", compare_catalog_refusals::run),
         ("the checked mark", compare_checked::run),
+        ("quarantine", compare_quarantine::run),
     ];
     for (name, run) in parts {
         let before = counts.passed + counts.failed;
@@ -113,7 +115,7 @@ fn main() {
         println!("{name}: {} comparisons", counts.passed + counts.failed - before);
     }
     for (number, times) in calls::came_back().into_iter().enumerate() {
-        let given = number <= 26 && number != 6 || number == 30;
+        let given = number <= 27 && number != 6 || number == 30;
         if given {
             println!("number {number} came back {times} times");
         }
