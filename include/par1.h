@@ -120,9 +120,9 @@ void par1_mul_add(uint8_t weight, const uint8_t *fragment, size_t fragment_len, 
 par1_answer par1_read(const uint8_t *file, size_t file_len, uint8_t *out, size_t out_len);
 
 /* What the first entry of a list, or of what is left of one, says, into the first 24 bytes of `out`: three numbers, at PAR1_ENTRY_..: its
- * length, its status (bit 0: saved in the parity), its file's size; three zeros where the list is over (list_len is 0), for no entry has the
- * length 0. The entry is the first `length` bytes, and the next one comes after it. Refuses with 16, 17 or 18, the first that holds, where the
- * entry breaks a rule, then with 14 where `out` is shorter. */
+ * length, its status as it stands (bit 0: saved in the parity; no other bit has a meaning), its file's size; three zeros where the list is over
+ * (list_len is 0), for no entry has the length 0. The entry is the first `length` bytes, and the next one comes after it. Refuses with 16, 17 or
+ * 18, the first that holds, where the entry breaks a rule, then with 14 where `out` is shorter. */
 uint32_t par1_entry(const uint8_t *list, size_t list_len, uint8_t *out, size_t out_len);
 
 /* Writes the entry of a file with these contents, status and name (in 16-bit units, two bytes each) over the first 56 + name_len bytes of
@@ -150,6 +150,9 @@ par1_answer par1_write_volume(uint32_t program, uint64_t number, const uint8_t *
  * amendments, given true old bytes and entries, the volume is the one that par1_write_volume writes from the files as they are now. Whether they are
  * true is the caller's: `old` is not held against the data, nor `entry` against the file. An inventory that was opened before is opened again: it
  * knows which files are empty.
+ *
+ * For a file whose status par1_write_entry does not write (old volumes carry 2 and 3), write the entry with 0 or 1 and put the volume's 8 bytes of
+ * status over its bytes 8 to 15.
  *
  * Refuses, in this order, with 14: `length` is above volume_len; 1 to 5, 16 to 19, 7 to 9: as par1_read, with the place in the list; 10: an index,
  * or `file` is not 1 to the number of saved entries; 16, 17 or 18: `entry` breaks a rule, as in par1_check; 21: `old` and `new_` are neither
