@@ -88,8 +88,8 @@ word = tyInt w64
 abbrev shr : Ty
 shr = sliceTy (tyRef (named 0) imm (tyInt w8))
 
-abbrev lent : Ty
-lent = sliceTy (tyRef (named 1) mut (pointee (T.the-row .written)))
+abbrev records : Ty
+records = sliceTy (tyRef (named 1) mut (pointee (T.the-row .written)))
 
 -- the rest of the code after its first statement
 abbrev after : Code → Code
@@ -187,13 +187,13 @@ module _ {M : Type 1} (𝓤 : URA M) (H : Heap 𝓤) (A : Atoms 𝓤) (W : Given
     Λ = 𝓣 .Λ
 
     abbrev En : Env 𝓤 H
-    En = (word, l₀) ∷ (shr, l₁) ∷ (lent, l₂) ∷ (P′.mir, l₃) ∷ (word, l₄) ∷ (word, l₅) ∷ (word, l₆) ∷ (tyBool, l₇) ∷ (T′.mir, l₈) ∷ (word, l₉) ∷ (tyPtr, l₁₀) ∷ []
+    En = (word, l₀) ∷ (shr, l₁) ∷ (records, l₂) ∷ (P′.mir, l₃) ∷ (word, l₄) ∷ (word, l₅) ∷ (word, l₆) ∷ (tyBool, l₇) ∷ (T′.mir, l₈) ∷ (word, l₉) ∷ (tyPtr, l₁₀) ∷ []
 
     -- the locals, at what _6, _5, _4 and _3 hold
     abbrev Locals : Item 𝓤 → Item 𝓤 → Item 𝓤 → Item 𝓤 → List (Item 𝓤)
     Locals i₆ i₅ i₄ i₃ =
         ‵ (froom tyPtr l₁₀ 0) ∷ ‵ (fdies tyPtr l₁₀) ∷ ‵ (froom word l₉ 0) ∷ ‵ (fdies word l₉) ∷ ‵ (froom T′.mir l₈ 0) ∷ ‵ (fdies T′.mir l₈) ∷ ‵ (froom tyBool l₇ 0) ∷ ‵ (fdies tyBool l₇) ∷ i₆ ∷ ‵ (fdies word l₆)
-        ∷ i₅ ∷ ‵ (fdies word l₅) ∷ i₄ ∷ ‵ (fdies word l₄) ∷ i₃ ∷ ‵ (fdies P′.mir l₃) ∷ ‵ (fat fullShare lent l₂ 0 w) ∷ ‵ (fdies lent l₂) ∷ ‵ (fat fullShare shr l₁ 0 u) ∷ ‵ (fdies shr l₁) ∷ ‵ (froom word l₀ 0) ∷ ‵ (fdies word l₀) ∷ []
+        ∷ i₅ ∷ ‵ (fdies word l₅) ∷ i₄ ∷ ‵ (fdies word l₄) ∷ i₃ ∷ ‵ (fdies P′.mir l₃) ∷ ‵ (fat fullShare records l₂ 0 w) ∷ ‵ (fdies records l₂) ∷ ‵ (fat fullShare shr l₁ 0 u) ∷ ‵ (fdies shr l₁) ∷ ‵ (froom word l₀ 0) ∷ ‵ (fdies word l₀) ∷ []
 
     -- the rows at l while their borrow is open
     abbrev Opened : List Row → List (Item 𝓤) → List (Item 𝓤)
