@@ -7,7 +7,7 @@
  * Each call that can refuse answers the number 0 where it is accepted, else the number of its refusal; a par1_answer tells more beside it. A
  * refused call changes no byte, but that the end of a job ends it (see Jobs). A call reads and writes only the bytes it is lent, each a pointer and
  * a length; bytes past those written stay as they were. The pointer is not NULL, also where the length is 0: lend the address of any byte. Bytes
- * that a call writes must not overlap others that it is lent. Numbers in lent bytes are 64 bits wide, lowest byte first.
+ * that a call writes must not overlap others that it is lent. Numbers in lent bytes are 64 bits wide, in a catalog 32 or 64, lowest byte first.
  *
  * Stack: par1_query takes 67 KiB; par1_md5, par1_read, par1_write_entry, par1_write_volume, par1_amend, par1_compare, par1_export, par1_import,
  * par1_catalog_open, par1_catalog_add, par1_check, par1_open, par1_hash_push, par1_hash_end and the calls on a reading in chunks less than 4 KiB; the
@@ -38,7 +38,7 @@ enum {
     PAR1_ALREADY = 11,      /* present already, or not present, or not in quarantine */
     PAR1_UNDETERMINED = 12, /* what is present does not determine the file */
     PAR1_PRESENT = 13,      /* the file is present */
-    PAR1_NO_ROOM = 14,      /* the bytes lent for the result, or for a volume to be amended, are too few */
+    PAR1_NO_ROOM = 14,      /* the bytes or records lent for the result, or the bytes for a volume to be amended, are too few */
     PAR1_DIFFERENT = 15,    /* length, MD5 or 16k MD5 differ from the entry */
     PAR1_ENTRY_SIZE = 16,   /* an entry's own size is odd, below 58 or past the end, or fewer than 8 bytes are left for it */
     PAR1_FILE_SIZE = 17,    /* an entry's file size is above its limit; or the contents or the status of an entry to be written */
@@ -208,7 +208,7 @@ par1_answer par1_import(const uint8_t *file, size_t file_len, const uint8_t *tex
  * to 255 - n (n files are saved; none where n is 0), a data size other than the greatest size of a saved file. */
 enum { PAR1_CATALOG_HEAD = 16, PAR1_CATALOG_ROW = 28 };
 
-/* An entry row as par1_catalog_load fills it. */
+/* An entry row as par1_catalog_load fills it; what it leaves between the fields is free. */
 struct par1_row {
     uint32_t file; /* the file number, 0 where the file is not saved */
     uint64_t size;

@@ -4,14 +4,15 @@ pub mod CallLaws
 pub mod CatalogLaws
 pub mod ChangeLaws
 pub mod CheckLaws
+pub mod Examples
 pub mod FileRows
 pub mod GivenLaws
 pub mod HeldLaws
 pub mod KeptLaws
 pub mod ListLaws
+pub mod LoadLaws
 pub mod MadeBytes
 pub mod MadeLaws
-pub mod LoadLaws
 pub mod MoveLaws
 pub mod OrderLaws
 pub mod PlaceLaws
