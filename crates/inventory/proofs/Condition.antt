@@ -45,7 +45,7 @@ sound rule size t s (c ∷ cs) (r ∷ rs) e R (s₁, d, q) =
 
 module _ (rule : ℕ → ℕ → ℕ) (small : (f v : ℕ) → f < 256 → rule f v < 256) where
   -- what the model's reply to a query about a missing file says
-  missing-exactly : (t : State) (f : ℕ) (room : List ℕ) → 255 ≤ length room → (number : ℕ) (room′ : List ℕ) (r : Reply) → r ≡ queried number room′
+  pub missing-exactly : (t : State) (f : ℕ) (room : List ℕ) → 255 ≤ length room → (number : ℕ) (room′ : List ℕ) (r : Reply) → r ≡ queried number room′
       → GivesMissing rule t f room r → (number ≡ 0) ↔ Recoverable rule t f
   missing-exactly t f room l number room′ r e (undetermined q) =
       let n : number ≡ 12 = cc in (λ z. absurd (omega arith), λ y. absurd (q y))

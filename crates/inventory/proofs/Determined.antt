@@ -1,5 +1,6 @@
 -- What a count and a query promise determines their answers, and the room afterwards.
 --
+--   someSize, some-matches     sizes that an inventory can stand for
 --   one-count      two answers to one count are the same
 --   queried-one    two replies to one query are the same, over any rule
 --   one-answer     so at document 01's rule
@@ -64,10 +65,10 @@ number-one r r′ h h′ e = sym (answer-of r h) ∙ ap answerOf e ∙ answer-of
 -- ---- queries
 
 -- sizes that an inventory can stand for
-someSize : Inventory → ℕ → ℕ
+pub someSize : Inventory → ℕ → ℕ
 someSize s f = cond (member (s .nonempty) f) 1 0
 
-some-matches : (s : Inventory) → Matches s (someSize s)
+pub some-matches : (s : Inventory) → Matches s (someSize s)
 unfolding someSize
 some-matches s f h = go (member (s .nonempty) f)
   where

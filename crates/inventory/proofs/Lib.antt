@@ -11,6 +11,7 @@ mod QuerySteps
 mod Queries
 mod ChangeNumbers
 pub mod ModelSets
+pub mod RecoverableFiles
 pub mod Calls
 mod Beside
 mod Inside
@@ -22,6 +23,8 @@ pub mod Representation
 pub mod Openings
 pub mod Condition
 pub mod Quarantine
+pub mod RecoverableAnswers
+pub mod Decided
 pub mod Answered
 pub mod Reachable
 mod Examples

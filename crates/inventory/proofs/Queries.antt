@@ -1,5 +1,6 @@
 -- The reply to a query is the model's, whatever the sizes are, over any rule for the coefficients that gives bytes.
 --
+--   recovered, unrecovered     a file is recoverable exactly where weights are found for it
 --   query-no-inventory, query-out-of-range, query-present, query-undetermined, query-no-room, query-recoverable     the cases of a query
 -- Assumes nothing.
 use mathlib.Core.Path.{_≡_, refl, sym, ap, ap₂, _∙_, subst}
@@ -121,7 +122,7 @@ module _ (rule : ℕ → ℕ → ℕ) (small : (f v : ℕ) → f < 256 → rule 
   solution-in size matches w W =
       subst (λ (A : ℕ → ℕ → Byte). IsSolution byteField A 256 (255 - s .n) (f - 1) w) (table-matrix rule small s valid size matches) W
 
-  recovered : (ws : List ℕ) (found : Bool) → Found rule (s .n) (s .files) (s .volumes) (s .nonempty) f found ws → found ≡ true
+  pub recovered : (ws : List ℕ) (found : Bool) → Found rule (s .n) (s .files) (s .volumes) (s .nonempty) f found ws → found ≡ true
       → (size : ℕ → ℕ) → Matches s size → Recoverable rule (state size) f
   recovered ws found (empty e y z) t size matches =
       empty-recoverable rule (state size) f inRange (is-empty size matches e)
@@ -131,21 +132,23 @@ module _ (rule : ℕ → ℕ → ℕ) (small : (f v : ℕ) → f < 256 → rule 
       (solution-in size matches w W))
   recovered ws found (notEmpty e (unsolved x X z)) t size matches = absurd (false≢true t)
 
-  pub query-undetermined : (ws : List ℕ) (found : Bool) → Found rule (s .n) (s .files) (s .volumes) (s .nonempty) f found ws → found ≡ false
-      → Queried rule s f room answer.Undetermined room
-  unfolding answerNumber
-  query-undetermined ws found (empty e y z) t = absurd (true≢false (sym y ∙ t))
-  query-undetermined ws found (notEmpty e (solved w W h)) t = absurd (true≢false t)
-  query-undetermined ws found (notEmpty e (unsolved x X z)) t =
-      answered rule valid not-refused-undetermined
-      (λ size matches.
-      as-model rule s valid f room size true false (queried 12 room) inRange missing
-      (undetermined
-      (λ r.
+  pub unrecovered : (ws : List ℕ) (found : Bool) → Found rule (s .n) (s .files) (s .volumes) (s .nonempty) f found ws → found ≡ false
+      → (size : ℕ → ℕ) → Matches s size → ¬ Recoverable rule (state size) f
+  unrecovered ws found (empty e y z) t size matches = absurd (true≢false (sym y ∙ t))
+  unrecovered ws found (notEmpty e (solved w W h)) t size matches = absurd (true≢false t)
+  unrecovered ws found (notEmpty e (unsolved x X z)) t size matches = λ r.
       kernel-unrecoverable rule small (state size) (few-files s valid) (f - 1) below
       (is-column size matches e) x
       (subst (λ (A : ℕ → ℕ → Byte). IsKernelVector byteField A 256 (255 - s .n) (f - 1) x) (table-matrix rule small s valid size matches) X)
-      (subst (Recoverable rule (state size)) as-suc r))))
+      (subst (Recoverable rule (state size)) as-suc r)
+
+  pub query-undetermined : (ws : List ℕ) (found : Bool) → Found rule (s .n) (s .files) (s .volumes) (s .nonempty) f found ws → found ≡ false
+      → Queried rule s f room answer.Undetermined room
+  unfolding answerNumber
+  query-undetermined ws found S t =
+      answered rule valid not-refused-undetermined
+      (λ size matches.
+      as-model rule s valid f room size true false (queried 12 room) inRange missing (undetermined (unrecovered ws found S t size matches)))
 
   pub query-no-room : (ws : List ℕ) (found : Bool) → Found rule (s .n) (s .files) (s .volumes) (s .nonempty) f found ws → found ≡ true
       → length room < 255 → Queried rule s f room (answer.Refused 14) room

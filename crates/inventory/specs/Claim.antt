@@ -31,8 +31,11 @@
 --   OthersRefused             every call refuses any other inventory with 10, and changes nothing
 --   ZerosRefused              so it does that of zeros
 --   EmptyRecoverable          a missing empty file is recoverable, and its weights are zeros
+--   OneSet                    what is promised of the set of the recoverable files determines it
+--   RecoverableAfter          after any list of calls it has exactly the missing files that are recoverable by the model
+--   RecoverableAsQueried      and exactly those that a query calls recoverable
 -- Runs of these calls are there (Answered), and so are accepted ones (proofs/Examples.antt), so no claim is empty.
--- Sentences in quotation marks are document 01's, document 02's (2026-10), or the tender's condition 3.
+-- Sentences in quotation marks are document 01's, document 02's (2026-10, 2026-11), or the tender's condition 3.
 -- Assumes nothing.
 use mathlib.Core.Path.{_≡_}
 use mathlib.Core.Logic.{_↔_, _⊎_, _≢_}
@@ -44,15 +47,17 @@ use Rattle.parity.specs.Coefficient.{coefficient}
 use Rattle.mul_add.specs.MulAdd.{mulAddAll}
 use Rattle.mul_add.specs.Once.{Once}
 use Rattle.parity.specs.Parity.{Contents, isFile}
-use Rattle.number_sets.specs.Sets.{Words}
+use Rattle.number_sets.specs.Sets.{member, Words}
 use Rattle.inventory.specs.Recoverable.{State, IsContents, Recoverable, IsWeights, place, present, ComeFrom}
 use Rattle.inventory.specs.Model.{Call, change, count, query, Reply, reply, numbered, queried, opened, after, GivesAll}
 use Rattle.inventory.specs.Model.{addFile, removeFile, addVolume, removeVolume, quarantine, release}
 use Rattle.inventory.specs.Steps.{isInventory, zeros, openStep, changeStep, countReply, countStep, answerNumber}
 use Rattle.inventory.specs.Query.{Queried}
+use Rattle.inventory.specs.RecoverableFiles.{RecoverableNow, RecoverableSet}
 use Rattle.inventory.specs.declared.Inventory.{Inventory}
 use Rattle.inventory.specs.declared.Counted.{Counted}
 use Rattle.inventory.specs.declared.Answer.{Answer}
+use Rattle.inventory.specs.declared.recoverable.RecoverableFiles.{RecoverableFiles}
 
 -- ---- "a new sheet told what is in hand and what is set aside": "told only what is in hand now, in whatever order"
 
@@ -277,3 +282,26 @@ abbrev pub EmptyRecoverable : Type 0
 EmptyRecoverable =
     (t : State) (f : ℕ) → isFile (t .n) f ≡ true → t .files f ≡ false → t .size f ≡ 0
     → Recoverable coefficient t f × IsWeights coefficient t f (replicate 255 0)
+
+-- ---- the recoverable files at once (document 02, 2026-11)
+
+-- proved: proofs/RecoverableAnswers.antt, `one-set`
+abbrev pub OneSet : Type 0
+OneSet = (s : Inventory) (r r′ : RecoverableFiles) → RecoverableSet coefficient s r → RecoverableSet coefficient s r′ → r ≡ r′
+
+-- "the file numbers that are rebuildable now"; a set that is always empty, or that has a file in hand, is excluded
+-- proved: proofs/RecoverableAnswers.antt, `recoverable-after`
+abbrev pub RecoverableAfter : Type 0
+RecoverableAfter =
+    (n : ℕ) (sizes : List ℕ) → openStep n sizes .number ≡ 0
+    → (cs : List Call) (rs : List Reply) (s : Inventory) → Run coefficient (openStep n sizes .next) cs rs s
+    → (r : RecoverableFiles) → RecoverableSet coefficient s r
+    → (f : ℕ) → (member (r .files) f ≡ true) ↔ RecoverableNow coefficient (after (opened n (sizeIn sizes)) cs) f
+
+-- of any inventory, with room for the weights
+-- proved: proofs/RecoverableAnswers.antt, `as-queried`
+abbrev pub RecoverableAsQueried : Type 0
+RecoverableAsQueried =
+    (s : Inventory) (r : RecoverableFiles) → RecoverableSet coefficient s r
+    → (f : ℕ) (room : List ℕ) → 255 ≤ length room → (a : Answer) (room′ : List ℕ) → Queried coefficient s f room a room′
+    → (member (r .files) f ≡ true) ↔ (answerNumber a ≡ 0)

@@ -2,4 +2,5 @@ pub mod Recoverable
 pub mod Model
 pub mod Steps
 pub mod Query
+pub mod RecoverableFiles
 pub mod Claim

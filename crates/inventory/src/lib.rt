@@ -7,6 +7,7 @@ ghost use Rattle.inventory.specs.Steps.{changeNumber, unlessRefused};
 
 mod query;
 mod ranges;
+mod recoverable;
 
 use number_sets::has;
 use number_sets::insert;
@@ -15,6 +16,7 @@ use number_sets::size;
 use ranges::is_inventory;
 use ranges::is_volume;
 use ranges::one_to;
+pub use recoverable::RecoverableFiles;
 use refusals::ALREADY;
 use refusals::MAX_FILE_SIZE;
 use refusals::MAX_FILES;

@@ -3,6 +3,7 @@
 --   member ws k       whether k is in the set: bit k mod 64 of word k div 64
 --   inserted k ws     the words with the bit of k set
 --   removed k ws      the words with the bit of k cleared
+--   gathered ws number test m     the words with `number i` more for each i below m that passes a test
 --   sizeBelow m set   how many numbers below m are in a set
 --   Words ws          ws are four words of 64 bits
 --   Ones word r       r of the bits of a word are set
@@ -24,6 +25,10 @@ inserted k ws = set ws (k / 64) (bitOr (getD ws (k / 64) 0) (2 ^ (k % 64)))
 
 unfoldable pub removed : ℕ → List ℕ → List ℕ
 removed k ws = set ws (k / 64) (bitAnd (getD ws (k / 64) 0) (2 ^ 64 - 1 - 2 ^ (k % 64)))
+
+unfoldable pub gathered : List ℕ → (ℕ → ℕ) → (ℕ → Bool) → ℕ → List ℕ
+gathered ws number test zero = ws
+gathered ws number test (suc i) = cond (test i) (inserted (number i) (gathered ws number test i)) (gathered ws number test i)
 
 unfoldable pub sizeBelow : ℕ → (ℕ → Bool) → ℕ
 sizeBelow zero set = 0

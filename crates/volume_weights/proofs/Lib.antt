@@ -3,3 +3,4 @@ mod CoefficientRows
 mod Renumbered
 pub mod Steps
 pub mod Determined
+pub mod SolvedColumns

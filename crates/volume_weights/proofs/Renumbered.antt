@@ -5,6 +5,7 @@
 --   packed-row, row-past        the end of the loop of `row`; past the columns a row is 0
 --   columns-filled              the end of the loop of `columns`
 --   columns-byte                they are fewer than 256
+--   place-inside                each stands before their number
 --   placed, unplaced            the place of a column among them, and of none
 --   renumbered-small            its rule gives bytes
 --   renumbered-solved           what is solved of it is solved of the set that it comes from
@@ -126,8 +127,8 @@ module _ (nonempty present files : List ℕ) (width : ℕ) (C : IsColumns nonemp
   all-below : columnsBelow nonempty present 256 ≡ width
   all-below = before-other column 255 refl ∙ sym (C .counted)
 
-  inside : (i : ℕ) → column i ≡ true → columnsBelow nonempty present i < width
-  inside i e = let h = before-lt column i 255 e (column-byte i e) in let w = C .counted in omega arith
+  pub place-inside : (i : ℕ) → column i ≡ true → columnsBelow nonempty present i < width
+  place-inside i e = let h = before-lt column i 255 e (column-byte i e) in let w = C .counted in omega arith
 
   -- ---- the place of a column
 
@@ -150,7 +151,7 @@ module _ (nonempty present files : List ℕ) (width : ℕ) (C : IsColumns nonemp
         go : (b : Bool) → column c ≡ b → column c ≡ false
         go true e =
             let F = first-is width (λ p. eqb (getD files p 0) (suc c)) in
-            let b = inside c e in
+            let b = place-inside c e in
             absurd (true≢false (sym (eq-eqb _ _ (C .each c e)) ∙ F .before (columnsBelow nonempty present c) (omega (arith, h))))
         go false e = e
 
@@ -179,7 +180,7 @@ module _ (nonempty present files : List ℕ) (width : ℕ) (C : IsColumns nonemp
     same : (s i : ℕ) → i < 256 → column i ≡ true → table s i ≡ packed s (columnsBelow nonempty present i)
     unfolding tableOf entry-of
     same s i l e =
-        ap (λ (b : Bool). entry-of (member volumes (suc s)) b (rule (suc i) (suc s))) (e ∙ sym (lt-ltb _ width (inside i e)))
+        ap (λ (b : Bool). entry-of (member volumes (suc s)) b (rule (suc i) (suc s))) (e ∙ sym (lt-ltb _ width (place-inside i e)))
         ∙ ap (λ (f : ℕ). entry-of (member volumes (suc s)) (ltb (columnsBelow nonempty present i) width) (rule f (suc s))) (sym (C .each i e))
         ∙ sym (packed-at s (columnsBelow nonempty present i))
 

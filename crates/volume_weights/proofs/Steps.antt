@@ -18,10 +18,9 @@ use native.Mathlib.Numerals.{add-one}
 use native.Mathlib.Omega.{arith}
 use native.Mathlib.Decide.{decLt}
 use lib.Bits.{bitXor}
-use lib.Dec.{eqb}
 use lib.ListN.{length, getD, replicate, length-replicate, getD-replicate}
 use borrow.Author.Tests.{le-leb, lt-leb}
-use Rattle.computed_tests.specs.Lists.{listBelow, firstBelow}
+use Rattle.computed_tests.specs.Lists.{listBelow}
 use Rattle.computed_tests.proofs.Lists.{listBelow-at}
 use Rattle.gf256.specs.Polynomial.{sumBelow}
 use Rattle.gf256.specs.Field.{product}
@@ -36,9 +35,9 @@ use Rattle.elimination.proofs.Elimination.{rowWeight}
 use Rattle.elimination.specs.ByteField.{Byte, byteField}
 use Rattle.number_sets.specs.Sets.{member}
 use Rattle.volume_weights.specs.Weights.{tableOf, rowOf, volumeAdded, volumesAdded, weightAt, Solved, solved, unsolved, fileWeight}
-use Rattle.volume_weights.specs.Weights.{IsColumns, renumbered, numbersTo}
+use Rattle.volume_weights.specs.Weights.{columnIn, columnsBelow, IsColumns, renumbered, numbersTo}
 use Rattle.volume_weights.proofs.CoefficientRows.{present-entry, table-row, table-absent}
-use Rattle.volume_weights.proofs.Renumbered.{row-past, columns-byte, renumbered-small, placed, renumbered-solved}
+use Rattle.volume_weights.proofs.Renumbered.{row-past, columns-byte, place-inside, renumbered-small, renumbered-solved}
 
 -- one volume more
 pub volumes-more : (rule : ℕ → ℕ → ℕ) (nonempty present volumes : List ℕ) (v : ℕ) (start s s′ : List ℕ × List ℕ)
@@ -170,12 +169,15 @@ packed-start nonempty present files width C identity e =
 
 -- what the elimination of the columns side by side answers for a column that stands there
 module _ (rule : ℕ → ℕ → ℕ) (small : (f v : ℕ) → f < 256 → rule f v < 256) (nonempty present volumes files : List ℕ) (width : ℕ)
-    (C : IsColumns nonempty present files width) (column at : ℕ) (inside : column < 256)
-    (P : at ≡ firstBelow width (λ p. eqb (getD files p 0) (suc column))) (l : at < width) (rows : ℕ) (identity m owners : List ℕ)
+    (C : IsColumns nonempty present files width) (column at : ℕ) (inside : column < 256) (t : columnIn nonempty present (suc column) ≡ true)
+    (z : columnsBelow nonempty present column ≡ at) (rows : ℕ) (identity m owners : List ℕ)
     (d : identity ≡ withDiagonal 256 (replicate 65536 0))
     (e : (m, owners) ≡ volumesAdded (renumbered rule files) (numbersTo width) (replicate 4 0) volumes rows (identity, replicate 256 0)) where
-  width-byte : width < 256
-  width-byte = columns-byte nonempty present files width C
+  at-byte : at < 256
+  at-byte =
+      let b = columns-byte nonempty present files width C in
+      let l = place-inside nonempty present files width C column t in
+      omega arith
 
   packed-small : (f v : ℕ) → f < 256 → renumbered rule files f v < 256
   packed-small = renumbered-small rule files small (C .bytes)
@@ -186,21 +188,18 @@ module _ (rule : ℕ → ℕ → ℕ) (small : (f v : ℕ) → f < 256 → rule 
   back : (ws : List ℕ) (found : Bool) → Solved (renumbered rule files) (numbersTo width) (replicate 4 0) volumes rows at ws found
       → Solved rule nonempty present volumes rows column ws found
   back ws found S =
-      let (t, z) = placed nonempty present files width C column at P l in
       renumbered-solved nonempty present files width C rule volumes rows column ws found inside t
       (subst (λ (p : ℕ). Solved (renumbered rule files) (numbersTo width) (replicate 4 0) volumes rows p ws found) (sym z) S)
 
   pub column-solved : (ws : List ℕ) → isSolvable m owners at ≡ true → ws ≡ listBelow 256 (weightOf m owners at)
       → Solved rule nonempty present volumes rows column ws true
   column-solved ws y h =
-      let b = width-byte in
-      back ws true (solved-by (renumbered rule files) packed-small (numbersTo width) (replicate 4 0) volumes rows at (omega arith) m owners R true ws
+      back ws true (solved-by (renumbered rule files) packed-small (numbersTo width) (replicate 4 0) volumes rows at at-byte m owners R true ws
       (sym y) refl h)
 
   pub column-unsolved : isSolvable m owners at ≡ false → Solved rule nonempty present volumes rows column (replicate 256 0) false
   column-unsolved y =
-      let b = width-byte in
-      back (replicate 256 0) false (unsolved-by (renumbered rule files) packed-small (numbersTo width) (replicate 4 0) volumes rows at (omega arith)
+      back (replicate 256 0) false (unsolved-by (renumbered rule files) packed-small (numbersTo width) (replicate 4 0) volumes rows at at-byte
       m owners R false (sym y) refl)
 
 pub weight-below : (rows : ℕ) (w : ℕ → Byte) (v : ℕ) → v < rows → weightAt rows w (suc v) ≡ w v .0

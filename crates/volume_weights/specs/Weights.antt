@@ -13,6 +13,7 @@
 --   weightAt rows w v                the weight of volume v, of `rows` volumes; 0 for no such volume
 --   Solved rule nonempty present volumes rows i ws found      whether weights of the rows sum them to 1 in column i and to 0 in the
 --                                    others, and these weights by volume number, or zeros
+--   SolvedColumns rule nonempty present volumes rows r      r is the set of the files whose columns are so solved
 --   fileWeight rule present ws m i   the sum, over the first m volumes, of weight times the coefficient of file i + 1, if it is present
 -- An elimination is its matrix and its owners.
 -- Assumes nothing.
@@ -28,7 +29,7 @@ use Rattle.gf256.specs.Field.{product}
 use Rattle.elimination.specs.Matrix.{IsSolution, IsKernelVector}
 use Rattle.elimination.specs.Reduction.{rowAdded}
 use Rattle.elimination.specs.ByteField.{Byte, byteField, toByte}
-use Rattle.number_sets.specs.Sets.{member, inserted, sizeBelow}
+use Rattle.number_sets.specs.Sets.{member, inserted, sizeBelow, Words}
 
 -- ---- the rows
 
@@ -80,6 +81,15 @@ pub data Solved (rule : ℕ → ℕ → ℕ) (nonempty present volumes : List �
       → ((v : ℕ) → v < 256 → getD ws v 0 ≡ weightAt rows w v) → Solved rule nonempty present volumes rows i ws true
   unsolved : (x : ℕ → Byte) → IsKernelVector byteField (tableOf rule nonempty present volumes) 256 rows i x
       → ws ≡ replicate 256 0 → Solved rule nonempty present volumes rows i ws false
+
+-- ---- all columns at once
+
+pub record SolvedColumns (rule : ℕ → ℕ → ℕ) (nonempty present volumes : List ℕ) (rows : ℕ) (r : List ℕ) : Type 0 where
+  pub words : Words r
+  pub columns : (f : ℕ) → member r f ≡ true → (0 < f) × (columnIn nonempty present f ≡ true)
+  pub each : (i : ℕ) → i < 255 → (ws : List ℕ) × Solved rule nonempty present volumes rows i ws (member r (suc i))
+
+-- ---- the weights of the files
 
 unfoldable pub fileWeight : (ℕ → ℕ → ℕ) → List ℕ → List ℕ → ℕ → ℕ → ℕ
 fileWeight rule present ws m i =

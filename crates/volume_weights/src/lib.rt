@@ -12,8 +12,12 @@ ghost use Rattle.elimination.specs.Reduction.{inBlocks, Apart};
 ghost use Rattle.parity.specs.Coefficient.{coefficient};
 ghost use Rattle.volume_weights.specs.Weights.{rowOf, volumeAdded, volumesAdded, Solved, fileWeight};
 ghost use Rattle.volume_weights.specs.Weights.{IsColumns, renumbered, numbersTo};
+
+mod solved;
+
 use number_sets::has;
 use parity::coefficient_by;
+pub use solved::solved_columns;
 
 // Whether weights bring a missing file back, and these weights by volume number; zeros where none do.
 pub struct Solution {

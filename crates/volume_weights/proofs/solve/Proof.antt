@@ -5,7 +5,7 @@ use borrow.Author.Needs.{needs}
 use Rattle.parity.specs.Coefficient.{coefficient}
 use Rattle.parity.proofs.Coefficients.{coefficient-byte}
 use Rattle.volume_weights.proofs.Steps.{packed-start, column-solved, column-unsolved}
-use Rattle.volume_weights.proofs.Renumbered.{unplaced, outside-solved}
+use Rattle.volume_weights.proofs.Renumbered.{placed, unplaced, outside-solved}
 use Rattle.volume_weights.proofs.solve.Statement.{statement}
 use Rattle.volume_weights.proofs.solve.Tie as tie
 
@@ -24,8 +24,9 @@ returns c =
     let place = i .before in
     let columns = place .before .before .before in
     let a = columns .before .args in
+    let (t, z) = placed (a .nonempty) (a .present) _ _ (columns .columns .ensures) (a .column) _ (place .place .ensures) (i .if1 .taken) in
     column-solved coefficient coefficient-byte (a .nonempty) (a .present) (a .volumes) _ _ (columns .columns .ensures) (a .column) _ (search needs)
-    (place .place .ensures) (i .if1 .taken) (a .rows) _ _ _ (d .set-diagonal .ensures) (added .add-volumes .ensures) _
+    t z (a .rows) _ _ _ (d .set-diagonal .ensures) (added .add-volumes .ensures) _
     (sym (tested .before .solvable .ensures) ∙ tested .if2 .taken) (c .weights .ensures)
 
 returns-2 : tie.Need-returns-2
@@ -36,8 +37,9 @@ returns-2 c =
     let place = i .before in
     let columns = place .before .before .before in
     let a = columns .before .args in
+    let (t, z) = placed (a .nonempty) (a .present) _ _ (columns .columns .ensures) (a .column) _ (place .place .ensures) (i .if1 .taken) in
     column-unsolved coefficient coefficient-byte (a .nonempty) (a .present) (a .volumes) _ _ (columns .columns .ensures) (a .column) _ (search needs)
-    (place .place .ensures) (i .if1 .taken) (a .rows) _ _ _ (d .set-diagonal .ensures) (added .add-volumes .ensures)
+    t z (a .rows) _ _ _ (d .set-diagonal .ensures) (added .add-volumes .ensures)
     (sym (c .before .solvable .ensures) ∙ c .if2 .left)
 
 returns-3 : tie.Need-returns-3

@@ -1,0 +1,40 @@
+-- `inventory::Inventory::recoverable_files` meets its contract.
+-- Assumes nothing.
+use mathlib.Core.Path.{_≡_, sym, _∙_}
+use mathlib.Core.Bool.{true}
+use native.Mathlib.Omega.{arith}
+use borrow.Author.Needs.{needs}
+use borrow.Author.Tests.{not-true, not-false}
+use Rattle.parity.specs.Coefficient.{coefficient}
+use Rattle.parity.proofs.Coefficients.{coefficient-byte}
+use Rattle.inventory.specs.Steps.{isInventory}
+use Rattle.inventory.proofs.ValidInventories.{few-files}
+use Rattle.inventory.proofs.RecoverableFiles.{set-refused, set-gathered}
+use Rattle.inventory.proofs.Inventory.recoverable_files.Statement.{statement}
+use Rattle.inventory.proofs.Inventory.recoverable_files.Tie as tie
+
+valid : (c : tie.Else1) → isInventory (c .before .before .args .self) ≡ true
+valid c = sym (c .before .is-inventory .ensures) ∙ not-false (c .before .is-inventory .result) (c .if1 .left)
+
+returns : tie.Need-returns
+returns c =
+    set-refused coefficient _ (sym (c .before .is-inventory .ensures) ∙ not-true (c .before .is-inventory .result) (c .if1 .taken))
+
+sub-solved-columns : tie.Need-sub-solved-columns
+sub-solved-columns c = omega (arith, few-files _ (valid (c .before .before .before .before)))
+
+returns-2 : tie.Need-returns-2
+returns-2 c =
+    set-gathered coefficient coefficient-byte _ (valid (c .before .before .before .before .before .before)) _ (c .before .solved-columns .ensures) _ (c .with-empty .ensures)
+
+pub recoverable-files-spec : {M : Type 1} → statement M
+recoverable-files-spec =
+    tie.close
+    (tie.spec
+    (λ c κs. search needs)
+    returns
+    sub-solved-columns
+    (λ c. search needs)
+    (λ c κs. search needs)
+    (λ c κs. search needs)
+    returns-2)
