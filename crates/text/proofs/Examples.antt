@@ -5,7 +5,9 @@ use mathlib.Core.Bool.{true, false}
 use mathlib.Core.List.{[], _∷_}
 use Rattle.text.specs.Buffer.{buffer, put}
 use Rattle.text.specs.Decimal.{decimal, decimalIn}
+use Rattle.text.specs.Ascii.{ascii}
 use Rattle.text.specs.Hex.{hexByte, hexBytes, hexDigit, isHexDigit, allHexDigits}
+use Rattle.text.specs.TextLines.{lineLength, wordsOf}
 
 -- "0", "9", "10", "18446744073709551615"
 zero-text : decimal 0 ≡ 48 ∷ []
@@ -57,3 +59,18 @@ cut-off = refl
 at-the-end : put (buffer (7 ∷ []) 18446744073709551614) (1 ∷ 2 ∷ 3 ∷ []) ≡ buffer (7 ∷ []) 18446744073709551615
 unfolding put
 at-the-end = refl
+
+-- ---- lines and words
+
+a-line : lineLength (ascii "F 7\nV") ≡ 4
+unfolding lineLength
+a-line = refl
+
+no-line : lineLength (ascii "F 7") ≡ 0
+unfolding lineLength
+no-line = refl
+
+-- a space more is a word of nothing
+four-words : wordsOf (ascii "2 10  ") ≡ ascii "2" ∷ ascii "10" ∷ [] ∷ [] ∷ []
+unfolding wordsOf
+four-words = refl

@@ -3,3 +3,4 @@ pub mod DecimalLaws
 mod Examples
 pub mod FitLaws
 pub mod HexLaws
+pub mod ScanLaws

@@ -3,3 +3,4 @@ pub mod Buffer
 pub mod Claim
 pub mod Decimal
 pub mod Hex
+pub mod TextLines

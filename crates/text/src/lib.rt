@@ -1,11 +1,18 @@
-// Text into the caller's buffer. A put writes while its position is inside the buffer and always moves on, so the same calls
-// on an empty buffer measure what they write into a long one.
+// Text into the caller's buffer, and the reading of lines, words and numbers. A put writes while its position is inside the buffer
+// and always moves on, so the same calls on an empty buffer measure what they write into a long one.
 ghost use mathlib.Core.Path.{_≡_};
 ghost use mathlib.Core.List.{[], _∷_};
 ghost use Prim.Native.Nat.{_+_, _<_, min};
 ghost use Rattle.text.specs.Buffer.{buffer, usizeMax, put as putOf};
 ghost use Rattle.text.specs.Decimal.{decimal, field};
 ghost use Rattle.text.specs.Hex.{hexDigit, hexByte, hexBytes, isHexDigit, allHexDigits};
+
+mod scan;
+
+pub use scan::is_decimal;
+pub use scan::line_length;
+pub use scan::value_of;
+pub use scan::word_length;
 
 // One byte at position `at`. Like every put, it answers the position after what it put.
 pub fn put(out: &mut [u8], at: usize, byte: u8) -> usize
