@@ -38,8 +38,10 @@ static inline void figure(size_t bytes, double time) {
         printf(" %8.1f MB/s |", (double)bytes / time / 1e6);
     else if (time < 1e-5)
         printf(" %8.1f ns   |", 1e9 * time);
-    else
+    else if (time < 1)
         printf(" %8.2f ms   |", 1e3 * time);
+    else
+        printf(" %8.2f s    |", time);
 }
 
 /* A row of the table: what is measured, against what, the times of a call, and the ratio that is wanted, or 0. Whether that is reached. */

@@ -1,44 +1,13 @@
 /* A query in the worst case, every file missing and every volume present, against the same elimination as plain C loops over a table of 256
    products for each weight, which gcc -O3 compiles. Where the file comes back, both must give the same weights. */
 #include "clock.h"
-#include "product.h"
+#include "elimination.h"
 #include "../include/par1.h"
-#include <string.h>
-
-static uint8_t products[256][256];
-static uint8_t matrix[256][256], owners[256];
-
-static void add_multiple(uint8_t weight, const uint8_t *row, uint8_t *sum) {
-    const uint8_t *table = products[weight];
-    if (weight == 0) return;
-    for (int j = 0; j < 256; j++) sum[j] ^= table[row[j]];
-}
-
-static uint8_t inverse(uint8_t a) {
-    int b = 1;
-    while (products[a][b] != 1) b++;
-    return (uint8_t)b;
-}
-
-/* Takes the row of volume v: adds it to the matrix, unless it is a sum of multiples of earlier ones. */
-static void add_row(const uint8_t *row, uint8_t v) {
-    uint8_t y[256] = {0};
-    int k = 0;
-    for (int i = 0; i < 256; i++) add_multiple(row[i], matrix[i], y);
-    while (k < 256 && (owners[k] != 0 || y[k] == 0)) k++;
-    if (k == 256) return;
-    uint8_t scale = inverse(y[k]);
-    y[k] ^= 1;
-    for (int r = 0; r < 256; r++) add_multiple(products[scale][matrix[r][k]], y, matrix[r]);
-    owners[k] = v;
-}
 
 /* The weights of the volumes for file f of n missing files, with every volume present. */
 static void by_loops(int n, int f, uint8_t *weights) {
     uint8_t row[256] = {0};
-    memset(matrix, 0, sizeof matrix);
-    memset(owners, 0, sizeof owners);
-    for (int i = 0; i < 256; i++) matrix[i][i] = 1;
+    start_rows();
     for (int g = 0; g < n; g++) row[g] = 1;
     for (int v = 1; v <= 255 - n; v++) {
         add_row(row, (uint8_t)v);
@@ -52,8 +21,7 @@ static void by_loops(int n, int f, uint8_t *weights) {
 int main(void) {
     static const int files[] = {100, 127, 150};
     int right = 1;
-    for (int a = 0; a < 256; a++)
-        for (int b = 0; b < 256; b++) products[a][b] = product((uint8_t)a, (uint8_t)b);
+    make_products();
     for (int i = 0; i < 3; i++) {
         int n = files[i];
         uint8_t sizes[8 * 254] = {0}, inventory[PAR1_INVENTORY_BYTES], ours[255], loops[255];

@@ -12,6 +12,8 @@ static uint8_t fold[PAR1_MUL_ADD_BYTES], reading[PAR1_READ_BYTES];
 static struct par1_hash hash;
 static struct par1_row rows[FILES];
 static const uint8_t name[2] = {'A', 0};
+static char log_[8 * (FILES + VOLUMES)];
+static size_t log_length;
 static par1_answer number;
 
 static void nothing(void) { number = 0; }
@@ -51,6 +53,7 @@ static void remove_volume(void) { number = par1_remove_volume(inventory, sizeof 
 static void quarantine(void) { number = par1_quarantine(inventory, sizeof inventory, 128); }
 static void release(void) { number = par1_release(inventory, sizeof inventory, 128); }
 static void count(void) { number = par1_count(inventory, sizeof inventory, room, VOLUME); }
+static void replay(void) { number = PAR1_NUMBER(par1_replay((const uint8_t *)log_, log_length, room, VOLUME)); }
 static void query(void) { number = par1_query(inventory, sizeof inventory, 1, room, VOLUME); }
 
 static const struct { const char *name; void (*run)(void); } calls[] = {
@@ -63,7 +66,8 @@ static const struct { const char *name; void (*run)(void); } calls[] = {
     {"par1_mul_add_start", mul_add_start}, {"par1_mul_add_push", mul_add_push}, {"par1_mul_add_end", mul_add_end},
     {"par1_read_start", read_start}, {"par1_read_push", read_push}, {"par1_read_end", read_end},
     {"par1_open", open_}, {"par1_add_file", add_file}, {"par1_remove_file", remove_file}, {"par1_add_volume", add_volume},
-    {"par1_quarantine", quarantine}, {"par1_release", release}, {"par1_remove_volume", remove_volume}, {"par1_count", count}, {"par1_query", query}};
+    {"par1_quarantine", quarantine}, {"par1_release", release}, {"par1_remove_volume", remove_volume}, {"par1_count", count}, {"par1_query", query},
+    {"par1_replay", replay}};
 
 /* How far below this function's frame the call changed the stack. */
 static size_t depth(void (*call)(void)) {
@@ -75,13 +79,18 @@ static size_t depth(void (*call)(void)) {
     return (size_t)(here - p);
 }
 
-/* 127 files, their list and a volume; an inventory with every file missing and every volume present, which makes the longest query. */
+/* 127 files, their list and a volume; an inventory with every file missing and every volume present, which makes the longest query;
+ * a log that ends so. */
 static void prepare(void) {
     for (size_t i = 0; i < SIZE; i++) contents[i] = (uint8_t)(i * i >> 3);
     for (int f = 0; f < FILES; f++) {
         if (par1_write_entry(contents, SIZE, 1, name, 2, list + f * ENTRY, ENTRY) != 0) exit(2);
         sizes[8 * f + 2] = SIZE >> 16;
     }
+    char *at = log_ + sprintf(log_, "%d", FILES);
+    for (int f = 0; f < FILES; f++) at += sprintf(at, " 1");
+    for (int v = 1; v <= VOLUMES; v++) at += sprintf(at, "\nV %d", v);
+    log_length = (size_t)(at + sprintf(at, "\n") - log_);
     if (par1_write_volume(1, 1, list, LIST, contents, SIZE, volume, VOLUME) != 0) exit(2);
     if (par1_write_volume(2, 2, list, LIST, contents, SIZE, other, VOLUME) != 0) exit(2);
 }

@@ -9,9 +9,9 @@
  * a length; bytes past those written stay as they were. The pointer is not NULL, also where the length is 0: lend the address of any byte. Bytes
  * that a call writes must not overlap others that it is lent. Numbers in lent bytes are 64 bits wide, in a catalog 32 or 64, lowest byte first.
  *
- * Stack: par1_query takes 67 KiB; par1_md5, par1_read, par1_write_entry, par1_write_volume, par1_amend, par1_compare, par1_export, par1_import,
- * par1_catalog_open, par1_catalog_add, par1_check, par1_open, par1_hash_push, par1_hash_end and the calls on a reading in chunks less than 4 KiB; the
- * others less than 1 KiB (measured, docs/BENCHMARKS.md).
+ * Stack: par1_query takes 68 KiB, par1_replay 74; par1_md5, par1_read, par1_write_entry, par1_write_volume, par1_amend, par1_compare, par1_export,
+ * par1_import, par1_catalog_open, par1_catalog_add, par1_check, par1_open, par1_hash_push, par1_hash_end and the calls on a reading in chunks less than
+ * 4 KiB; the others less than 1 KiB (measured, docs/BENCHMARKS.md).
  */
 #ifndef PAR1_H
 #define PAR1_H
@@ -52,13 +52,14 @@ enum {
     PAR1_ROWS = 25,         /* the volume's list gives other entry rows than the catalog has */
     PAR1_ENTRIES = 26,      /* more than 1,024 entries for a catalog */
     PAR1_QUARANTINED = 27,  /* the volume is in quarantine */
+    PAR1_EVENT = 28,        /* a line of a log has another shape; only in the text of a replay */
     PAR1_CATALOG = 30       /* the catalog ends early, or no list and volumes give it */
 };
 
-/* An answer that has more to say than a number: the number, and a value that goes with it. The value of a refusal 16 to 18 is the place of
- * the entry in its list, from 1, and 0 where it stands in none; of 22 and 23 it is the line's number, from 1; of any other refusal it is 0, so that
- * a refusal without a place is its bare number. The value of an accepted par1_amend is the volume's new length, of a par1_compare or par1_export the
- * length of its text, of par1_catalog_open, par1_catalog_add and par1_catalog_drop the catalog's length, of par1_import and par1_catalog_load the
+/* An answer that has more to say than a number: the number, and a value that goes with it. The value of a refusal 16 to 18 is the place of the entry
+ * in its list, from 1, and 0 where it stands in none; of 22 and 23 it is the line's number, from 1; of any other refusal it is 0, so that a refusal
+ * without a place is its bare number. The value of an accepted par1_amend is the volume's new length, of a par1_compare, par1_export or par1_replay
+ * the length of its text, of par1_catalog_open, par1_catalog_add and par1_catalog_drop the catalog's length, of par1_import and par1_catalog_load the
  * number of entries; any other accepted call answers 0. */
 typedef uint64_t par1_answer;
 #define PAR1_NUMBER(a) ((uint32_t)((a) % 32))
@@ -78,8 +79,14 @@ enum {
 /* How many bytes the jobs take that are lent as bytes. */
 enum { PAR1_MUL_ADD_BYTES = 24, PAR1_READ_BYTES = 392 };
 
-/* Limits: the size of a listed file, the length of an index file or volume, the number of saved files, of entries in a catalog. */
-enum { PAR1_MAX_FILE_SIZE = 16777216, PAR1_MAX_VOLUME_LENGTH = 33554432, PAR1_MAX_FILES = 254, PAR1_MAX_ENTRIES = 1024 };
+/* Limits: the size of a listed file, the length of an index file or volume, the number of saved files, of entries in a catalog, the length of a log. */
+enum {
+    PAR1_MAX_FILE_SIZE = 16777216,
+    PAR1_MAX_VOLUME_LENGTH = 33554432,
+    PAR1_MAX_FILES = 254,
+    PAR1_MAX_ENTRIES = 1024,
+    PAR1_MAX_LOG_LENGTH = 65536
+};
 
 /* Where the numbers stand that par1_read writes. */
 enum {
@@ -328,8 +335,28 @@ uint32_t par1_count(const uint8_t *inventory, size_t inventory_len, uint8_t *out
 /* Whether a file comes back from what is present. 0: it does, and its 255 weights are the first 255 bytes of `out`, file f's at f - 1,
  * volume v's at n + v - 1: par1_mul_add of each fragment present with its weight, in any order, into zeros of the file's size gives the
  * file. 13: it is present. 12: it is undetermined, what is present does not determine it. Refuses with 10 where the file is not 1 to n, and
- * with 14, after 13 and 12, where `out` is shorter. Takes 67 KiB of stack. */
+ * with 14, after 13 and 12, where `out` is shorter. Takes 68 KiB of stack. */
 uint32_t par1_query(const uint8_t *inventory, size_t inventory_len, uint64_t file, uint8_t *out, size_t out_len);
+
+/* Replays a log of arrivals, as text over the first bytes of `out`: what the program par_replay prints. The value is the length of the text.
+ *
+ * The first line of a log is the number of files and their sizes, which opens an inventory with nothing present: `2 2 1`. Each further line is an
+ * event: `F 7` and `V 4` add file 7 and volume 4, `f 7` and `v 4` remove them. Numbers are decimal without leading zeros, single spaces stand between,
+ * and byte 10 ends each line. Nothing is written for the first line where it is accepted; then, for each event, a line ended by byte 10:
+ *
+ *   2 3 24       the files that are missing and come back from what is present then, ascending, empty ones too
+ *   none         there is no such file
+ *   refused N    the event is refused with 10 or 11, as par1_add_file and the others; nothing changes, and the replay goes on
+ *
+ * A line `refused N` also ends the replay, with nothing after it: 28, for a line of another shape, wherever it stands, a last line without its byte
+ * 10, or no line at all; 10 or 1 from the first line, as par1_open refuses, 10 also where the sizes are more or fewer than the first number says. The
+ * shape of a line goes before its values. A number too large for 64 bits is 1 as a size and 10 elsewhere. A log above 65,536 bytes gives only
+ * `refused 1`.
+ *
+ * Refuses with 14 where `out` is shorter than the text, and with nothing else. No text is longer than 14,760,448 bytes, that of 254 empty files and
+ * 16,256 events; a line is at most 908. Each event takes an elimination, as a query does, and the text is worked out twice, to be measured and to be
+ * written. Takes 74 KiB of stack. */
+par1_answer par1_replay(const uint8_t *log, size_t log_len, uint8_t *out, size_t out_len);
 
 #ifdef __cplusplus
 }

@@ -25,6 +25,7 @@ extern "C" {
     fn par1_release(inventory: *mut u8, len: usize, volume: u64) -> u32;
     fn par1_count(inventory: *const u8, len: usize, out: *mut u8, out_len: usize) -> u32;
     fn par1_query(inventory: *const u8, len: usize, file: u64, out: *mut u8, out_len: usize) -> u32;
+    fn par1_replay(log: *const u8, log_len: usize, out: *mut u8, out_len: usize) -> u64;
     fn par1_mul_add(weight: u8, fragment: *const u8, fragment_len: usize, buffer: *mut u8, buffer_len: usize);
 }
 
@@ -147,4 +148,14 @@ pub fn count(inventory: &[u8], room: &[u8]) -> (u32, Vec<u8>) {
 
 pub fn query(inventory: &[u8], file: u64, room: &[u8]) -> (u32, Vec<u8>) {
     lent(room, |out, len| unsafe { par1_query(inventory.as_ptr(), inventory.len(), file, out, len) })
+}
+
+/// The numbers of the lines `refused N` are counted too: 28 comes back in no other way.
+pub fn replay(log: &[u8], room: &[u8]) -> (u64, Vec<u8>) {
+    let (answer, after) = lent(room, |out, len| unsafe { par1_replay(log.as_ptr(), log.len(), out, len) });
+    let text = String::from_utf8_lossy(&after[..after.len().min((answer / 32) as usize)]);
+    text.lines().filter_map(|line| line.strip_prefix("refused ")?.parse::<u32>().ok()).for_each(|number| {
+        counted(number);
+    });
+    (answer, after)
 }

@@ -4,7 +4,7 @@ use crate::amend::{self, Amendment};
 use crate::inventory::Inventory;
 use crate::jobs::{self, Hash};
 use crate::par1::Refusal;
-use crate::{catalog, differences, field, md5, md5sum, par1};
+use crate::{catalog, differences, field, md5, md5sum, par1, replay};
 
 /// A refusal changes nothing; 14 where the room is shorter than what is to be written; else 0, and the room's first bytes.
 fn written<A: From<u32>>(value: Result<Vec<u8>, A>, room: &[u8]) -> (A, Vec<u8>) {
@@ -129,6 +129,11 @@ pub fn count(inventory: &[u8], room: &[u8]) -> (u32, Vec<u8>) {
 
 pub fn query(inventory: &[u8], file: u64, room: &[u8]) -> (u32, Vec<u8>) {
     written(Inventory::parse(inventory).ok_or(10).and_then(|i| i.query(file)), room)
+}
+
+/// The value is the length of the text; what ends a replay is a line of it.
+pub fn replay(log: &[u8], room: &[u8]) -> (u64, Vec<u8>) {
+    length_told(Ok(replay::replay(log)), room)
 }
 
 /// 20 where the hash is over, and then nothing changes.

@@ -123,6 +123,17 @@ impl Inventory {
         Ok(weights)
     }
 
+    /// The lost files that are rebuildable, ascending, by the rows of all volumes in hand reduced at once: a file of size 1 or more is one exactly where
+    /// the row with its column alone is among them.
+    pub fn recoverable(&self) -> Vec<usize> {
+        let lost: Vec<usize> = (1..=self.n).filter(|&f| !self.files[f]).collect();
+        let columns: Vec<usize> = lost.iter().copied().filter(|&f| self.nonempty[f]).collect();
+        let row = |v| columns.iter().map(|&g| coefficient(g as u8, v as u8)).collect();
+        let reduced = reduced((1..=255 - self.n).filter(|&v| self.volumes[v]).map(row).collect());
+        let alone = |c: usize| reduced.iter().any(|r| r.iter().enumerate().all(|(i, &x)| x == (i == c) as u8));
+        lost.into_iter().filter(|f| columns.iter().position(|g| g == f).map_or(true, alone)).collect()
+    }
+
     /// "A volume is used if its row is no sum of multiples of the rows of lower-numbered volumes in hand."
     fn used_rows(&self, columns: &[usize]) -> Vec<(usize, Vec<u8>)> {
         let mut used: Vec<(usize, Vec<u8>)> = vec![];
@@ -153,6 +164,25 @@ fn rank(mut rows: Vec<Vec<u8>>) -> usize {
         rank += 1;
     }
     rank
+}
+
+/// Rows with the same sums of multiples, each with a 1, nothing but 0 before it, where the others have 0.
+fn reduced(mut rows: Vec<Vec<u8>>) -> Vec<Vec<u8>> {
+    let mut rank = 0;
+    for column in 0..rows.first().map_or(0, Vec::len) {
+        let Some(pivot) = (rank..rows.len()).find(|&i| rows[i][column] != 0) else { continue };
+        rows.swap(rank, pivot);
+        let scale = inverse(rows[rank][column]).unwrap();
+        rows[rank].iter_mut().for_each(|x| *x = product(scale, *x));
+        let top = rows[rank].clone();
+        for (_, row) in rows.iter_mut().enumerate().filter(|(i, row)| *i != rank && row[column] != 0) {
+            let factor = row[column];
+            row.iter_mut().zip(&top).for_each(|(x, &t)| *x ^= product(factor, t));
+        }
+        rank += 1;
+    }
+    rows.truncate(rank);
+    rows
 }
 
 /// The weights of independent rows that sum them to 1 in one column and 0 in the others, where there are any: one equation a column.

@@ -1,6 +1,6 @@
 //! A second program, written from the documents alone: it compares its own answers with those of the C library's calls.
 //!
-//! `md5`, `field`, `par1`, `inventory`, `jobs`, `amend`, `differences`, `md5sum`, `catalog` work the answers out; `expected` gives each call's
+//! `md5`, `field`, `par1`, `inventory`, `jobs`, `amend`, `differences`, `md5sum`, `catalog`, `replay` work the answers out; `expected` gives each call's
 //! number and lent bytes from them; `calls`, `catalog_calls` and `job_calls` make the library's calls, on lent bytes with guards on both sides;
 //! `cuts` has ways of cutting an input, `files` sets of files and their volumes; `compare_*` are the comparisons.
 
@@ -29,6 +29,7 @@ mod compare_parity;
 mod compare_quarantine;
 mod compare_read_cuts;
 mod compare_read_job;
+mod compare_replay;
 mod cuts;
 mod differences;
 mod expected;
@@ -40,6 +41,7 @@ mod jobs;
 mod md5;
 mod md5sum;
 mod par1;
+mod replay;
 
 /// How many rounds of a comparison: all, or a twentieth of them where the program is called with the word `small`, as under valgrind.
 pub fn rounds(n: usize) -> usize {
@@ -86,7 +88,7 @@ impl Random {
 fn main() {
     let mut counts = Counts { passed: 0, failed: 0 };
     let mut random = Random(2026);
-    let parts: [(&str, fn(&mut Counts, &mut Random)); 21] = [
+    let parts: [(&str, fn(&mut Counts, &mut Random)); 22] = [
         ("md5", compare_md5::run),
         ("field", compare_field::run),
         ("parity", compare_parity::run),
@@ -108,6 +110,7 @@ fn main() {
         ("catalogs refused", compare_catalog_refusals::run),
         ("the checked mark", compare_checked::run),
         ("quarantine", compare_quarantine::run),
+        ("replays", compare_replay::run),
     ];
     for (name, run) in parts {
         let before = counts.passed + counts.failed;
@@ -115,7 +118,7 @@ fn main() {
         println!("{name}: {} comparisons", counts.passed + counts.failed - before);
     }
     for (number, times) in calls::came_back().into_iter().enumerate() {
-        let given = number <= 27 && number != 6 || number == 30;
+        let given = number <= 28 && number != 6 || number == 30;
         if given {
             println!("number {number} came back {times} times");
         }

@@ -30,7 +30,7 @@ pub fn export(file: &[u8]) -> Result<Vec<u8>, Refusal> {
 }
 
 /// The lines of a text without the byte 10 that ends each, and whether it ends the last.
-fn lines(text: &[u8]) -> Vec<(&[u8], bool)> {
+pub fn lines(text: &[u8]) -> Vec<(&[u8], bool)> {
     text.split_inclusive(|&b| b == 10).map(|line| line.strip_suffix(&[10]).map_or((line, false), |line| (line, true))).collect()
 }
 

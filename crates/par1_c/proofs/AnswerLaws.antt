@@ -55,7 +55,7 @@ pub record Answerable (r : Refusal) : Type 0 where
 answerable : (n : ℕ) (r : Refusal) → n < 2 ^ 64 → Within (n / 58 + 1) r → Answerable r
 answerable n r h w = record { number-most = omega (arith, w .number-most); place-most = omega (arith, w .place-most) }
 
-told : (r : Refusal) → Answerable r → Told r
+pub told : (r : Refusal) → Answerable r → Told r
 told r a =
     record {
       number-is = omega (arith, a .number-most);
@@ -147,7 +147,7 @@ load-answerable b n = by (loadingOf b n) (loading-is b n)
     by (Written k) (loads c few) = record { number-most = omega arith; place-most = omega (arith, is-catalog b c .few) }
     by (Refused r) (loads-not w) = record { number-most = omega (arith, w .number-low); place-most = omega (arith, w .place-low) }
 
-asked : {r q : Refusal} → r ≡ q → Answerable q → (r .number < 32) × (r .place < 2 ^ 59)
+pub asked : {r q : Refusal} → r ≡ q → Answerable q → (r .number < 32) × (r .place < 2 ^ 59)
 asked e a = rw e (a .number-most, a .place-most)
 
 pub read-asked : (f out : List ℕ) {r : Refusal} {t : List ℕ} → length f < 2 ^ 64 → (r, t) ≡ readInto (readOf f) out

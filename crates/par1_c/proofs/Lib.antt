@@ -1,4 +1,5 @@
 pub mod AnswerLaws
+pub mod ReplayLaws
 mod CallLaws
 mod Determined
 mod HashWalks

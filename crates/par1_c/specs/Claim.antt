@@ -10,6 +10,7 @@
 --   ImportTold           and that of an import, or the number of entries
 --   OpenTold, AddTold, DropTold     and that of a call on a catalog, or the catalog's new length
 --   LoadTold             and that of a load, or the number of entries
+--   ReplayTold           and that of a replay, or the length of its text
 --   OnBytes step s k     a call that changes s: its number, and the bytes of the inventory that it hands back, which bytes can hold again
 --   OpenedOnBytes        an opening with the bytes of the sizes is one with the sizes, and bytes can hold what it gives
 --   ChangedOnBytes       so are the calls that add, remove, set aside and take back
@@ -17,8 +18,10 @@
 --   QueriedOnBytes       so is a query
 --   OthersRefused        bytes of another length are refused with 10 by each of them, and nothing changes
 --   QueryDetermined      what a query promises determines its number and the bytes lent to it
+--   ReplayDetermined     so does what a replay promises
 -- Assumes nothing.
 use mathlib.Core.Path.{_≡_}
+use mathlib.Core.Bool.{Bool}
 use mathlib.Core.List.{List}
 use Prim.Native.Nat.{ℕ, _^_, _<_}
 use lib.ListN.{length, getD}
@@ -28,6 +31,7 @@ use Rattle.lent_bytes.specs.Writing.{written, withRefusal}
 use Rattle.parity.specs.Coefficient.{coefficient}
 use Rattle.par1_read.specs.Reading.{readOf}
 use Rattle.par1_write.specs.VolumeWriting.{writeVolumeOf}
+use Rattle.inventory.specs.Recoverable.{State}
 use Rattle.inventory.specs.Model.{Change}
 use Rattle.inventory.specs.Query.{Queried}
 use Rattle.inventory.specs.Steps.{openStep, changeStep, countStep, answerNumber}
@@ -45,6 +49,8 @@ use Rattle.md5sum_text.specs.Import.{importInto}
 use Rattle.catalog.specs.Calls.{openOf, addOf, dropOf, loadOf}
 use Rattle.catalog.specs.declared.records.Row.{Row}
 use Rattle.par1_c.specs.Answers.{lengthTold, Told}
+use Rattle.replay.specs.Replay.{replayOf}
+use Rattle.par1_c.specs.Replays.{ReplayInto}
 use Rattle.par1_c.specs.Inventories.{openInto, changedBy, countInto, QueryInto}
 
 -- a list has fewer than 2^59 entries, so 64 bits hold the answer; the file's length is a u64; proved: proofs/AnswerLaws.antt, `read-told`
@@ -93,6 +99,10 @@ DropTold = (b : List ℕ) (v : ℕ) → Told (lengthTold (dropOf b v .0))
 abbrev pub LoadTold : Type 0
 LoadTold = (b : List ℕ) (rows : List Row) → Told (lengthTold (loadOf b rows .0))
 
+-- a text is less than 2^59 bytes long; proved: proofs/ReplayLaws.antt, `replay-told`
+abbrev pub ReplayTold : Type 0
+ReplayTold = (d : State → ℕ → Bool) (log out : List ℕ) → Told (lengthTold (written (replayOf d log) out .0))
+
 pub record OnBytes (step : Inventory → ℕ → Outcome) (s : Inventory) (k : ℕ) : Type 0 where
   pub gives : changedBy step k (inventoryBytes s) ≡ (step s k .number, inventoryBytes (step s k .next))
   pub held : Held (step s k .next)
@@ -129,3 +139,8 @@ OthersRefused =
 abbrev pub QueryDetermined : Type 0
 QueryDetermined =
     (b : List ℕ) (f : ℕ) (out : List ℕ) (r r′ : ℕ) (o o′ : List ℕ) → QueryInto b f out r o → QueryInto b f out r′ o′ → (r ≡ r′) × (o ≡ o′)
+
+-- proved: proofs/ReplayLaws.antt, `replay-determined`
+abbrev pub ReplayDetermined : Type 0
+ReplayDetermined =
+    (log out : List ℕ) (r r′ : ℕ) (o o′ : List ℕ) → ReplayInto log out r o → ReplayInto log out r′ o′ → (r ≡ r′) × (o ≡ o′)

@@ -22,6 +22,7 @@ mod hash;
 mod inventories;
 mod mul_adds;
 mod reads;
+mod replays;
 mod texts;
 
 use answer_bytes::put_answer;

@@ -1,0 +1,15 @@
+pub mod FirstLineLaws
+pub mod CutNumbers
+pub mod Openings
+pub mod EventLaws
+pub mod LineLaws
+pub mod ReplayLaws
+pub mod Remains
+pub mod Determined
+pub mod Joined
+pub mod Files
+pub mod Lengths
+pub mod LineLengths
+pub mod Shapes
+pub mod Logs
+pub mod Examples

@@ -1,0 +1,11 @@
+-- `replay::events::last` meets its contract.
+-- Assumes nothing.
+use borrow.Author.Needs.{needs}
+use Rattle.replay.proofs.events.last.Statement.{statement}
+use Rattle.replay.proofs.events.last.Tie as tie
+
+returns : tie.Need-returns
+returns c = search needs
+
+pub last-spec : {M : Type 1} → statement M
+last-spec = tie.close (tie.spec returns)

@@ -1,0 +1,188 @@
+-- What a replay prints, in the words of document 02, 2026-11; the sentences in quotation marks are the request's.
+--
+--   Arrival, letterOf a, changeBy a     the four kinds of an event, their letters, and their changes
+--   firstText n sizes        a first line; byte 10 included, as in the next
+--   eventText a k            the line of an event
+--   logText n sizes es       a log of a first line and events
+--   linesOf d t es           the lines after the events es from the state t on, one after another
+--   NoEvent s, NoFirst s     s does not begin with the line of an event; with a first line
+--   endLine s                what ends a replay before s: nothing where s is empty, else the refusal of a line
+--   Ascending ks             each number is less than those after it
+--   LogPrints rule log lines     the lines that a program prints that goes by `open`, `next` and `put_line`
+-- The claims:
+--   Decided                  there is a test that decides which files are recoverable, as Replayed asks for
+--   OneText                  what is promised of a replay determines its answer and the room
+--   OneLine                  so it is with the line after an event
+--   FirstShaped, EventShaped     which lines have the shape, exactly, and what they say
+--   LogReplayed              a log that is accepted, up to its end or the first line of another shape
+--   OpeningRefused, FirstRefused, LongRefused     the other logs: so each log is one of these
+--   Listed                   after an accepted event the line has exactly the files that are missing and recoverable, ascending
+--   EventRefused             after one that is refused it has the refusal
+--   LinesJoined, LinesFit    what a program prints line by line is the text of the replay, and each line fits its room
+--   TextFits                 the text of any log is less than 2^59 bytes long
+--   ExamplePrints            the request's example
+-- No claim is empty: the test is there (Decided), every log falls under one of four claims, and the example has an accepted log, events that are
+-- accepted and one that is refused.
+-- Assumes nothing.
+use Prim.Native.Nat.{ℕ, _^_, _<_, _≤_}
+use Prim.Native.Char.{code}
+use mathlib.Core.Path.{_≡_}
+use mathlib.Core.Logic.{_↔_, _≢_}
+use mathlib.Core.Bool.{Bool, true, false}
+use mathlib.Core.List.{List, [], _∷_, _++_, map, flatten, List·Memᴰ}
+use lib.ListN.{length, getD}
+use Rattle.cut_lists.specs.All.{All}
+use Rattle.lent_bytes.specs.declared.Writing.{Writing}
+use Rattle.parity.specs.Coefficient.{coefficient}
+use Rattle.inventory.specs.Recoverable.{State}
+use Rattle.inventory.specs.Model.{Change, addFile, removeFile, addVolume, removeVolume, change, opened, numberOf, next}
+use Rattle.inventory.specs.Steps.{openStep}
+use Rattle.inventory.specs.Claim.{sizeIn}
+use Rattle.inventory.specs.RecoverableFiles.{RecoverableNow}
+use Rattle.text.specs.Ascii.{ascii}
+use Rattle.text.specs.Decimal.{decimal}
+use Rattle.replay.specs.Log.{isFirstLine, numbersOf, changeOf, isEventLine, numberIn}
+use Rattle.replay.specs.Lines.{refusedLine, spaced, numbersLine}
+use Rattle.replay.specs.Replay.{Decides, eventLine, replayOf, Replayed}
+use Rattle.replay.specs.Events.{opening, EventLine, Prints}
+use Rattle.replay.specs.declared.events.Event.{Event}
+
+-- ---- logs as text
+
+-- ""F 7" and "V 4" for noted, "f 7" and "v 4" for withdrawn"
+pub data Arrival : Type 0 where
+  fileAdded volumeAdded fileRemoved volumeRemoved : Arrival
+
+abbrev pub letterOf : Arrival → ℕ
+letterOf fileAdded = code "F"
+letterOf volumeAdded = code "V"
+letterOf fileRemoved = code "f"
+letterOf volumeRemoved = code "v"
+
+abbrev pub changeBy : Arrival → Change
+changeBy fileAdded = addFile
+changeBy volumeAdded = addVolume
+changeBy fileRemoved = removeFile
+changeBy volumeRemoved = removeVolume
+
+-- "a first line with the number of files and their sizes, .. decimal without leading zeros, single spaces, byte 10 after each"
+abbrev pub firstText : ℕ → List ℕ → List ℕ
+firstText n sizes = spaced (n ∷ sizes) ++ (10 ∷ [])
+
+abbrev pub eventText : Arrival × ℕ → List ℕ
+eventText e = (letterOf (e .0) ∷ code " " ∷ decimal (e .1)) ++ (10 ∷ [])
+
+abbrev pub logText : ℕ → List ℕ → List (Arrival × ℕ) → List ℕ
+logText n sizes es = firstText n sizes ++ flatten (map eventText es)
+
+unfoldable pub linesOf : (State → ℕ → Bool) → State → List (Arrival × ℕ) → List ℕ
+linesOf d t [] = []
+linesOf d t (e ∷ es) = eventLine d t (changeBy (e .0)) (e .1) ++ linesOf d (next t (change (changeBy (e .0)) (e .1))) es
+
+abbrev pub NoEvent : List ℕ → Type 0
+NoEvent s = (e : Arrival × ℕ) (r : List ℕ) → s ≢ eventText e ++ r
+
+abbrev pub NoFirst : List ℕ → Type 0
+NoFirst s = (n : ℕ) (sizes r : List ℕ) → s ≢ firstText n sizes ++ r
+
+abbrev pub endLine : List ℕ → List ℕ
+endLine [] = []
+endLine (b ∷ s) = refusedLine 28
+
+abbrev pub Ascending : List ℕ → Type 0
+Ascending ks = (i j : ℕ) → i < j → j < length ks → getD ks i 0 < getD ks j 0
+
+pub data LogPrints (rule : ℕ → ℕ → ℕ) (log : List ℕ) : List (List ℕ) → Type 0 where
+  at-once : {line : List ℕ} → opening log .over ≡ true → EventLine rule (opening log) line → LogPrints rule log (line ∷ [])
+  by-events : {lines : List (List ℕ)} → opening log .over ≡ false → Prints rule log (opening log) lines → LogPrints rule log lines
+
+-- ---- the promise
+
+-- proved: proofs/Determined.antt, `decided`
+abbrev pub Decided : Type 0
+Decided = (d : State → ℕ → Bool) × Decides coefficient d
+
+-- proved: proofs/Determined.antt, `one-text`
+abbrev pub OneText : Type 0
+OneText = (log out : List ℕ) (r r′ : Writing × List ℕ) → Replayed coefficient log out r → Replayed coefficient log out r′ → r ≡ r′
+
+-- proved: proofs/Determined.antt, `one-line`
+abbrev pub OneLine : Type 0
+OneLine = (e : Event) (l l′ : List ℕ) → EventLine coefficient e l → EventLine coefficient e l′ → l ≡ l′
+
+-- ---- the shape of lines, without their byte 10
+
+-- proved: proofs/Shapes.antt, `first-shaped`
+pub record FirstShaped : Type 0 where
+  pub exactly : (l : List ℕ) → (isFirstLine l ≡ true) ↔ ((n : ℕ) × (sizes : List ℕ) × (l ≡ spaced (n ∷ sizes)))
+  pub says : (n : ℕ) (sizes : List ℕ) → numbersOf (spaced (n ∷ sizes)) ≡ n ∷ sizes
+
+-- proved: proofs/Shapes.antt, `event-shaped`
+pub record EventShaped : Type 0 where
+  pub exactly : (l : List ℕ) → (isEventLine l ≡ true) ↔ ((a : Arrival) × (k : ℕ) × (l ≡ letterOf a ∷ code " " ∷ decimal k))
+  pub says : (a : Arrival) (k : ℕ) → (changeOf (letterOf a) ≡ changeBy a) × (numberIn (letterOf a ∷ code " " ∷ decimal k) ≡ k)
+
+-- ---- the text
+
+-- "After each event a program prints .. and goes on"; "28 for a line of another shape, .. or an unended last one included, which ends the replay"
+-- proved: proofs/Logs.antt, `log-replayed`
+abbrev pub LogReplayed : Type 0
+LogReplayed =
+    (d : State → ℕ → Bool) (n : ℕ) (sizes : List ℕ) (es : List (Arrival × ℕ)) (s : List ℕ)
+    → openStep n sizes .number ≡ 0 → NoEvent s → length (logText n sizes es ++ s) ≤ 65536
+    → replayOf d (logText n sizes es ++ s) ≡ linesOf d (opened n (sizeIn sizes)) es ++ endLine s
+
+-- "so does 10 or 1 from opening, 10 too if the sizes are more or fewer than the first number says"
+-- proved: proofs/Logs.antt, `opening-refused`
+abbrev pub OpeningRefused : Type 0
+OpeningRefused =
+    (d : State → ℕ → Bool) (n : ℕ) (sizes s : List ℕ) → openStep n sizes .number ≢ 0 → length (firstText n sizes ++ s) ≤ 65536
+    → replayOf d (firstText n sizes ++ s) ≡ refusedLine (openStep n sizes .number)
+
+-- "28 for a line of another shape, the first (or none)"
+-- proved: proofs/Logs.antt, `first-refused`
+abbrev pub FirstRefused : Type 0
+FirstRefused = (d : State → ℕ → Bool) (log : List ℕ) → NoFirst log → length log ≤ 65536 → replayOf d log ≡ refusedLine 28
+
+-- "A log above 65,536 bytes gives only `refused 1`"
+-- proved: proofs/Logs.antt, `long-refused`
+abbrev pub LongRefused : Type 0
+LongRefused = (d : State → ℕ → Bool) (log : List ℕ) → 65536 < length log → replayOf d log ≡ refusedLine 1
+
+-- "the file numbers that are rebuildable now, ascending, or `none`"
+-- proved: proofs/Files.antt, `listed`
+abbrev pub Listed : Type 0
+Listed =
+    (d : State → ℕ → Bool) → Decides coefficient d → (t : State) → t .n ≤ 254 → (c : Change) (k : ℕ) → numberOf t c k ≡ 0
+    → (ks : List ℕ) × Ascending ks × ((f : ℕ) → List·Memᴰ f ks ↔ RecoverableNow coefficient (next t (change c k)) f)
+    × (eventLine d t c k ≡ numbersLine ks)
+
+-- "or `refused N`"
+-- proved: proofs/Files.antt, `event-refused`
+abbrev pub EventRefused : Type 0
+EventRefused =
+    (d : State → ℕ → Bool) (t : State) (c : Change) (k : ℕ) → numberOf t c k ≢ 0
+    → eventLine d t c k ≡ ascii "refused " ++ (decimal (numberOf t c k) ++ (10 ∷ []))
+
+-- ---- line by line
+
+-- proved: proofs/Joined.antt, `lines-joined`
+abbrev pub LinesJoined : Type 0
+LinesJoined =
+    (log : List ℕ) (lines : List (List ℕ)) → LogPrints coefficient log lines
+    → (d : State → ℕ → Bool) → Decides coefficient d → flatten lines ≡ replayOf d log
+
+-- proved: proofs/LineLengths.antt, `lines-fit`
+abbrev pub LinesFit : Type 0
+LinesFit = (log : List ℕ) (lines : List (List ℕ)) → LogPrints coefficient log lines → All (λ line. length line ≤ 1024) lines
+
+-- proved: proofs/Lengths.antt, `text-fits`
+abbrev pub TextFits : Type 0
+TextFits = (d : State → ℕ → Bool) (log : List ℕ) → length (replayOf d log) < 2 ^ 59
+
+-- "So `2 2 1`, `V 2`, `F 1`, `V 2` print `none`, `2`, `refused 11`."
+-- proved: proofs/Examples.antt, `example-prints`
+abbrev pub ExamplePrints : Type 0
+ExamplePrints =
+    (d : State → ℕ → Bool) → Decides coefficient d
+    → replayOf d (ascii "2 2 1\nV 2\nF 1\nV 2\n") ≡ ascii "none\n2\nrefused 11\n"
