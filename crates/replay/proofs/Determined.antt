@@ -4,22 +4,19 @@
 --   one-text    one text
 --   one-line    one line after an event
 -- Assumes nothing.
-use mathlib.Core.Path.{_≡_, refl, sym, ap, _∙_}
+use mathlib.Core.Path.{_≡_, sym, _∙_}
 use mathlib.Core.Logic.{_↔_}
-use mathlib.Core.Bool.{Bool, true, false, true≢false}
+use mathlib.Core.Bool.{Bool, true, false}
 use Prim.Native.Nat.{ℕ, _≤_}
 use native.Mathlib.Decide.{decLe}
 use Rattle.parity.specs.Coefficient.{coefficient}
 use Rattle.parity.proofs.Coefficients.{coefficient-byte}
-use Rattle.number_sets.specs.Sets.{member}
 use Rattle.inventory.specs.Recoverable.{State}
 use Rattle.inventory.specs.RecoverableFiles.{RecoverableNow}
-use Rattle.inventory.specs.declared.recoverable.RecoverableFiles.{RecoverableFiles}
 use Rattle.inventory.proofs.Decided.{recoverable-decided}
-use Rattle.inventory.proofs.RecoverableAnswers.{one-set}
-use Rattle.replay.specs.Lines.{filesOf, numbersLine}
-use Rattle.replay.specs.Events.{at-end, refused, files}
+use Rattle.replay.specs.Events.{at-end, refused, no-inventory, files}
 use Rattle.replay.specs.Claim.{Decided, OneText, OneLine}
+use Rattle.replay.proofs.EventLines.{line-refused, line-end, line-none, line-files}
 
 -- a state of more files has none
 test : (t : State) → Dec (t .n ≤ 254) → ℕ → Bool
@@ -38,13 +35,7 @@ pub one-text : OneText
 one-text log out r r′ R R′ = let (d, D) = decided in R d D ∙ sym (R′ d D)
 
 pub one-line : OneLine
-one-line e l l′ (at-end z o) (at-end z′ o′) = refl
-one-line e l l′ (at-end z o) (refused q) = absurd (q z)
-one-line e l l′ (at-end z o) (files z′ o′ r F) = absurd (true≢false (sym o ∙ o′))
-one-line e l l′ (refused q) (at-end z o) = absurd (q z)
-one-line e l l′ (refused q) (refused q′) = refl
-one-line e l l′ (refused q) (files z o r F) = absurd (q z)
-one-line e l l′ (files z o r F) (at-end z′ o′) = absurd (true≢false (sym o′ ∙ o))
-one-line e l l′ (files z o r F) (refused q) = absurd (q z)
-one-line e l l′ (files z o r F) (files z′ o′ r′ F′) =
-    ap (λ (x : RecoverableFiles). numbersLine (filesOf (e .inventory .n) (member (x .files)))) (one-set (e .inventory) r r′ F F′)
+one-line e l l′ E (at-end z o) = line-end e l E z o
+one-line e l l′ E (refused q) = line-refused e l E q
+one-line e l l′ E (no-inventory z o v) = line-none e l E z o v
+one-line e l l′ E (files z o v r F) = line-files e l E z o v r F

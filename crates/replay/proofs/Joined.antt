@@ -15,7 +15,8 @@ use Rattle.replay.specs.Replay.{Decides, replayOf}
 use Rattle.replay.specs.Events.{opening, nextEvent, Prints, ends, goes-on}
 use Rattle.replay.specs.Claim.{LogPrints, at-once, by-events, LinesJoined}
 use Rattle.replay.specs.declared.events.Event.{Event}
-use Rattle.replay.proofs.ReplayLaws.{linesFrom, line-refused, opening-starts, Follows, next-follows}
+use Rattle.replay.proofs.EventLines.{line-refused}
+use Rattle.replay.proofs.ReplayLaws.{linesFrom, opening-starts, Follows, next-follows}
 
 module _ (d : State → ℕ → Bool) (D : Decides coefficient d) (log : List ℕ) where
   ended-none : (e : Event) (lines : List (List ℕ)) → Prints coefficient log e lines → e .over ≡ true → lines ≡ []

@@ -2,6 +2,7 @@ pub mod FirstLineLaws
 pub mod CutNumbers
 pub mod Openings
 pub mod EventLaws
+pub mod EventLines
 pub mod LineLaws
 pub mod ReplayLaws
 pub mod Remains

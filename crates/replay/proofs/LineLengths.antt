@@ -22,7 +22,7 @@ use Rattle.inventory.proofs.ValidInventories.{few-files}
 use Rattle.inventory.proofs.Representation.{Represents}
 use Rattle.text.specs.TextLines.{lineLength}
 use Rattle.replay.specs.Log.{bodyOf, isFirstLine, numbersOf, changeOf, isEventLine, numberIn}
-use Rattle.replay.specs.Events.{ended, openedBy, opening, last, taken, nextEvent, EventLine, at-end, refused, files, Prints, ends, goes-on}
+use Rattle.replay.specs.Events.{ended, openedBy, opening, last, taken, nextEvent, EventLine, at-end, refused, no-inventory, files, Prints, ends, goes-on}
 use Rattle.replay.specs.Claim.{at-once, by-events, LinesFit}
 use Rattle.replay.specs.declared.events.Event.{Event}
 use Rattle.replay.proofs.ReplayLaws.{opening-starts, Follows, next-follows}
@@ -81,7 +81,8 @@ first-small log = go (leb (length log) 65536) (eqb (lineLength log) 0) (isFirstL
 line-fits : (e : Event) (line : List ℕ) → e .number < 1000 → (e .over ≡ false → e .inventory .n ≤ 254) → EventLine coefficient e line → length line ≤ 1024
 line-fits e line s few (at-end z o) = omega arith
 line-fits e line s few (refused q) = refused-short (e .number) s
-line-fits e line s few (files z o r F) = files-short (member (r .files)) (e .inventory .n) (few o)
+line-fits e line s few (no-inventory z o v) = refused-short 10 (omega arith)
+line-fits e line s few (files z o v r F) = files-short (member (r .files)) (e .inventory .n) (few o)
 
 prints-fit : (log : List ℕ) (size : ℕ → ℕ) (t : State) (e : Event) (lines : List (List ℕ)) → (e .over ≡ false → Represents size t (e .inventory))
     → Prints coefficient log e lines → All (λ line. length line ≤ 1024) lines

@@ -18,7 +18,8 @@ use Rattle.text.proofs.BufferLaws.{put-rest}
 use Rattle.replay.specs.Replay.{Decides, replayOf}
 use Rattle.replay.specs.Events.{opening, nextEvent, EventLine}
 use Rattle.replay.specs.declared.events.Event.{Event}
-use Rattle.replay.proofs.ReplayLaws.{linesFrom, line-refused, Starts, opening-starts, Follows, next-follows}
+use Rattle.replay.proofs.EventLines.{line-refused}
+use Rattle.replay.proofs.ReplayLaws.{linesFrom, Starts, opening-starts, Follows, next-follows}
 
 pub start-refused : (log : List ℕ) (a b : Buffer) (e : Event) (line : List ℕ) → e ≡ opening log → e .over ≡ true → EventLine coefficient e line
     → b ≡ put a line → (d : State → ℕ → Bool) → Decides coefficient d → b ≡ put a (replayOf d log)

@@ -10,7 +10,7 @@ use mathlib.Core.Path.{_≡_, refl, sym, ap, ap₂, _∙_, subst, fun-ext}
 use mathlib.Core.Logic.{_≢_}
 use mathlib.Core.Bool.{Bool, true, false, cond, true≢false, false≢true}
 use mathlib.Core.List.{List, [], _∷_, _++_}
-use Prim.Native.Nat.{ℕ, _+_, _-_, _≤_, _<_}
+use Prim.Native.Nat.{ℕ, _+_, _≤_, _<_}
 use native.Mathlib.Nat.{suc-ne-zero}
 use native.Mathlib.Omega.{arith}
 use native.Mathlib.Decide.{ℕ-discrete, decLe}
@@ -24,7 +24,7 @@ use Rattle.number_sets.specs.Sets.{member}
 use Rattle.parity.specs.Coefficient.{coefficient}
 use Rattle.inventory.specs.Recoverable.{State}
 use Rattle.inventory.specs.Model.{Change, change, numbered, opened, numberOf, next, Gives}
-use Rattle.inventory.specs.Steps.{openStep, changeStep}
+use Rattle.inventory.specs.Steps.{isInventory, openStep, changeStep}
 use Rattle.inventory.specs.Claim.{Step, sizeIn}
 use Rattle.inventory.specs.RecoverableFiles.{RecoverableSet}
 use Rattle.inventory.specs.declared.Inventory.{Inventory}
@@ -39,8 +39,9 @@ use Rattle.text.proofs.ScanLaws.{line-most}
 use Rattle.replay.specs.Log.{bodyOf, isFirstLine, numbersOf, changeOf, isEventLine, numberIn}
 use Rattle.replay.specs.Lines.{refusedLine, filesOf, numbersLine}
 use Rattle.replay.specs.Replay.{Decides, eventLine, eventLines, openedLines, logLines, replayOf}
-use Rattle.replay.specs.Events.{ended, openedBy, opening, last, taken, nextEvent, EventLine, at-end, refused, files}
+use Rattle.replay.specs.Events.{ended, openedBy, opening, last, taken, nextEvent, EventLine, at-end, refused, no-inventory, files}
 use Rattle.replay.specs.declared.events.Event.{Event}
+use Rattle.replay.proofs.EventLines.{line-refused, line-end}
 use Rattle.replay.proofs.EventLaws.{opening-long, opening-none, opening-shape, opening-opens, next-end, next-unended, next-shape, next-taken}
 
 abbrev pub linesFrom : (State → ℕ → Bool) → State → List ℕ → ℕ → List ℕ
@@ -168,17 +169,6 @@ pub record Follows (size : ℕ → ℕ) (t : State) (log : List ℕ) (from : ℕ
       → (t′ : State) × Represents size t′ (e .inventory)
       × ((d : Test) → Decides coefficient d → linesFrom d t log from ≡ line ++ linesFrom d t′ log (e .from))
 
--- the line of an event that is refused, and of the end
-pub line-refused : (e : Event) (line : List ℕ) → EventLine coefficient e line → e .number ≢ 0 → line ≡ refusedLine (e .number)
-line-refused e line (at-end z o) q = absurd (q z)
-line-refused e line (refused p) q = refl
-line-refused e line (files z o r F) q = absurd (q z)
-
-line-end : (e : Event) (line : List ℕ) → EventLine coefficient e line → e .number ≡ 0 → e .over ≡ true → line ≡ []
-line-end e line (at-end z o) n y = refl
-line-end e line (refused p) n y = absurd (p n)
-line-end e line (files z o r F) n y = absurd (false≢true (sym o ∙ y))
-
 module _ (size : ℕ → ℕ) (t : State) (log : List ℕ) (from : ℕ) (s : Inventory) (R : Represents size t s) where
   abbrev here : List ℕ
   here = drop from log
@@ -234,7 +224,8 @@ module _ (size : ℕ → ℕ) (t : State) (log : List ℕ) (from : ℕ) (s : Inv
   the-line d D e line (refused p) n v i =
       ap (λ (x : ℕ). cond (eqb x 0) (numbersLine (filesOf (t′ .n) (d t′))) (refusedLine x)) (same-number ∙ sym n)
       ∙ ap (λ (b : Bool). cond b (numbersLine (filesOf (t′ .n) (d t′))) (refusedLine (e .number))) (ne-eqb (e .number) 0 p)
-  the-line d D e line (files z y r F) n v i =
+  the-line d D e line (no-inventory z y x) n v i = absurd (true≢false (sym (met .1 .valid) ∙ ap isInventory (sym i) ∙ x))
+  the-line d D e line (files z y x r F) n v i =
       ap (λ (x : ℕ). cond (eqb x 0) (numbersLine (filesOf (t′ .n) (d t′))) (refusedLine x)) (same-number ∙ sym n)
       ∙ ap (λ (b : Bool). cond b (numbersLine (filesOf (t′ .n) (d t′))) (refusedLine (e .number))) (eq-eqb (e .number) 0 z)
       ∙ sym (files-line d D size t′ (e .inventory) (subst (Represents size t′) (sym i) (met .1)) r F)

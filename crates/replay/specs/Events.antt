@@ -9,7 +9,7 @@
 --   EventLine rule e line      the line that is printed after e
 --   Prints rule log e lines    the lines that are printed from the event e on, each event taken where the one before it ended
 -- Assumes nothing.
-use Prim.Native.Nat.{ℕ, _+_, _-_}
+use Prim.Native.Nat.{ℕ, _+_}
 use mathlib.Core.Path.{_≡_}
 use mathlib.Core.Logic.{_≢_}
 use mathlib.Core.Bool.{true, false, cond}
@@ -18,7 +18,7 @@ use lib.Dec.{leb, eqb}
 use lib.ListN.{length, getD, take, drop}
 use Rattle.refusals.specs.Limits.{maxListedLength}
 use Rattle.number_sets.specs.Sets.{member}
-use Rattle.inventory.specs.Steps.{zeros, openStep, changeStep}
+use Rattle.inventory.specs.Steps.{isInventory, zeros, openStep, changeStep}
 use Rattle.inventory.specs.RecoverableFiles.{RecoverableSet}
 use Rattle.inventory.specs.declared.Inventory.{Inventory}
 use Rattle.inventory.specs.declared.Outcome.{Outcome}
@@ -60,7 +60,9 @@ nextEvent log from s =
 pub data EventLine (rule : ℕ → ℕ → ℕ) (e : Event) : List ℕ → Type 0 where
   at-end : e .number ≡ 0 → e .over ≡ true → EventLine rule e []
   refused : e .number ≢ 0 → EventLine rule e (refusedLine (e .number))
-  files : e .number ≡ 0 → e .over ≡ false → (r : RecoverableFiles) → RecoverableSet rule (e .inventory) r
+  -- "Every call refuses with 10, first of all, a sheet that opening and accepted calls could not have given"
+  no-inventory : e .number ≡ 0 → e .over ≡ false → isInventory (e .inventory) ≡ false → EventLine rule e (refusedLine 10)
+  files : e .number ≡ 0 → e .over ≡ false → isInventory (e .inventory) ≡ true → (r : RecoverableFiles) → RecoverableSet rule (e .inventory) r
       → EventLine rule e (numbersLine (filesOf (e .inventory .n) (member (r .files))))
 
 pub data Prints (rule : ℕ → ℕ → ℕ) (log : List ℕ) : Event → List (List ℕ) → Type 0 where

@@ -7,7 +7,8 @@ use borrow.Author.Needs.{needs}
 use mathlib.Core.List.{[]}
 use Rattle.text.proofs.BufferLaws.{put-nil}
 use Rattle.replay.specs.Lines.{refusedLine}
-use Rattle.replay.specs.Events.{at-end, refused, files}
+use Rattle.replay.specs.Events.{at-end, refused}
+use Rattle.replay.proofs.EventLines.{set-none, set-files}
 use Rattle.replay.proofs.lines.put_line.Statement.{statement}
 use Rattle.replay.proofs.lines.put_line.Tie as tie
 
@@ -24,8 +25,14 @@ returns-2 c =
 returns-3 : tie.Need-returns-3
 returns-3 c =
     let p = c .before .before in
-    let r = p .before .before .before .recoverable-files in
-    (_, files (p .before .before .before .before .before .before .if1 .left) (p .before .before .before .before .before .if2 .left) (r .result) (r .ensures), p .put-files .ensures)
+    let r = p .before .before .before .before in
+    (_, set-none _ (r .before .before .before .if1 .left) (r .before .before .if2 .left) _ (r .recoverable-files .ensures) (p .before .before .if3 .taken), p .put-refused2 .ensures)
+
+returns-4 : tie.Need-returns-4
+returns-4 c =
+    let p = c .before .before in
+    let r = p .before .before .before .before .before in
+    (_, set-files _ (r .before .before .before .if1 .left) (r .before .before .if2 .left) _ (r .recoverable-files .ensures) (p .before .before .before .if3 .left), p .put-files .ensures)
 
 pub put-line-spec : {M : Type 1} → statement M
 put-line-spec =
@@ -38,4 +45,7 @@ put-line-spec =
     (λ c κs. search needs)
     (λ c κs. search needs)
     (λ c. search needs)
-    returns-3)
+    returns-3
+    (λ c κs. search needs)
+    (λ c. search needs)
+    returns-4)
