@@ -25,7 +25,7 @@ use Rattle.text.specs.Ascii.{ascii}
 use Rattle.text.specs.Decimal.{decimal}
 use Rattle.replay.specs.Lines.{refusedLine, filesOf, numbersLine}
 use Rattle.replay.specs.Replay.{eventLine}
-use Rattle.replay.specs.Claim.{Ascending, Listed, EventRefused}
+use Rattle.replay.specs.Claim.{filesText, Ascending, Listed, EventRefused}
 
 module _ (test : ℕ → Bool) where
   -- the files of n + 1 numbers
@@ -107,6 +107,11 @@ module _ (test : ℕ → Bool) where
     λ h. let l = oneTo-inside n f (h .0) in files-has n f (l .0) (l .1) (h .1),
   )
 
+-- the line in the shape of a first line
+same-shape : (ks : List ℕ) → numbersLine ks ≡ filesText ks
+same-shape [] = refl
+same-shape (k ∷ ks) = refl
+
 pub listed : Listed
 unfolding eventLine
 listed d D t few c k e =
@@ -119,7 +124,8 @@ listed d D t few c k e =
         λ m. D t′ few′ f .0 (member f .0 m .1),
         λ r. member f .1 (r .0, D t′ few′ f .1 r),
       ),
-      ap (λ (b : Bool). cond b (numbersLine (filesOf (t′ .n) (d t′))) (refusedLine (numberOf t c k))) (eq-eqb (numberOf t c k) 0 e),
+      ap (λ (b : Bool). cond b (numbersLine (filesOf (t′ .n) (d t′))) (refusedLine (numberOf t c k))) (eq-eqb (numberOf t c k) 0 e)
+          ∙ same-shape (filesOf (t′ .n) (d t′)),
     )
 
 pub event-refused : EventRefused

@@ -4,6 +4,7 @@
 --   firstText n sizes        a first line; byte 10 included, as in the next
 --   eventText a k            the line of an event
 --   logText n sizes es       a log of a first line and events
+--   filesText ks             the line of the files ks: numbers as a first line has them, or `none`
 --   linesOf d t es           the lines after the events es from the state t on, one after another
 --   NoEvent s, NoFirst s     s does not begin with the line of an event; with a first line
 --   endLine s                what ends a replay before s: nothing where s is empty, else the refusal of a line
@@ -16,7 +17,8 @@
 --   FirstShaped, EventShaped     which lines have the shape, exactly, and what they say
 --   LogReplayed              a log that is accepted, up to its end or the first line of another shape
 --   OpeningRefused, FirstRefused, LongRefused     the other logs: so each log is one of these
---   Listed                   after an accepted event the line has exactly the files that are missing and recoverable, ascending
+--   Listed                   after an accepted event the line has exactly the files that are missing and recoverable, ascending, in the shape
+--                            of a first line, which FirstShaped gives
 --   EventRefused             after one that is refused it has the refusal
 --   LinesJoined, LinesFit    what a program prints line by line is the text of the replay, and each line fits its room
 --   TextFits                 the text of any log is less than 2^59 bytes long
@@ -42,7 +44,7 @@ use Rattle.inventory.specs.RecoverableFiles.{RecoverableNow}
 use Rattle.text.specs.Ascii.{ascii}
 use Rattle.text.specs.Decimal.{decimal}
 use Rattle.replay.specs.Log.{isFirstLine, numbersOf, changeOf, isEventLine, numberIn}
-use Rattle.replay.specs.Lines.{refusedLine, spaced, numbersLine}
+use Rattle.replay.specs.Lines.{refusedLine, spaced}
 use Rattle.replay.specs.Replay.{Decides, eventLine, replayOf, Replayed}
 use Rattle.replay.specs.Events.{opening, EventLine, Prints}
 use Rattle.replay.specs.declared.events.Event.{Event}
@@ -74,6 +76,11 @@ eventText e = (letterOf (e .0) ∷ code " " ∷ decimal (e .1)) ++ (10 ∷ [])
 
 abbrev pub logText : ℕ → List ℕ → List (Arrival × ℕ) → List ℕ
 logText n sizes es = firstText n sizes ++ flatten (map eventText es)
+
+-- "the file numbers .., ascending, or `none`, .. in lines of the same shape"
+abbrev pub filesText : List ℕ → List ℕ
+filesText [] = ascii "none\n"
+filesText (k ∷ ks) = firstText k ks
 
 unfoldable pub linesOf : (State → ℕ → Bool) → State → List (Arrival × ℕ) → List ℕ
 linesOf d t [] = []
@@ -149,13 +156,13 @@ FirstRefused = (d : State → ℕ → Bool) (log : List ℕ) → NoFirst log →
 abbrev pub LongRefused : Type 0
 LongRefused = (d : State → ℕ → Bool) (log : List ℕ) → 65536 < length log → replayOf d log ≡ refusedLine 1
 
--- "the file numbers that are rebuildable now, ascending, or `none`"
+-- "the file numbers that are rebuildable now, ascending, or `none`, .. in lines of the same shape"
 -- proved: proofs/Files.antt, `listed`
 abbrev pub Listed : Type 0
 Listed =
     (d : State → ℕ → Bool) → Decides coefficient d → (t : State) → t .n ≤ 254 → (c : Change) (k : ℕ) → numberOf t c k ≡ 0
     → (ks : List ℕ) × Ascending ks × ((f : ℕ) → List·Memᴰ f ks ↔ RecoverableNow coefficient (next t (change c k)) f)
-    × (eventLine d t c k ≡ numbersLine ks)
+    × (eventLine d t c k ≡ filesText ks)
 
 -- "or `refused N`"
 -- proved: proofs/Files.antt, `event-refused`
