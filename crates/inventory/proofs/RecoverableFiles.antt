@@ -2,6 +2,7 @@
 --
 --   set-refused      an inventory that no calls give
 --   set-gathered     any other
+--   set-there        so there is a set that meets the promise
 -- Assumes nothing.
 use mathlib.Core.Path.{_≡_, refl, sym, ap, ap₂, _∙_, subst}
 use mathlib.Core.Logic.{_⊎_, inl, inr}
@@ -19,10 +20,12 @@ use Rattle.number_sets.specs.Sets.{member, gathered, Words}
 use Rattle.number_sets.proofs.Words.{words-none}
 use Rattle.number_sets.proofs.Gathering.{gathered-words, gathered-from, gathered-in}
 use Rattle.volume_weights.specs.Weights.{Solved, SolvedColumns}
+use Rattle.volume_weights.proofs.Determined.{columns-there}
 use Rattle.inventory.specs.Steps.{isInventory}
 use Rattle.inventory.specs.Query.{stateOf, Matches, Found, empty, notEmpty}
 use Rattle.inventory.specs.RecoverableFiles.{RecoverableNow, RecoverableSet}
 use Rattle.inventory.specs.declared.Inventory.{Inventory}
+use Rattle.inventory.specs.declared.recoverable.RecoverableFiles.{RecoverableFiles}
 use Rattle.inventory.proofs.ValidInventories.{within-bits, few-files, nonempty-valid}
 use Rattle.inventory.proofs.Queries.{recovered, unrecovered}
 
@@ -112,3 +115,11 @@ module _ (rule : ℕ → ℕ → ℕ) (small : (f v : ℕ) → f < 256 → rule 
     );
     words = subst Words (sym z) (gathered-words solved suc isEmpty (S .words) (s .n));
   }
+
+pub set-there : (rule : ℕ → ℕ → ℕ) → ((f v : ℕ) → f < 256 → rule f v < 256) → (s : Inventory) → (r : RecoverableFiles) × RecoverableSet rule s r
+set-there rule small s = go (isInventory s) refl
+  where
+    go : (v : Bool) → isInventory s ≡ v → (r : RecoverableFiles) × RecoverableSet rule s r
+    go true v =
+        let (solved, S) = columns-there rule (s .nonempty) (s .files) (s .volumes) (255 - s .n) in (_, set-gathered rule small s v solved S _ refl)
+    go false v = (_, set-refused rule s v)

@@ -3,13 +3,13 @@
 --   numbers-column              the columns of that set are its numbers
 --   renumbered-entry            its coefficients are those of the columns' files
 --   packed-row, row-past        the end of the loop of `row`; past the columns a row is 0
+--   renumbered-small            its rule gives bytes
+--   outside-solved              a file that is no column is not solved
 --   columns-filled              the end of the loop of `columns`
 --   columns-byte                they are fewer than 256
 --   place-inside                each stands before their number
 --   placed, unplaced            the place of a column among them, and of none
---   renumbered-small            its rule gives bytes
 --   renumbered-solved           what is solved of it is solved of the set that it comes from
---   outside-solved              a file that is no column is not
 -- Assumes nothing.
 use mathlib.Core.Path.{_≡_, refl, sym, ap, ap₂, _∙_, subst}
 use mathlib.Core.Bool.{Bool, true, false, not, cond, _&&_, _||_, and-true, true≢false}
@@ -103,6 +103,28 @@ module _ (rule : ℕ → ℕ → ℕ) (files : List ℕ) where
   unfolding renumbered
   renumbered-small small bytes f v l = small (getD files (f - 1) 0) v (bytes (f - 1))
 
+-- ---- a file that is no column
+
+-- an entry of a table: of a volume that is present, and of a column
+entry-of : Bool → Bool → ℕ → Byte
+entry-of v c x = toByte (cond v (cond c x 0) 0)
+
+entry-zero : (v : Bool) (x : ℕ) → entry-of v false x ≡ byteField .𝟘
+unfolding entry-of
+entry-zero true x = toByte-of-value (byteField .𝟘)
+entry-zero false x = toByte-of-value (byteField .𝟘)
+
+module _ (rule : ℕ → ℕ → ℕ) (nonempty present volumes : List ℕ) where
+  entry-outside : (s i : ℕ) → columnIn nonempty present (suc i) ≡ false → tableOf rule nonempty present volumes s i ≡ byteField .𝟘
+  unfolding tableOf entry-of
+  entry-outside s i e =
+      ap (λ (b : Bool). entry-of (member volumes (suc s)) b (rule (suc i) (suc s))) e ∙ entry-zero (member volumes (suc s)) (rule (suc i) (suc s))
+
+  pub outside-solved : (rows i : ℕ) → i < 256 → columnIn nonempty present (suc i) ≡ false
+      → Solved rule nonempty present volumes rows i (replicate 256 0) false
+  outside-solved rows i l e =
+      unsolved _ (outside-kernel byteField 256 (tableOf rule nonempty present volumes) rows i l (λ s. entry-outside s i e)) refl
+
 -- ---- the set that the columns come from
 
 pub columns-filled : (nonempty present files : List ℕ) (width : ℕ) → Filled (λ k. columnIn nonempty present (suc k)) 255 width files
@@ -164,15 +186,6 @@ module _ (nonempty present files : List ℕ) (width : ℕ) (C : IsColumns nonemp
     abbrev packed : ℕ → ℕ → Byte
     packed = tableOf (renumbered rule files) (numbersTo width) (replicate 4 0) volumes
 
-    -- an entry of a table: of a volume that is present, and of a column
-    entry-of : Bool → Bool → ℕ → Byte
-    entry-of v c x = toByte (cond v (cond c x 0) 0)
-
-    entry-zero : (v : Bool) (x : ℕ) → entry-of v false x ≡ byteField .𝟘
-    unfolding entry-of
-    entry-zero true x = toByte-of-value (byteField .𝟘)
-    entry-zero false x = toByte-of-value (byteField .𝟘)
-
     packed-at : (s p : ℕ) → packed s p ≡ entry-of (member volumes (suc s)) (ltb p width) (rule (getD files p 0) (suc s))
     unfolding tableOf entry-of
     packed-at s p = ap (λ (x : ℕ). toByte (cond (member volumes (suc s)) x 0)) (renumbered-entry rule files width (suc s) p columns-byte)
@@ -184,11 +197,6 @@ module _ (nonempty present files : List ℕ) (width : ℕ) (C : IsColumns nonemp
         ∙ ap (λ (f : ℕ). entry-of (member volumes (suc s)) (ltb (columnsBelow nonempty present i) width) (rule f (suc s))) (sym (C .each i e))
         ∙ sym (packed-at s (columnsBelow nonempty present i))
 
-    none : (s i : ℕ) → i < 256 → column i ≡ false → table s i ≡ byteField .𝟘
-    unfolding tableOf entry-of
-    none s i l e =
-        ap (λ (b : Bool). entry-of (member volumes (suc s)) b (rule (suc i) (suc s))) e ∙ entry-zero (member volumes (suc s)) (rule (suc i) (suc s))
-
     past : (s p : ℕ) → columnsBelow nonempty present 256 ≤ p → p < 256 → packed s p ≡ byteField .𝟘
     past s p h l =
         packed-at s p
@@ -199,9 +207,6 @@ module _ (nonempty present files : List ℕ) (width : ℕ) (C : IsColumns nonemp
         → Solved (renumbered rule files) (numbersTo width) (replicate 4 0) volumes rows (columnsBelow nonempty present i) ws found
         → Solved rule nonempty present volumes rows i ws found
     renumbered-solved rows i ws found l e (solved w W h) =
-        solved w (packed-solution byteField 256 column table packed same none past rows i w l e W) h
+        solved w (packed-solution byteField 256 column table packed same (λ s i l e. entry-outside rule nonempty present volumes s i e) past rows i w l e W) h
     renumbered-solved rows i ws found l e (unsolved x X z) =
-        unsolved _ (packed-kernel byteField 256 column table packed same none past rows i x e X) z
-
-    pub outside-solved : (rows i : ℕ) → i < 256 → column i ≡ false → Solved rule nonempty present volumes rows i (replicate 256 0) false
-    outside-solved rows i l e = unsolved _ (outside-kernel byteField 256 column table packed same none past rows i l e) refl
+        unsolved _ (packed-kernel byteField 256 column table packed same (λ s i l e. entry-outside rule nonempty present volumes s i e) past rows i x e X) z

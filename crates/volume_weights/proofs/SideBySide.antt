@@ -221,8 +221,9 @@ module _ {F : Type 0} (K : Field F) (n : ℕ) (column : ℕ → Bool) (A B : ℕ
     asked = λ z. X .asked (sym (spread-at x f true ef) ∙ z);
   }
 
-  pub outside-kernel : (t f : ℕ) → f < n → column f ≡ false → IsKernelVector K A n t f (λ i. δ K i f)
-  outside-kernel t f l e = record {
-    rows = λ s b. S.sum-δ-right K n f (λ i. A s i) l ∙ none s f l e;
-    asked = λ z. K .one-ne-zero (sym (S.δ-same K f f refl) ∙ z);
-  }
+pub outside-kernel : {F : Type 0} (K : Field F) (n : ℕ) (A : ℕ → ℕ → F) (t f : ℕ) → f < n → ((s : ℕ) → A s f ≡ K .𝟘)
+    → IsKernelVector K A n t f (λ i. δ K i f)
+outside-kernel K n A t f l none = record {
+  rows = λ s b. S.sum-δ-right K n f (λ i. A s i) l ∙ none s;
+  asked = λ z. K .one-ne-zero (sym (S.δ-same K f f refl) ∙ z);
+}

@@ -80,7 +80,7 @@ module _ (rule : ℕ → ℕ → ℕ) (small : (f v : ℕ) → f < 256 → rule 
     replicate 256 0,
     subst (Solved rule nonempty present volumes rows i (replicate 256 0))
         (sym (not-found (suc i) (λ j cj tj z. true≢false (sym cj ∙ ap column (suc-inj z) ∙ c))))
-        (outside-solved nonempty present files width C rule volumes rows i (omega arith) c),
+        (outside-solved rule nonempty present volumes rows i (omega arith) c),
   )
 
   pub columns-solved : (r : List ℕ) → r ≡ found → SolvedColumns rule nonempty present volumes rows r

@@ -47,7 +47,7 @@ returns-3 c =
     let place = c .before in
     let columns = place .before .before .before in
     let a = columns .before .args in
-    outside-solved (a .nonempty) (a .present) _ _ (columns .columns .ensures) coefficient (a .volumes) (a .rows) (a .column) (search needs)
+    outside-solved coefficient (a .nonempty) (a .present) (a .volumes) (a .rows) (a .column) (search needs)
     (unplaced (a .nonempty) (a .present) _ _ (columns .columns .ensures) (a .column) _ (place .place .ensures) (c .if1 .left))
 
 pub solve-spec : {M : Type 1} → statement M
