@@ -3,6 +3,7 @@
 --   line-refused, line-end      that of a refusal, and of the end of the log
 --   line-none, line-files       that of an inventory which no calls give, and of any other
 --   set-none, set-files         the same by what `recoverable_files` gives
+--   line-there                  so each event has one
 -- Assumes nothing.
 use mathlib.Core.Path.{_≡_, refl, sym, ap, _∙_, subst}
 use mathlib.Core.Logic.{_≢_}
@@ -10,11 +11,14 @@ use mathlib.Core.Bool.{Bool, true, false, true≢false, false≢true}
 use mathlib.Core.List.{List, []}
 use Prim.Native.Nat.{ℕ}
 use native.Mathlib.Omega.{arith}
+use native.Mathlib.Decide.{ℕ-discrete}
 use Rattle.number_sets.specs.Sets.{member}
 use Rattle.parity.specs.Coefficient.{coefficient}
+use Rattle.parity.proofs.Coefficients.{coefficient-byte}
 use Rattle.inventory.specs.Steps.{isInventory}
 use Rattle.inventory.specs.RecoverableFiles.{RecoverableSet}
 use Rattle.inventory.specs.declared.recoverable.RecoverableFiles.{RecoverableFiles}
+use Rattle.inventory.proofs.RecoverableFiles.{set-there}
 use Rattle.inventory.proofs.RecoverableAnswers.{one-set}
 use Rattle.replay.specs.Lines.{refusedLine, filesOf, numbersLine}
 use Rattle.replay.specs.Events.{EventLine, at-end, refused, no-inventory, files}
@@ -62,3 +66,19 @@ module _ (e : Event) (z : e .number ≡ 0) (o : e .over ≡ false) (r : Recovera
       go : (b : Bool) → isInventory (e .inventory) ≡ b → EventLine coefficient e (numbersLine (filesOf (e .inventory .n) (member (r .files))))
       go true v = files z o v r R
       go false v = absurd (let k : r .number ≡ 10 = ap (λ (x : RecoverableFiles). x .number) (R .first v) in omega arith)
+
+pub line-there : (e : Event) → (line : List ℕ) × EventLine coefficient e line
+line-there e =
+    elim (ℕ-discrete (e .number) 0) [
+      | yes z ↦ by z (e .over) refl (set-there coefficient coefficient-byte (e .inventory))
+      | no q ↦ (_, refused q)
+    ]
+  where
+    by : e .number ≡ 0 → (b : Bool) → e .over ≡ b → (r : RecoverableFiles) × RecoverableSet coefficient (e .inventory) r
+        → (line : List ℕ) × EventLine coefficient e line
+    by z true o (r, R) = (_, at-end z o)
+    by z false o (r, R) =
+        elim (ℕ-discrete (r .number) 0) [
+          | yes n ↦ (_, set-files e z o r R n)
+          | no q ↦ (_, set-none e z o r R q)
+        ]

@@ -1,5 +1,6 @@
--- What a program prints line by line is the text of the replay.
+-- What a program prints line by line: there are such lines, and they are the text of the replay.
 --
+--   lines-there       for each log
 --   ended-none        no line after the end
 --   prints-joined     from an event on
 --   lines-joined      from the first line on
@@ -7,16 +8,53 @@
 use mathlib.Core.Path.{_≡_, refl, sym, ap, _∙_}
 use mathlib.Core.Bool.{Bool, true, false, true≢false}
 use mathlib.Core.List.{List, [], _∷_, _++_, flatten, append-nil}
-use Prim.Native.Nat.{ℕ}
+use Prim.Native.Nat.{ℕ, zero, suc, _-_, _<_}
+use native.Mathlib.Nat.{not-suc-le-zero}
+use native.Mathlib.Omega.{arith}
+use lib.ListN.{length}
 use Rattle.parity.specs.Coefficient.{coefficient}
 use Rattle.inventory.specs.Recoverable.{State}
 use Rattle.inventory.proofs.Representation.{Represents}
 use Rattle.replay.specs.Replay.{Decides, replayOf}
 use Rattle.replay.specs.Events.{opening, nextEvent, Prints, ends, goes-on}
-use Rattle.replay.specs.Claim.{LogPrints, at-once, by-events, LinesJoined}
+use Rattle.replay.specs.Claim.{LogPrints, at-once, by-events, LinesThere, LinesJoined}
 use Rattle.replay.specs.declared.events.Event.{Event}
-use Rattle.replay.proofs.EventLines.{line-refused}
-use Rattle.replay.proofs.ReplayLaws.{linesFrom, opening-starts, Follows, next-follows}
+use Rattle.replay.proofs.EventLines.{line-refused, line-there}
+use Rattle.replay.proofs.ReplayLaws.{linesFrom, opening-starts, Follows, next-follows, next-goes}
+
+-- ---- there are lines
+
+-- as long as an event goes on there is less of the log
+prints-there : (log : List ℕ) (m : ℕ) (e : Event) → (e .over ≡ false → length log - e .from < m)
+    → (lines : List (List ℕ)) × Prints coefficient log e lines
+prints-there log zero e h = by (e .over) refl
+  where
+    by : (b : Bool) → e .over ≡ b → (lines : List (List ℕ)) × Prints coefficient log e lines
+    by true o = ([], ends o)
+    by false o = absurd (not-suc-le-zero (h o))
+prints-there log (suc m) e h = by (e .over) refl (prints-there log m (nextEvent log (e .from) (e .inventory)))
+  where
+    next : Event
+    next = nextEvent log (e .from) (e .inventory)
+
+    by : (b : Bool) → e .over ≡ b
+        → ((next .over ≡ false → length log - next .from < m) → (lines : List (List ℕ)) × Prints coefficient log next lines)
+        → (lines : List (List ℕ)) × Prints coefficient log e lines
+    by true o more = ([], ends o)
+    by false o more =
+        let (line, E) = line-there next in
+        let less = h o in
+        let (lines, P) = more (λ y. let on = next-goes log (e .from) (e .inventory) next refl y in omega arith) in
+        (line ∷ lines, goes-on o E P)
+
+pub lines-there : LinesThere
+lines-there log = go (opening log .over) refl
+  where
+    go : (b : Bool) → opening log .over ≡ b → (lines : List (List ℕ)) × LogPrints coefficient log lines
+    go true o = let (line, E) = line-there (opening log) in (line ∷ [], at-once o E)
+    go false o = let (lines, P) = prints-there log (suc (length log)) (opening log) (λ _. omega arith) in (lines, by-events o P)
+
+-- ---- they are the text
 
 module _ (d : State → ℕ → Bool) (D : Decides coefficient d) (log : List ℕ) where
   ended-none : (e : Event) (lines : List (List ℕ)) → Prints coefficient log e lines → e .over ≡ true → lines ≡ []

@@ -13,4 +13,5 @@ pub mod Lengths
 pub mod LineLengths
 pub mod Shapes
 pub mod Logs
+pub mod LogKinds
 pub mod Examples

@@ -1,7 +1,9 @@
 -- The text of each log, by the lines that it begins with.
 --
 --   body-line, line-body        a line and its byte 10
---   cut-line                    the lines of a text that begins with one
+--   line-some, body-joined, cut-line     a text that begins with a line: its length, its bytes, and the lines after it
+--   begins                      any text that does
+--   spaced-without, event-without     no byte 10 in them
 --   long-refused, first-refused, opening-refused     logs that are refused at their first line
 --   log-replayed                a log that is accepted
 -- Assumes nothing.
@@ -9,6 +11,7 @@ use mathlib.Core.Path.{_≡_, refl, sym, ap, ap₂, _∙_, subst}
 use mathlib.Core.Logic.{_≢_}
 use mathlib.Core.Bool.{Bool, true, false, cond}
 use mathlib.Core.List.{List, [], _∷_, _++_, map, flatten, append-assoc}
+use Prim.Native.Char.{code}
 use Prim.Native.Nat.{ℕ, zero, suc, _-_, _<_, _≤_}
 use native.Mathlib.Nat.{not-suc-le-zero}
 use native.Mathlib.Omega.{arith}
@@ -44,16 +47,29 @@ body-line l =
     let k : length (l ++ (10 ∷ [])) - 1 ≡ length l = omega (arith, length-append l (10 ∷ [])) in
     ap (λ (n : ℕ). take n (l ++ (10 ∷ []))) k ∙ take-at l (10 ∷ []) (length l) refl
 
-cut-line : (l s : List ℕ) → Without 10 l → cut lineLength ((l ++ (10 ∷ [])) ++ s) ≡ before (l ++ (10 ∷ [])) (cut lineLength s)
-cut-line l s h =
-    let n : lineLength ((l ++ (10 ∷ [])) ++ s) ≡ length (l ++ (10 ∷ [])) =
-    ap lineLength (append-assoc l (10 ∷ []) s) ∙ line-joined l s h ∙ sym (length-append l (10 ∷ [])) in
-    let k : 0 < lineLength ((l ++ (10 ∷ [])) ++ s) = omega (arith, length-append l (10 ∷ [])) in
-    let m = line-most ((l ++ (10 ∷ [])) ++ s) in
-    cut-more lineLength ((l ++ (10 ∷ [])) ++ s) (omega arith) k
-    ∙ ap₂ (λ (a b : List ℕ). before a (cut lineLength b))
-    (ap (λ (j : ℕ). take j ((l ++ (10 ∷ [])) ++ s)) n ∙ take-at (l ++ (10 ∷ [])) s (length (l ++ (10 ∷ []))) refl)
-    (ap (λ (j : ℕ). drop j ((l ++ (10 ∷ [])) ++ s)) n ∙ drop-at (l ++ (10 ∷ [])) s (length (l ++ (10 ∷ []))) refl)
+module _ (l s : List ℕ) (h : Without 10 l) where
+  abbrev joined : List ℕ
+  joined = (l ++ (10 ∷ [])) ++ s
+
+  line-is : lineLength joined ≡ length (l ++ (10 ∷ []))
+  line-is = ap lineLength (append-assoc l (10 ∷ []) s) ∙ line-joined l s h ∙ sym (length-append l (10 ∷ []))
+
+  line-taken : take (lineLength joined) joined ≡ l ++ (10 ∷ [])
+  line-taken = ap (λ (j : ℕ). take j joined) line-is ∙ take-at (l ++ (10 ∷ [])) s (length (l ++ (10 ∷ []))) refl
+
+  pub line-some : 0 < lineLength joined
+  line-some = omega (arith, line-is, length-append l (10 ∷ []))
+
+  pub body-joined : bodyOf (take (lineLength joined) joined) ≡ l
+  body-joined = ap bodyOf line-taken ∙ body-line l
+
+  cut-line : cut lineLength joined ≡ before (l ++ (10 ∷ [])) (cut lineLength s)
+  cut-line =
+      let k = line-some in
+      let m = line-most joined in
+      cut-more lineLength joined (omega arith) k
+      ∙ ap₂ (λ (a b : List ℕ). before a (cut lineLength b)) line-taken
+      (ap (λ (j : ℕ). drop j joined) line-is ∙ drop-at (l ++ (10 ∷ [])) s (length (l ++ (10 ∷ []))) refl)
 
 -- the line that a text begins with
 line-body : (s : List ℕ) → 0 < lineLength s → (l : List ℕ) × (take (lineLength s) s ≡ l ++ (10 ∷ []))
@@ -71,7 +87,7 @@ line-body (b ∷ s) h = go (eqb b 10) refl h (line-body s)
     go false e h r = more (lineLength s) h r
 
 -- a text that begins with a line
-begins : (s : List ℕ) → 0 < lineLength s → s ≡ (bodyOf (take (lineLength s) s) ++ (10 ∷ [])) ++ drop (lineLength s) s
+pub begins : (s : List ℕ) → 0 < lineLength s → s ≡ (bodyOf (take (lineLength s) s) ++ (10 ∷ [])) ++ drop (lineLength s) s
 begins s h =
     let (l, e) = line-body s h in
     let b : bodyOf (take (lineLength s) s) ≡ l = ap bodyOf e ∙ body-line l in
@@ -79,7 +95,7 @@ begins s h =
 
 -- ---- the first line
 
-spaced-without : (k : ℕ) (ks : List ℕ) → Without 10 (spaced (k ∷ ks))
+pub spaced-without : (k : ℕ) (ks : List ℕ) → Without 10 (spaced (k ∷ ks))
 unfolding flatten
 spaced-without k ks = without-append 10 (decimal k) _ (decimal-without 10 (omega arith) k) (rest ks)
   where
@@ -151,6 +167,10 @@ letter-without volumeAdded z = omega arith
 letter-without fileRemoved z = omega arith
 letter-without volumeRemoved z = omega arith
 
+pub event-without : (a : Arrival) (k : ℕ) → Without 10 (letterOf a ∷ code " " ∷ decimal k)
+event-without a k =
+    without-more 10 (letterOf a) (32 ∷ decimal k) (letter-without a) (without-more 10 32 (decimal k) (λ z. omega arith) (decimal-without 10 (omega arith) k))
+
 -- the lines of events, and what ends them
 end-lines : (d : Test) (t : State) (s : List ℕ) → NoEvent s → eventLines d t (cut lineLength s .pieces) (cut lineLength s .rest) ≡ endLine s
 unfolding eventLines
@@ -202,7 +222,7 @@ events-lines d t (e ∷ es) s none =
     let n : numberIn (bodyOf (text ++ (10 ∷ []))) ≡ k = ap numberIn body ∙ says .1 in
     ap (λ (l : List ℕ). eventLines d t (cut lineLength l .pieces) (cut lineLength l .rest)) (append-assoc (text ++ (10 ∷ [])) (flatten (map eventText es)) s)
     ∙ ap (λ (c : Cut). eventLines d t (c .pieces) (c .rest))
-    (cut-line text rest (without-more 10 (letterOf a) (32 ∷ decimal k) (letter-without a) (without-more 10 32 (decimal k) (λ z. omega arith) (decimal-without 10 (omega arith) k))))
+    (cut-line text rest (event-without a k))
     ∙ ap (λ (b : Bool). cond b (eventLine d t (changeOf (getD (bodyOf (text ++ (10 ∷ []))) 0 0)) (numberIn (bodyOf (text ++ (10 ∷ []))))
     ++ eventLines d (next t (change (changeOf (getD (bodyOf (text ++ (10 ∷ []))) 0 0)) (numberIn (bodyOf (text ++ (10 ∷ []))))))
     (cut lineLength rest .pieces) (cut lineLength rest .rest)) (refusedLine 28)) ok

@@ -8,6 +8,7 @@
 --   linesOf d t es           the lines after the events es from the state t on, one after another
 --   NoEvent s, NoFirst s     s does not begin with the line of an event; with a first line
 --   endLine s                what ends a replay before s: nothing where s is empty, else the refusal of a line
+--   LogKind log              the four kinds of a log, with the premises of the claims on its text
 --   Ascending ks             each number is less than those after it
 --   LogPrints rule log lines     the lines that a program prints that goes by `open`, `next` and `put_line`
 -- The claims:
@@ -16,15 +17,17 @@
 --   OneLine                  so it is with the line after an event
 --   FirstShaped, EventShaped     which lines have the shape, exactly, and what they say
 --   LogReplayed              a log that is accepted, up to its end or the first line of another shape
---   OpeningRefused, FirstRefused, LongRefused     the other logs: so each log is one of these
+--   OpeningRefused, FirstRefused, LongRefused     the other logs
+--   EachLog                  each log is of one of these four kinds
 --   Listed                   after an accepted event the line has exactly the files that are missing and recoverable, ascending, in the shape
 --                            of a first line, which FirstShaped gives
 --   EventRefused             after one that is refused it has the refusal
---   LinesJoined, LinesFit    what a program prints line by line is the text of the replay, and each line fits its room
+--   LinesThere               for each log there are lines that a program prints
+--   LinesJoined, LinesFit    they are the text of the replay, and each line fits its room
 --   TextFits                 the text of any log is less than 2^59 bytes long
 --   ExamplePrints            the request's example
--- No claim is empty: the test is there (Decided), every log falls under one of four claims, and the example has an accepted log, events that are
--- accepted and one that is refused.
+-- No claim is empty: the test is there (Decided), every log falls under one of four claims (EachLog), every log has lines (LinesThere), and the example
+-- has an accepted log, events that are accepted and one that is refused.
 -- Assumes nothing.
 use Prim.Native.Nat.{ℕ, _^_, _<_, _≤_}
 use Prim.Native.Char.{code}
@@ -96,6 +99,14 @@ abbrev pub endLine : List ℕ → List ℕ
 endLine [] = []
 endLine (b ∷ s) = refusedLine 28
 
+-- what LogReplayed, OpeningRefused, FirstRefused and LongRefused ask, in this order
+pub data LogKind : List ℕ → Type 0 where
+  accepted : (n : ℕ) (sizes : List ℕ) (es : List (Arrival × ℕ)) (s : List ℕ)
+      → openStep n sizes .number ≡ 0 → NoEvent s → length (logText n sizes es ++ s) ≤ 65536 → LogKind (logText n sizes es ++ s)
+  not-opened : (n : ℕ) (sizes s : List ℕ) → openStep n sizes .number ≢ 0 → length (firstText n sizes ++ s) ≤ 65536 → LogKind (firstText n sizes ++ s)
+  no-first : (log : List ℕ) → NoFirst log → length log ≤ 65536 → LogKind log
+  too-long : (log : List ℕ) → 65536 < length log → LogKind log
+
 abbrev pub Ascending : List ℕ → Type 0
 Ascending ks = (i j : ℕ) → i < j → j < length ks → getD ks i 0 < getD ks j 0
 
@@ -156,6 +167,10 @@ FirstRefused = (d : State → ℕ → Bool) (log : List ℕ) → NoFirst log →
 abbrev pub LongRefused : Type 0
 LongRefused = (d : State → ℕ → Bool) (log : List ℕ) → 65536 < length log → replayOf d log ≡ refusedLine 1
 
+-- proved: proofs/LogKinds.antt, `each-log`
+abbrev pub EachLog : Type 0
+EachLog = (log : List ℕ) → LogKind log
+
 -- "the file numbers that are rebuildable now, ascending, or `none`, .. in lines of the same shape"
 -- proved: proofs/Files.antt, `listed`
 abbrev pub Listed : Type 0
@@ -172,6 +187,10 @@ EventRefused =
     → eventLine d t c k ≡ ascii "refused " ++ (decimal (numberOf t c k) ++ (10 ∷ []))
 
 -- ---- line by line
+
+-- proved: proofs/Joined.antt, `lines-there`
+abbrev pub LinesThere : Type 0
+LinesThere = (log : List ℕ) → (lines : List (List ℕ)) × LogPrints coefficient log lines
 
 -- proved: proofs/Joined.antt, `lines-joined`
 abbrev pub LinesJoined : Type 0
