@@ -14,7 +14,8 @@ use Rattle.entries.specs.Entry.{unitsOf}
 use Rattle.refusals.specs.Tests.{bare}
 use Rattle.text.specs.Ascii.{ascii}
 use Rattle.text.specs.Hex.{hexDigit, hexBytes, isHexDigit, allHexDigits}
-use Rattle.md5sum_text.specs.Lines.{lineLength, isShaped, shapedLength, linesOf}
+use Rattle.text.specs.TextLines.{lineLength}
+use Rattle.md5sum_text.specs.Lines.{isShaped, shapedLength, linesOf}
 use Rattle.md5sum_text.specs.Names.{unitsFit, isFitting, isNamed}
 use Rattle.md5sum_text.specs.Export.{lineFor}
 use Rattle.md5sum_text.specs.Import.{any, isAgain, againIn, textRefusal, answerFor}

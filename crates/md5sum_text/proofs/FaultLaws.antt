@@ -29,7 +29,8 @@ use Rattle.cut_lists.proofs.CutLaws.{cut-joins, cut-stop}
 use Rattle.lent_bytes.specs.Equal.{equal}
 use Rattle.lent_bytes.proofs.EqualLaws.{equal-same, equal-true}
 use Rattle.lent_bytes.proofs.PartsInRow.{flatten-append}
-use Rattle.md5sum_text.specs.Lines.{lineLength, isShaped, shapedLength, linesOf, sumIn, nameIn}
+use Rattle.text.specs.TextLines.{lineLength}
+use Rattle.md5sum_text.specs.Lines.{isShaped, shapedLength, linesOf, sumIn, nameIn}
 use Rattle.md5sum_text.specs.Names.{unitFits, unitsFit, textOf, isFitting, isNamed}
 use Rattle.md5sum_text.specs.Import.{any, isListed, hasOther, isAgain, againIn, shapeRefusal, textRefusal}
 use Rattle.md5sum_text.specs.Claim.{LineOf, Line, Names, Listed, Good, Faulty, another-shape, another-sum, FirstFault}

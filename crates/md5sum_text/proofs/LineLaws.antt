@@ -1,8 +1,5 @@
 -- The lines of a text, from a position on.
 --
---   after k n            the length n of a line with k bytes more in front, 0 being none
---   line-start, line-found, line-on, line-over     the search for the end of a line, byte by byte
---   line-most            a line lies in its text
 --   line-skip            the search may start anywhere in the line
 --   Shaped, shaped       what the test of the shape tells
 --   HasLine, has-line    what a text tells that begins with a line of the right shape
@@ -13,12 +10,12 @@
 use mathlib.Core.Path.{_≡_, refl, sym, ap, _∙_}
 use mathlib.Core.Bool.{Bool, true, false, cond, _&&_}
 use mathlib.Core.List.{List, [], _∷_}
-use Prim.Native.Nat.{ℕ, zero, suc, _+_, _-_, _≤_, _<_}
+use Prim.Native.Nat.{ℕ, zero, suc, _+_, _≤_, _<_}
 use native.Mathlib.Numerals.{add-one}
 use native.Mathlib.Omega.{arith}
-use borrow.Author.Tests.{eq-eqb, ne-eqb, leb-true}
+use borrow.Author.Tests.{leb-true}
 use lib.Dec.{leb, eqb}
-use lib.ListN.{length, take, drop, getD, length-drop, drop-of-length-le}
+use lib.ListN.{length, take, drop, getD, length-drop}
 use lib.Seq.{drop-cons, drop-drop, length-take-le}
 use Rattle.computed_tests.proofs.Tests.{and-both}
 use Rattle.cut_lists.specs.Pieces.{Cut, none, before}
@@ -27,62 +24,13 @@ use Rattle.lent_bytes.specs.Equal.{equal}
 use Rattle.lent_bytes.proofs.EqualLaws.{equal-true}
 use Rattle.text.specs.Ascii.{ascii}
 use Rattle.text.specs.Hex.{allHexDigits}
-use Rattle.md5sum_text.specs.Lines.{longer, lineLength, isShaped, shapedLength, linesOf}
+use Rattle.text.specs.TextLines.{longer, lineLength}
+use Rattle.text.proofs.ScanLaws.{line-most}
+use Rattle.md5sum_text.specs.Lines.{isShaped, shapedLength, linesOf}
 use Rattle.md5sum_text.specs.Walks.{Stands}
 use Rattle.md5sum_text.specs.declared.lines.Place.{Place}
 
 -- ---- the end of a line
-
-abbrev pub after : ℕ → ℕ → ℕ
-after k zero = 0
-after k (suc n) = suc (k + n)
-
-after-zero : (n : ℕ) → after 0 n ≡ n
-after-zero zero = refl
-after-zero (suc n) = omega arith
-
-after-longer : (k n : ℕ) → after k (longer n) ≡ after (k + 1) n
-after-longer k zero = refl
-after-longer k (suc n) = omega arith
-
-pub line-start : (s : List ℕ) (at : ℕ) → after (at - at) (lineLength (drop at s)) ≡ lineLength (drop at s)
-line-start s at =
-    let z : at - at ≡ 0 = omega arith in ap (λ (k : ℕ). after k (lineLength (drop at s))) z ∙ after-zero (lineLength (drop at s))
-
-module _ (s : List ℕ) (at i : ℕ) (low : at ≤ i) where
-  pub line-found : i < length s → getD s i 0 ≡ 10 → after (i - at) (lineLength (drop i s)) ≡ i - at + 1
-  unfolding lineLength
-  line-found h e =
-      ap (λ (l : List ℕ). after (i - at) (lineLength l)) (drop-cons s i 0 h)
-      ∙ ap (λ (b : Bool). after (i - at) (cond b 1 (longer (lineLength (drop (suc i) s))))) (eq-eqb (getD s i 0) 10 e)
-      ∙ (let z : suc (i - at + 0) ≡ i - at + 1 = omega arith in z)
-
-  pub line-on : i < length s → (getD s i 0 ≡ 10 → ⊥)
-      → after (i - at) (lineLength (drop i s)) ≡ after (i + 1 - at) (lineLength (drop (i + 1) s))
-  unfolding lineLength
-  line-on h f =
-      let n : ℕ = lineLength (drop (i + 1) s) in
-      let k : i - at + 1 ≡ i + 1 - at = omega arith in
-      ap (λ (l : List ℕ). after (i - at) (lineLength l)) (drop-cons s i 0 h ∙ ap (λ (j : ℕ). getD s i 0 ∷ drop j s) (sym (add-one i)))
-      ∙ ap (λ (b : Bool). after (i - at) (cond b 1 (longer n))) (ne-eqb (getD s i 0) 10 f)
-      ∙ after-longer (i - at) n ∙ ap (λ (k : ℕ). after k n) k
-
-  pub line-over : length s ≤ i → after (i - at) (lineLength (drop i s)) ≡ 0
-  unfolding lineLength
-  line-over h = ap (λ (l : List ℕ). after (i - at) (lineLength l)) (drop-of-length-le s h)
-
-longer-most : (n m : ℕ) → n ≤ m → longer n ≤ suc m
-longer-most zero m h = omega arith
-longer-most (suc n) m h = omega arith
-
-pub line-most : (s : List ℕ) → lineLength s ≤ length s
-unfolding lineLength
-line-most [] = omega arith
-line-most (b ∷ s) = by (eqb b 10) (line-most s)
-  where
-    by : (t : Bool) → lineLength s ≤ length s → cond t 1 (longer (lineLength s)) ≤ suc (length s)
-    by true h = omega arith
-    by false h = longer-most (lineLength s) (length s) h
 
 longer-past : (n i : ℕ) → suc i < longer n → (i < n) × (longer n ≡ suc n)
 longer-past zero i h = absurd (omega arith)

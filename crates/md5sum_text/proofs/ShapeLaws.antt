@@ -1,7 +1,7 @@
 -- The shape of a line, in the document's words.
 --
 --   lower, lower-all     a character, or each of some, is a lower-case digit where the test says so, and the other way round
---   line-joins, line-ends     a line of bytes of which only the last is 10
+--   line-ends            of the bytes of a line only the last is 10
 --   in-line              the sum and the name in a line
 --   shape                the claim
 --   each-line            each line of a text is one
@@ -14,19 +14,21 @@ use mathlib.Core.Logic.{inl, inr}
 use mathlib.Core.List.{List, [], _∷_, _++_, append-assoc, flatten}
 use Prim.Native.Nat.{ℕ, zero, suc, _+_, _-_, _≤_, _<_}
 use native.Mathlib.Omega.{arith}
-use borrow.Author.Tests.{leb-true, le-leb, lt-leb, ne-eqb, eqb-true, eqb-false}
+use borrow.Author.Tests.{leb-true, le-leb, lt-leb, eqb-true, eqb-false}
 use lib.Dec.{leb, eqb}
 use lib.ListN.{length, take, drop, length-append, length-drop, take-append-drop}
 use lib.Seq.{take-at, drop-at, take-append-seam, drop-append-seam, take-append-le, drop-append-le, length-take-le, drop-drop}
 use Rattle.computed_tests.proofs.Tests.{and-both}
 use Rattle.cut_lists.specs.All.{All, all-none, all-more}
 use Rattle.cut_lists.specs.Pieces.{Cut, before}
-use Rattle.cut_lists.proofs.AllLaws.{all-map}
+use Rattle.cut_lists.proofs.AllLaws.{all-map, all-at}
 use Rattle.cut_lists.proofs.CutLaws.{cut-more, cut-all, cut-induct}
 use Rattle.lent_bytes.proofs.EqualLaws.{equal-same}
 use Rattle.text.specs.Ascii.{ascii}
 use Rattle.text.specs.Hex.{isHexDigit, allHexDigits}
-use Rattle.md5sum_text.specs.Lines.{longer, lineLength, isShaped, shapedLength, linesOf, sumIn, nameIn}
+use Rattle.text.specs.TextLines.{longer, lineLength}
+use Rattle.text.proofs.ScanLaws.{line-joined}
+use Rattle.md5sum_text.specs.Lines.{isShaped, shapedLength, linesOf, sumIn, nameIn}
 use Rattle.md5sum_text.specs.Claim.{LowerDigit, LineOf, Line, Shape}
 use Rattle.md5sum_text.proofs.LineLaws.{HasLine, has-line}
 
@@ -70,11 +72,6 @@ NoEnd w = All (λ b. b ≡ 10 → ⊥) w
 all-append : {P : ℕ → Type 0} {v w : List ℕ} → All P v → All P w → All P (v ++ w)
 all-append all-none ws = ws
 all-append (all-more p ps) ws = all-more p (all-append ps ws)
-
-line-joins : {p : List ℕ} (s : List ℕ) → NoEnd p → lineLength (p ++ 10 ∷ s) ≡ suc (length p)
-unfolding lineLength
-line-joins s all-none = refl
-line-joins s (all-more {x} h hs) = simp (ne-eqb x 10 h) (ap longer (line-joins s hs))
 
 -- a line is its bytes before the last, and the byte 10
 record Ended (s : List ℕ) (n : ℕ) : Type 0 where
@@ -135,7 +132,7 @@ module _ {sum name l : List ℕ} (z : LineOf sum name l) where
       let front : List ℕ = sum ++ (32 ∷ 32 ∷ name) in
       let on : All (λ b. b ≡ 10 → ⊥) front = all-append (all-map digit-on (z .digits)) (all-more (λ e. omega arith) (all-more (λ e. omega arith) (z .no-end))) in
       let split : l ++ s ≡ front ++ 10 ∷ s = ap (λ (k : List ℕ). k ++ s) (z .line-is) ∙ regroup sum name s in
-      ap lineLength split ∙ line-joins s on ∙ (let size : suc (length front) ≡ length l = omega (arith, line-length, length-append sum (32 ∷ 32 ∷ name), z .sum-length) in size)
+      ap lineLength split ∙ line-joined front s (all-at 0 on) ∙ (let size : length front + 1 ≡ length l = omega (arith, line-length, length-append sum (32 ∷ 32 ∷ name), z .sum-length) in size)
     where
       regroup : (a b c : List ℕ) → (a ++ (32 ∷ 32 ∷ (b ++ (10 ∷ [])))) ++ c ≡ (a ++ (32 ∷ 32 ∷ b)) ++ 10 ∷ c
       regroup a b c = simp append-assoc

@@ -1,29 +1,20 @@
 -- The lines of md5sum text (document 02, 2026-07: "32 lower-case hex digits, two spaces, name, byte 10").
 --
---   longer n         the length n of a line with one byte more in front, 0 being none
---   lineLength s     the length of the first line of s, its byte 10 included; 0 where no byte 10 ends it
 --   isShaped l       whether the line l has the shape
 --   shapedLength s   the length of the line of that shape that s begins with; 0 where s begins with none
 --   linesOf s        the lines of s up to the first that is of another shape or unended, and the rest of s
 --   sumIn l, nameIn l     the sum and the name in a line
 -- Assumes nothing.
-use Prim.Native.Nat.{ℕ, zero, suc, _-_}
+use Prim.Native.Nat.{ℕ, _-_}
 use mathlib.Core.Bool.{Bool, cond, _&&_}
-use mathlib.Core.List.{List, [], _∷_}
-use lib.Dec.{leb, eqb}
+use mathlib.Core.List.{List}
+use lib.Dec.{leb}
 use lib.ListN.{length, take, drop}
 use Rattle.cut_lists.specs.Pieces.{Cut, cut}
 use Rattle.lent_bytes.specs.Equal.{equal}
 use Rattle.text.specs.Ascii.{ascii}
 use Rattle.text.specs.Hex.{allHexDigits}
-
-abbrev pub longer : ℕ → ℕ
-longer zero = 0
-longer (suc n) = suc (suc n)
-
-unfoldable pub lineLength : List ℕ → ℕ
-lineLength [] = 0
-lineLength (b ∷ s) = cond (eqb b 10) 1 (longer (lineLength s))
+use Rattle.text.specs.TextLines.{lineLength}
 
 -- "32 lower-case hex digits, two spaces, name, byte 10"; "a name is one or more bytes but 10"
 unfoldable pub isShaped : List ℕ → Bool

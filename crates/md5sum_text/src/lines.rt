@@ -1,12 +1,12 @@
 // The lines of md5sum text.
 ghost use mathlib.Core.Path.{_≡_};
-ghost use mathlib.Core.Bool.{not, _&&_};
 ghost use Prim.Native.Nat.{_≤_, _<_};
 ghost use lib.ListN.{length, drop};
-ghost use Rattle.md5sum_text.specs.Lines.{lineLength, isShaped, shapedLength, linesOf};
+ghost use Rattle.md5sum_text.specs.Lines.{isShaped, shapedLength, linesOf};
 ghost use Rattle.md5sum_text.specs.Walks.{shapesOf, Stands, isOther, Found};
 use crate::names;
 use par1_rules::layout;
+use text::line_length;
 
 // The length of a sum in digits.
 pub const SUM_LENGTH: usize = 32;
@@ -106,18 +106,4 @@ fn is_shaped(line: &[u8]) -> bool
         return false;
     }
     lent_bytes::same(layout::part(line, SUM_LENGTH, 2), b"  ")
-}
-
-// The length of the line at `at`, its byte 10 included; 0 where none ends it.
-fn line_length(text: &[u8], at: usize) -> usize
-    ensures { λ r. ⌜ r ≡ lineLength (drop at (now (text .entry))) ⌝ }
-{
-    let mut i = at;
-    while i < text.len() {
-        if text[i] == b'\n' {
-            return i - at + 1;
-        }
-        i += 1;
-    }
-    0
 }

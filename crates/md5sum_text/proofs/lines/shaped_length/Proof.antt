@@ -6,7 +6,8 @@ use mathlib.Core.List.{List}
 use Prim.Native.Nat.{ℕ}
 use lib.ListN.{take, drop}
 use borrow.Author.Needs.{needs}
-use Rattle.md5sum_text.specs.Lines.{lineLength, isShaped, shapedLength}
+use Rattle.text.specs.TextLines.{lineLength}
+use Rattle.md5sum_text.specs.Lines.{isShaped, shapedLength}
 use Rattle.md5sum_text.proofs.lines.shaped_length.Statement.{statement}
 use Rattle.md5sum_text.proofs.lines.shaped_length.Tie as tie
 
