@@ -348,6 +348,8 @@ uint32_t par1_query(const uint8_t *inventory, size_t inventory_len, uint64_t fil
  *   none         there is no such file
  *   refused N    the event is refused with 10 or 11, as par1_add_file and the others; nothing changes, and the replay goes on
  *
+ * So `2 2 1`, `V 2`, `F 1`, `V 2` give `none`, `2`, `refused 11`; and `2 0 0`, `V 1`, two empty files, give `1 2`.
+ *
  * A line `refused N` also ends the replay, with nothing after it: 28, for a line of another shape, wherever it stands, a last line without its byte
  * 10, or no line at all; 10 or 1 from the first line, as par1_open refuses, 10 also where the sizes are more or fewer than the first number says. The
  * shape of a line goes before its values. A number too large for 64 bits is 1 as a size and 10 elsewhere. A log above 65,536 bytes gives only
