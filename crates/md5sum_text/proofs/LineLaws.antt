@@ -1,6 +1,5 @@
 -- The lines of a text, from a position on.
 --
---   line-skip            the search may start anywhere in the line
 --   Shaped, shaped       what the test of the shape tells
 --   HasLine, has-line    what a text tells that begins with a line of the right shape
 --   past-sum             the search for its end may start at its name
@@ -14,7 +13,7 @@ use Prim.Native.Nat.{ℕ, zero, suc, _+_, _≤_, _<_}
 use native.Mathlib.Numerals.{add-one}
 use native.Mathlib.Omega.{arith}
 use borrow.Author.Tests.{leb-true}
-use lib.Dec.{leb, eqb}
+use lib.Dec.{leb}
 use lib.ListN.{length, take, drop, getD, length-drop}
 use lib.Seq.{drop-cons, drop-drop, length-take-le}
 use Rattle.computed_tests.proofs.Tests.{and-both}
@@ -24,29 +23,11 @@ use Rattle.lent_bytes.specs.Equal.{equal}
 use Rattle.lent_bytes.proofs.EqualLaws.{equal-true}
 use Rattle.text.specs.Ascii.{ascii}
 use Rattle.text.specs.Hex.{allHexDigits}
-use Rattle.text.specs.TextLines.{longer, lineLength}
-use Rattle.text.proofs.ScanLaws.{line-most}
+use Rattle.text.specs.TextLines.{lineLength}
+use Rattle.text.proofs.ScanLaws.{line-most, line-skip}
 use Rattle.md5sum_text.specs.Lines.{isShaped, shapedLength, linesOf}
 use Rattle.md5sum_text.specs.Walks.{Stands}
 use Rattle.md5sum_text.specs.declared.lines.Place.{Place}
-
--- ---- the end of a line
-
-longer-past : (n i : ℕ) → suc i < longer n → (i < n) × (longer n ≡ suc n)
-longer-past zero i h = absurd (omega arith)
-longer-past (suc n) i h = (omega arith, refl)
-
-pub line-skip : (s : List ℕ) (i : ℕ) → i < lineLength s → lineLength s ≡ i + lineLength (drop i s)
-unfolding lineLength
-line-skip s zero h = omega arith
-line-skip [] (suc i) h = absurd (omega (arith, line-most []))
-line-skip (b ∷ s) (suc i) h = by (eqb b 10) refl (λ k. line-skip s i k)
-  where
-    by : (t : Bool) → eqb b 10 ≡ t → (i < lineLength s → lineLength s ≡ i + lineLength (drop i s)) → lineLength (b ∷ s) ≡ suc i + lineLength (drop i s)
-    by true e r = absurd (let is : lineLength (b ∷ s) ≡ 1 = simp e in omega arith)
-    by false e r =
-        let is : lineLength (b ∷ s) ≡ longer (lineLength s) = simp e in
-        let past = longer-past (lineLength s) i (omega arith) in omega (arith, past .1, r (past .0))
 
 -- ---- the shape
 

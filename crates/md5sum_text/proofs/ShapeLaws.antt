@@ -1,7 +1,6 @@
 -- The shape of a line, in the document's words.
 --
 --   lower, lower-all     a character, or each of some, is a lower-case digit where the test says so, and the other way round
---   line-ends            of the bytes of a line only the last is 10
 --   in-line              the sum and the name in a line
 --   shape                the claim
 --   each-line            each line of a text is one
@@ -10,14 +9,14 @@
 -- Assumes nothing.
 use mathlib.Core.Path.{_≡_, refl, sym, ap, ap₂, _∙_, subst}
 use mathlib.Core.Bool.{Bool, true, false, cond, _&&_, _||_}
-use mathlib.Core.Logic.{inl, inr}
+use mathlib.Core.Logic.{_≢_, inl, inr}
 use mathlib.Core.List.{List, [], _∷_, _++_, append-assoc, flatten}
 use Prim.Native.Nat.{ℕ, zero, suc, _+_, _-_, _≤_, _<_}
 use native.Mathlib.Omega.{arith}
-use borrow.Author.Tests.{leb-true, le-leb, lt-leb, eqb-true, eqb-false}
-use lib.Dec.{leb, eqb}
-use lib.ListN.{length, take, drop, length-append, length-drop, take-append-drop}
-use lib.Seq.{take-at, drop-at, take-append-seam, drop-append-seam, take-append-le, drop-append-le, length-take-le, drop-drop}
+use borrow.Author.Tests.{leb-true, le-leb, lt-leb}
+use lib.Dec.{leb}
+use lib.ListN.{length, getD, take, drop, length-append, length-drop, take-append-drop}
+use lib.Seq.{getD-take, getD-drop, take-at, drop-at, take-append-seam, drop-append-seam, take-append-le, drop-append-le, length-take-le, drop-drop}
 use Rattle.computed_tests.proofs.Tests.{and-both}
 use Rattle.cut_lists.specs.All.{All, all-none, all-more}
 use Rattle.cut_lists.specs.Pieces.{Cut, before}
@@ -26,8 +25,8 @@ use Rattle.cut_lists.proofs.CutLaws.{cut-more, cut-all, cut-induct}
 use Rattle.lent_bytes.proofs.EqualLaws.{equal-same}
 use Rattle.text.specs.Ascii.{ascii}
 use Rattle.text.specs.Hex.{isHexDigit, allHexDigits}
-use Rattle.text.specs.TextLines.{longer, lineLength}
-use Rattle.text.proofs.ScanLaws.{line-joined}
+use Rattle.text.specs.TextLines.{lineLength}
+use Rattle.text.proofs.ScanLaws.{line-joined, line-ends, line-inside}
 use Rattle.md5sum_text.specs.Lines.{isShaped, shapedLength, linesOf, sumIn, nameIn}
 use Rattle.md5sum_text.specs.Claim.{LowerDigit, LineOf, Line, Shape}
 use Rattle.md5sum_text.proofs.LineLaws.{HasLine, has-line}
@@ -66,37 +65,13 @@ digit-on c (inr h) e = omega arith
 
 -- ---- the end of a line
 
-abbrev NoEnd : List ℕ → Type 0
-NoEnd w = All (λ b. b ≡ 10 → ⊥) w
-
 all-append : {P : ℕ → Type 0} {v w : List ℕ} → All P v → All P w → All P (v ++ w)
 all-append all-none ws = ws
 all-append (all-more p ps) ws = all-more p (all-append ps ws)
 
--- a line is its bytes before the last, and the byte 10
-record Ended (s : List ℕ) (n : ℕ) : Type 0 where
-  ended : take n s ≡ take (n - 1) s ++ (10 ∷ [])
-  no-end : NoEnd (take (n - 1) s)
-
-line-ends : (s : List ℕ) → 0 < lineLength s → Ended s (lineLength s)
-unfolding lineLength
-line-ends [] h = absurd (omega arith)
-line-ends (b ∷ s) h = by (eqb b 10) refl (λ k. line-ends s k) h
-  where
-    on : (n : ℕ) → 0 < longer n → (0 < n → Ended s n) → (b ≡ 10 → ⊥) → Ended (b ∷ s) (longer n)
-    on zero h r f = absurd (omega arith)
-    on (suc n) h r f =
-        let e = r (omega arith) in
-        let less : suc n - 1 ≡ n = omega arith in
-        let more : suc (suc n) - 1 ≡ suc n = omega arith in
-        let ended : take (suc n) s ≡ take n s ++ (10 ∷ []) = rw less at (e .ended) in
-        let no-end : NoEnd (take n s) = rw less at (e .no-end) in
-        record { ended = rw more (ap (λ (l : List ℕ). b ∷ l) ended); no-end = rw more (all-more f no-end) }
-
-    by : (t : Bool) → eqb b 10 ≡ t → (0 < lineLength s → Ended s (lineLength s)) → 0 < cond t 1 (longer (lineLength s))
-        → Ended (b ∷ s) (cond t 1 (longer (lineLength s)))
-    by true e r h = let is : b ≡ 10 = eqb-true b 10 e in record { ended = ap (λ (c : ℕ). c ∷ []) is; no-end = all-none }
-    by false e r h = on (lineLength s) h r (eqb-false b 10 e)
+no-end-in : (w : List ℕ) → ((i : ℕ) → i < length w → getD w i 0 ≢ 10) → All (λ b. b ≡ 10 → ⊥) w
+no-end-in [] h = all-none
+no-end-in (b ∷ w) h = all-more (h 0 (omega arith)) (no-end-in w (λ i l. h (suc i) (omega arith)))
 
 -- ---- the sum and the name
 
@@ -148,12 +123,12 @@ line-from s has =
     let n : ℕ = shapedLength s in
     let l : List ℕ = take n s in
     let size : length l ≡ n = length-take-le n s (has .high) in
-    let e : Ended s n = subst (Ended s) (sym (has .length-is)) (line-ends s (omega (arith, has .low, has .length-is))) in
+    let ended : l ≡ take (n - 1) s ++ (10 ∷ []) = rw (has .length-is) (line-ends s (omega (arith, has .low, has .length-is))) in
     let front : List ℕ = take (n - 1) s in
     let front-size : length front ≡ n - 1 = length-take-le (n - 1) s (omega (arith, has .high)) in
     let name : List ℕ = drop 34 front in
-    let sum-same : take 32 l ≡ take 32 front = ap (take 32) (e .ended) ∙ take-append-le 32 front (10 ∷ []) (omega (arith, has .low)) in
-    let spaces-same : take 2 (drop 32 l) ≡ take 2 (drop 32 front) = ap (λ (t : List ℕ). take 2 (drop 32 t)) (e .ended)
+    let sum-same : take 32 l ≡ take 32 front = ap (take 32) ended ∙ take-append-le 32 front (10 ∷ []) (omega (arith, has .low)) in
+    let spaces-same : take 2 (drop 32 l) ≡ take 2 (drop 32 front) = ap (λ (t : List ℕ). take 2 (drop 32 t)) ended
     ∙ ap (take 2) (drop-append-le 32 front (10 ∷ []) (omega (arith, has .low))) ∙ take-append-le 2 (drop 32 front) (10 ∷ []) (omega (arith, length-drop 32 front, has .low)) in
     let parts : front ≡ take 32 front ++ (32 ∷ 32 ∷ name) = sym (take-append-drop 32 front)
     ∙ ap (λ (t : List ℕ). take 32 front ++ t)
@@ -163,18 +138,17 @@ line-from s has =
       name = name;
       line-of =
           record {
-            line-is = e .ended ∙ ap (λ (t : List ℕ). t ++ (10 ∷ [])) parts ∙ append-assoc (take 32 front) (32 ∷ 32 ∷ name) (10 ∷ []);
+            line-is = ended ∙ ap (λ (t : List ℕ). t ++ (10 ∷ [])) parts ∙ append-assoc (take 32 front) (32 ∷ 32 ∷ name) (10 ∷ []);
             sum-length = length-take-le 32 front (omega (arith, has .low));
             digits = lower-all (take 32 front) (sym (ap allHexDigits sum-same) ∙ has .shape .digits);
             some = omega (arith, length-drop 34 front, has .low);
-            no-end = all-drop 34 (e .no-end);
+            no-end =
+                no-end-in name
+                (λ i h z.
+                let k : 34 + i < n - 1 = omega (arith, length-drop 34 front) in
+                line-inside s (34 + i) (omega (arith, has .length-is)) (sym (getD-drop 34 front i 0 ∙ getD-take (n - 1) s (34 + i) 0 k) ∙ z));
           };
     }
-  where
-    all-drop : {P : ℕ → Type 0} {w : List ℕ} (k : ℕ) → All P w → All P (drop k w)
-    all-drop zero ps = ps
-    all-drop (suc k) all-none = all-none
-    all-drop (suc k) (all-more p ps) = all-drop k ps
 
 pub shape : Shape
 shape = (λ l s z. shaped-first (z .line-of) s, λ s h. line-from s (has-line s h))

@@ -1,6 +1,6 @@
 -- The text of each log, by the lines that it begins with.
 --
---   body-line, line-body        a line and its byte 10
+--   body-line                   a line without its byte 10
 --   line-some, body-joined, cut-line     a text that begins with a line: its length, its bytes, and the lines after it
 --   begins                      any text that does
 --   spaced-without, event-without     no byte 10 in them
@@ -12,14 +12,12 @@ use mathlib.Core.Logic.{_≢_}
 use mathlib.Core.Bool.{Bool, true, false, cond}
 use mathlib.Core.List.{List, [], _∷_, _++_, map, flatten, append-assoc}
 use Prim.Native.Char.{code}
-use Prim.Native.Nat.{ℕ, zero, suc, _-_, _<_, _≤_}
-use native.Mathlib.Nat.{not-suc-le-zero}
+use Prim.Native.Nat.{ℕ, _-_, _<_, _≤_}
 use native.Mathlib.Omega.{arith}
 use native.Mathlib.Decide.{ℕ-discrete}
-use lib.Dec.{eqb}
 use lib.ListN.{length, getD, take, drop, length-append, take-append-drop}
 use lib.Seq.{take-at, drop-at}
-use borrow.Author.Tests.{le-leb, lt-leb, eq-eqb, ne-eqb, eqb-true}
+use borrow.Author.Tests.{le-leb, lt-leb, eq-eqb, ne-eqb}
 use Rattle.cut_lists.specs.Pieces.{Cut, none, before, cut}
 use Rattle.cut_lists.proofs.CutLaws.{cut-none, cut-stop, cut-more}
 use Rattle.inventory.specs.Recoverable.{State}
@@ -28,8 +26,8 @@ use Rattle.inventory.specs.Steps.{openStep}
 use Rattle.inventory.specs.Claim.{sizeIn}
 use Rattle.text.specs.Ascii.{ascii}
 use Rattle.text.specs.Decimal.{decimal, field}
-use Rattle.text.specs.TextLines.{longer, lineLength}
-use Rattle.text.proofs.ScanLaws.{line-joined, line-most}
+use Rattle.text.specs.TextLines.{lineLength}
+use Rattle.text.proofs.ScanLaws.{line-joined, line-most, line-ends}
 use Rattle.replay.specs.Log.{bodyOf, isFirstLine, numbersOf, changeOf, isEventLine, numberIn}
 use Rattle.replay.specs.Lines.{refusedLine, spaced}
 use Rattle.replay.specs.Replay.{eventLine, eventLines, openedLines, logLines, replayOf}
@@ -71,25 +69,11 @@ module _ (l s : List ℕ) (h : Without 10 l) where
       ∙ ap₂ (λ (a b : List ℕ). before a (cut lineLength b)) line-taken
       (ap (λ (j : ℕ). drop j joined) line-is ∙ drop-at (l ++ (10 ∷ [])) s (length (l ++ (10 ∷ []))) refl)
 
--- the line that a text begins with
-line-body : (s : List ℕ) → 0 < lineLength s → (l : List ℕ) × (take (lineLength s) s ≡ l ++ (10 ∷ []))
-unfolding lineLength
-line-body [] h = absurd (not-suc-le-zero h)
-line-body (b ∷ s) h = go (eqb b 10) refl h (line-body s)
-  where
-    more : (n : ℕ) → 0 < longer n → (0 < n → (l : List ℕ) × (take n s ≡ l ++ (10 ∷ []))) → (l : List ℕ) × (take (longer n) (b ∷ s) ≡ l ++ (10 ∷ []))
-    more zero h r = absurd (not-suc-le-zero h)
-    more (suc n) h r = let (l, e) = r (omega arith) in (b ∷ l, ap (λ (t : List ℕ). b ∷ t) e)
-
-    go : (t : Bool) → eqb b 10 ≡ t → 0 < cond t 1 (longer (lineLength s)) → (0 < lineLength s → (l : List ℕ) × (take (lineLength s) s ≡ l ++ (10 ∷ [])))
-        → (l : List ℕ) × (take (cond t 1 (longer (lineLength s))) (b ∷ s) ≡ l ++ (10 ∷ []))
-    go true e h r = ([], ap (λ (c : ℕ). c ∷ []) (eqb-true b 10 e))
-    go false e h r = more (lineLength s) h r
-
 -- a text that begins with a line
 pub begins : (s : List ℕ) → 0 < lineLength s → s ≡ (bodyOf (take (lineLength s) s) ++ (10 ∷ [])) ++ drop (lineLength s) s
 begins s h =
-    let (l, e) = line-body s h in
+    let l : List ℕ = take (lineLength s - 1) s in
+    let e = line-ends s h in
     let b : bodyOf (take (lineLength s) s) ≡ l = ap bodyOf e ∙ body-line l in
     sym (take-append-drop (lineLength s) s) ∙ ap (λ (t : List ℕ). t ++ drop (lineLength s) s) (e ∙ ap (λ (t : List ℕ). t ++ (10 ∷ [])) (sym b))
 

@@ -3,7 +3,9 @@
 --   after k n            the length n of a line with k bytes more in front, 0 being none
 --   line-start, line-found, line-on, line-over     the search for the end of a line, byte by byte
 --   line-most            a line lies in its text
+--   line-skip            the search may start anywhere in the line
 --   line-joined          the line that a text begins with, its byte 10 written out
+--   line-ends, line-inside     the last byte of a line is 10, and no other is
 --   word-found, word-on, word-over     the search for the end of a word
 --   word-most            a word lies in its text
 --   words-last, words-more     the words: the only one, or the first and those after its space
@@ -18,7 +20,7 @@ use mathlib.Core.List.{List, [], _∷_, _++_, foldl}
 use Prim.Native.Nat.{ℕ, zero, suc, _+_, _-_, _≤_, _<_, min}
 use native.Mathlib.Numerals.{add-one}
 use native.Mathlib.Omega.{arith}
-use borrow.Author.Tests.{eq-eqb, ne-eqb}
+use borrow.Author.Tests.{eq-eqb, ne-eqb, eqb-true}
 use lib.Dec.{eqb}
 use lib.ListN.{length, take, drop, getD, drop-of-length-le}
 use lib.Seq.{drop-cons}
@@ -81,6 +83,22 @@ line-most (b ∷ s) = by (eqb b 10) (line-most s)
     by true h = omega arith
     by false h = longer-most (lineLength s) (length s) h
 
+longer-past : (n i : ℕ) → suc i < longer n → (i < n) × (longer n ≡ suc n)
+longer-past zero i h = absurd (omega arith)
+longer-past (suc n) i h = (omega arith, refl)
+
+pub line-skip : (s : List ℕ) (i : ℕ) → i < lineLength s → lineLength s ≡ i + lineLength (drop i s)
+unfolding lineLength
+line-skip s zero h = omega arith
+line-skip [] (suc i) h = absurd (omega (arith, line-most []))
+line-skip (b ∷ s) (suc i) h = by (eqb b 10) refl (λ k. line-skip s i k)
+  where
+    by : (t : Bool) → eqb b 10 ≡ t → (i < lineLength s → lineLength s ≡ i + lineLength (drop i s)) → lineLength (b ∷ s) ≡ suc i + lineLength (drop i s)
+    by true e r = absurd (let is : lineLength (b ∷ s) ≡ 1 = simp e in omega arith)
+    by false e r =
+        let is : lineLength (b ∷ s) ≡ longer (lineLength s) = simp e in
+        let past = longer-past (lineLength s) i (omega arith) in omega (arith, past .1, r (past .0))
+
 -- a line: bytes but 10, and byte 10
 pub line-joined : (l s : List ℕ) → ((i : ℕ) → i < length l → getD l i 0 ≢ 10) → lineLength (l ++ 10 ∷ s) ≡ length l + 1
 unfolding lineLength
@@ -88,6 +106,28 @@ line-joined [] s h = refl
 line-joined (b ∷ l) s h =
     ap (λ (t : Bool). cond t 1 (longer (lineLength (l ++ 10 ∷ s)))) (ne-eqb b 10 (h 0 (omega arith)))
     ∙ ap longer (line-joined l s (λ i k. h (suc i) (omega arith)) ∙ add-one (length l)) ∙ (let z : suc (suc (length l)) ≡ suc (length l) + 1 = omega arith in z)
+
+pub line-ends : (s : List ℕ) → 0 < lineLength s → take (lineLength s) s ≡ take (lineLength s - 1) s ++ (10 ∷ [])
+unfolding lineLength
+line-ends [] h = absurd (omega arith)
+line-ends (b ∷ s) h = by (eqb b 10) refl (λ k. line-ends s k) h
+  where
+    on : (n : ℕ) → 0 < longer n → (0 < n → take n s ≡ take (n - 1) s ++ (10 ∷ [])) → take (longer n) (b ∷ s) ≡ take (longer n - 1) (b ∷ s) ++ (10 ∷ [])
+    on zero h r = absurd (omega arith)
+    on (suc n) h r =
+        let less : suc n - 1 ≡ n = omega arith in
+        let more : suc (suc n) - 1 ≡ suc n = omega arith in
+        let ended : take (suc n) s ≡ take n s ++ (10 ∷ []) = rw less at (r (omega arith)) in rw more (ap (λ (l : List ℕ). b ∷ l) ended)
+
+    by : (t : Bool) → eqb b 10 ≡ t → (0 < lineLength s → take (lineLength s) s ≡ take (lineLength s - 1) s ++ (10 ∷ [])) → 0 < cond t 1 (longer (lineLength s))
+        → take (cond t 1 (longer (lineLength s))) (b ∷ s) ≡ take (cond t 1 (longer (lineLength s)) - 1) (b ∷ s) ++ (10 ∷ [])
+    by true e r h = ap (λ (c : ℕ). c ∷ []) (eqb-true b 10 e)
+    by false e r h = on (lineLength s) h r
+
+pub line-inside : (s : List ℕ) (i : ℕ) → suc i < lineLength s → getD s i 0 ≢ 10
+line-inside s i h e =
+    let found : lineLength (drop i s) ≡ i - i + 1 = sym (line-start s i) ∙ line-found s i i (omega arith) (omega (arith, line-most s)) e in
+    omega (arith, line-skip s i (omega arith))
 
 -- ---- the end of a word
 
