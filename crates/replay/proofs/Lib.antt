@@ -14,4 +14,5 @@ pub mod LineLengths
 pub mod Shapes
 pub mod Logs
 pub mod LogKinds
+pub mod Refusals
 pub mod Examples
