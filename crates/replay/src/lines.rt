@@ -13,8 +13,8 @@ ghost use Rattle.replay.specs.Events.{EventLine};
 use crate::events::Event;
 use number_sets::has;
 
-// The line after an event: the missing files that are recoverable, or the refusal; none at the end of the log. An event with an inventory
-// that no calls give is `refused 10`.
+// The line after an event: the missing files that are recoverable, or the refusal; none at the end of the log. An event that is neither
+// refused nor over, and has an inventory that no calls give, is `refused 10`.
 pub fn put_line(out: &mut [u8], at: usize, event: Event) -> usize
     ensures { λ r. ⌜ ((line : List ℕ) × EventLine coefficient event line
         × (buffer (now (out .exit)) r ≡ putOf (buffer (now (out .entry)) at) line)) ⌝ }
