@@ -28,7 +28,8 @@
 --   OneReply                  the model has one reply at most to each call
 --   OneAnswer, OneCount       what a query and a count promise determines the answer and the room
 --   ExactlyGiven              calls give what isInventory says, and nothing else
---   OthersRefused             every call refuses any other inventory with 10, and changes nothing
+--   OthersRefused             every call of a list refuses any other inventory with 10, and changes nothing; that recoverable_files does so
+--                             stands in RecoverableSet
 --   ZerosRefused              so it does that of zeros
 --   EmptyRecoverable          a missing empty file is recoverable, and its weights are zeros
 --   OneSet                    what is promised of the set of the recoverable files determines it

@@ -50,7 +50,7 @@ module _ (rule : ℕ → ℕ → ℕ) (nonempty present volumes : List ℕ) (row
           go : Elimination byteField is-zero table 256 rows → w v ≡ w′ v
           go (D, owner, R) = solution-unique byteField table 256 D owner rows R i w w′ W W′ v l
 
-  pub found-determined : (a b : Bool) (ws ws′ : List ℕ)
+  found-determined : (a b : Bool) (ws ws′ : List ℕ)
       → Solved rule nonempty present volumes rows i ws a → Solved rule nonempty present volumes rows i ws′ b → a ≡ b
   found-determined a b ws ws′ (solved w W h) (solved w′ W′ h′) = refl
   found-determined a b ws ws′ (solved w W h) (unsolved x X z) = absurd (solution-no-kernel byteField table 256 rows i w x inside W X)
