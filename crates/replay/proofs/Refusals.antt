@@ -9,7 +9,6 @@ use mathlib.Core.Bool.{Bool, false, cond, _||_}
 use mathlib.Core.List.{List}
 use Prim.Native.Nat.{ℕ, _^_, _-_, _<_, _≤_}
 use native.Mathlib.Omega.{arith}
-use lib.ListN.{length, getD}
 use Rattle.computed_tests.specs.Numbers.{oneTo}
 use Rattle.computed_tests.proofs.Tests.{oneTo-in, oneTo-outside}
 use Rattle.inventory.specs.Recoverable.{State}
