@@ -117,7 +117,9 @@ uint32_t par1_inverse(uint8_t x, uint8_t *out, size_t out_len);
  * their sum is above 255, then with 14 where `out` has no byte. */
 uint32_t par1_coefficient(uint64_t file, uint64_t volume, uint8_t *out, size_t out_len);
 
-/* Adds weight times the fragment to the buffer, byte by byte, for as many bytes as both have. Refuses nothing. */
+/* Adds weight times the fragment to the buffer, byte by byte, for as many bytes as both have. Refuses nothing. With the weight 1 it sums two
+ * buffers: where the saved files are split between two boxes, and each adds its share with the volume's coefficients to zeros of the data size, the
+ * buffers summed are the volume's data. */
 void par1_mul_add(uint8_t weight, const uint8_t *fragment, size_t fragment_len, uint8_t *buffer, size_t buffer_len);
 
 /* What an index file or volume holds, into the first 56 bytes of `out`: seven numbers, at PAR1_PARTS_..: program identifier, volume number

@@ -30,6 +30,7 @@ mod compare_quarantine;
 mod compare_read_cuts;
 mod compare_read_job;
 mod compare_replay;
+mod compare_sums;
 mod cuts;
 mod differences;
 mod expected;
@@ -88,7 +89,7 @@ impl Random {
 fn main() {
     let mut counts = Counts { passed: 0, failed: 0 };
     let mut random = Random(2026);
-    let parts: [(&str, fn(&mut Counts, &mut Random)); 22] = [
+    let parts: [(&str, fn(&mut Counts, &mut Random)); 23] = [
         ("md5", compare_md5::run),
         ("field", compare_field::run),
         ("parity", compare_parity::run),
@@ -111,6 +112,7 @@ fn main() {
         ("the checked mark", compare_checked::run),
         ("quarantine", compare_quarantine::run),
         ("replays", compare_replay::run),
+        ("sums", compare_sums::run),
     ];
     for (name, run) in parts {
         let before = counts.passed + counts.failed;

@@ -1,0 +1,5 @@
+mod Boxes
+mod ByteLaws
+mod Examples
+mod SumLaws
+mod Turns
