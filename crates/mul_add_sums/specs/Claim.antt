@@ -15,8 +15,8 @@
 --   MergedWritten    the two buffers summed by a call, and handed to write_volume, give the volume
 -- What excludes an empty reading: for every weight, fragment, buffer and way of cutting there is a buffer after it of which `Adds` holds, from C for
 -- every weight that is a byte, and there are no two (`OneAnswer`); a share may be any list of files, none too, and has its buffer (`SomeBuffer`); n
--- files have an order to be taken in (parity specs/Claim, `SomeOrder`), which may be cut in two anywhere; and sets keep the rules of
--- `MergedWritten` (par1_set proofs/Examples.antt, `p6-right`, whose statuses are 1, 0 and 1; proofs/Examples.antt, `their-sum`, has its two boxes).
+-- files have an order to be taken in (parity specs/Claim, `SomeOrder`), which may be cut in two anywhere; and a set of files with a file that is not
+-- saved meets all that `TwoBoxes` and `MergedWritten` ask for (proofs/Examples.antt, `their-sum`, `their-volume`).
 -- A buffer is shorter than `lendLimit`, as is every one that can be lent. That no push and no end of such a job is refused is claimed with the jobs
 -- (running_mul_add specs/Claim, `MulAddChunked`; job_bytes specs/Claim, `MulAddBytesChunked`).
 -- Assumes nothing.

@@ -5,7 +5,7 @@
 use mathlib.Core.Path.{_≡_, refl}
 use mathlib.Core.Bool.{true}
 use mathlib.Core.List.{List, [], _∷_, flatten}
-use Prim.Native.Nat.{ℕ, _^_, _<_}
+use Prim.Native.Nat.{ℕ, _^_, _<_, _≤_}
 use native.Mathlib.Omega.{arith}
 use lib.ListN.{length, length-append}
 use Rattle.cut_lists.specs.All.{all-none, all-more}
@@ -43,14 +43,14 @@ pub p6-list : length (listFor p6) ≡ 174
 unfolding flatten
 p6-list = simp (length-append, length-entry)
 
--- the set keeps the rules
+-- the set keeps the rules, with each of its volumes
 file-right : (contents : List ℕ) (status : ℕ) → fileSizeAllowed (length contents) ≡ true → status < 2 ^ 64 → FileRight (file contents status)
 unfolding nameAllowed unitsAllowed unitsOf unitAllowed leAt fromLe
 file-right contents status sized small = record { size-right = sized; status-right = small; name-right = refl }
 
-p6-right : VolumeRight 1 p6
+pub p6-right : (v : ℕ) → 1 ≤ v → v ≤ 253 → VolumeRight v p6
 unfolding isCounted
-p6-right =
+p6-right v low high =
     record {
       files-right = all-more (file-right _ 1 refl (omega arith)) (all-more (file-right _ 0 refl (omega arith)) (all-more (file-right _ 1 refl (omega arith)) all-none));
       volume-low = omega arith;
