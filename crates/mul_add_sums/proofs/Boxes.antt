@@ -63,38 +63,37 @@ share-files n ks ls once k h = isFile-inside n k (by (isFile n k) (once k) (coun
 -- ---- two boxes
 
 pub some-buffer : SomeBuffer
-some-buffer v fs ks =
-    (mulAddAll (λ f. coefficient f v) (contentsOf fs) ks (replicate (dataSizeFor fs) 0), all-given (λ f. coefficient f v) (contentsOf fs) ks _)
+some-buffer v fs ks = (_, all-given (λ f. coefficient f v) (contentsOf fs) _ _)
 
 module _ (v : ℕ) (fs : List File) (short : dataSizeFor fs < lendLimit) where
   -- what a box holds, in one equation
   abbrev share : List ℕ → List ℕ
   share ks = mulAddAll (λ f. coefficient f v) (contentsOf fs) ks (replicate (dataSizeFor fs) 0)
 
-  box-is : {ks b : List ℕ} → Box v fs ks b → b ≡ share ks
-  box-is p = all-answer (λ f. coefficient f v) (contentsOf fs) (omega (arith, length-replicate {A = ℕ} (dataSizeFor fs) 0)) p
+  box-is : (ks : List ℕ) {b : List ℕ} → Box v fs ks b → b ≡ share ks
+  box-is ks p = all-answer (λ f. coefficient f v) (contentsOf fs) (omega (arith, length-replicate {A = ℕ} (dataSizeFor fs) 0)) p
 
-  box-length : {ks b : List ℕ} → Box v fs ks b → length b ≡ dataSizeFor fs
-  box-length {ks} p = ap length (box-is p) ∙ length-mulAddAll (λ f. coefficient f v) (contentsOf fs) ks _ ∙ length-replicate (dataSizeFor fs) 0
+  box-length : (ks : List ℕ) {b : List ℕ} → Box v fs ks b → length b ≡ dataSizeFor fs
+  box-length ks p = ap length (box-is ks p) ∙ length-mulAddAll (λ f. coefficient f v) (contentsOf fs) ks _ ∙ length-replicate (dataSizeFor fs) 0
 
-  box-bytes : {ls b : List ℕ} (ks : List ℕ) → fileCount fs < 256 → Once (isFile (fileCount fs)) (ks ++ ls) → Box v fs ls b → Bytes b
-  box-bytes {ls} {b} ks few once p =
-      subst Bytes (sym (box-is p))
+  box-bytes : (ks ls : List ℕ) {b : List ℕ} → fileCount fs < 256 → Once (isFile (fileCount fs)) (ks ++ ls) → Box v fs ls b → Bytes b
+  box-bytes ks ls few once p =
+      subst Bytes (sym (box-is ls p))
       (mulAddAll-bytes (λ f. coefficient f v) (contentsOf fs) ls _
       (λ k h. let file = share-files (fileCount fs) ks ls once k h in coefficient-byte k v (omega arith)) (zeros-bytes (dataSizeFor fs)))
 
 pub two-boxes : TwoBoxes
 two-boxes v fs ks ls one two short once p q =
-    ap₂ sumBytes (box-is v fs short p) (box-is v fs short q) ∙ volume-shares (fileCount fs) (contentsOf fs) v (dataSizeFor fs) ks ls once
+    ap₂ sumBytes (box-is v fs short ks p) (box-is v fs short ls q) ∙ volume-shares (fileCount fs) (contentsOf fs) v (dataSizeFor fs) ks ls once
 
 pub merged-written : MergedWritten
 merged-written program v fs ks ls one two merged room out small right writable once p q sum list-fits fits =
     let short : dataSizeFor fs < lendLimit = omega (arith, right .length-right) in
     let few : fileCount fs < 256 = omega (arith, right .volume-high) in
-    let l₁ : length one ≡ dataSizeFor fs = box-length v fs short p in
-    let l₂ : length two ≡ dataSizeFor fs = box-length v fs short q in
+    let l₁ : length one ≡ dataSizeFor fs = box-length v fs short ks p in
+    let l₂ : length two ≡ dataSizeFor fs = box-length v fs short ls q in
     let parity-is : merged ≡ dataFor coefficient v fs =
-    one-answer 1 two one merged (omega arith) sum ∙ mulAdd-one one two (l₂ ∙ sym l₁) (box-bytes v fs short ks few once q)
+    one-answer 1 two one merged (omega arith) sum ∙ mulAdd-one one two (l₂ ∙ sym l₁) (box-bytes v fs short ks ls few once q)
     ∙ two-boxes v fs ks ls one two short once p q in
     let made = set-written program v fs (ks ++ ls) room out small right writable once list-fits fits in
     record {
