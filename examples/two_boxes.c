@@ -1,4 +1,4 @@
-/* Two boxes that make volumes together. Each has half of the saved files and adds its own, times their coefficients, to zeros of the data size: the
+/* Two boxes that make volumes together. Each has a share of the saved files and adds its own, times their coefficients, to zeros of the data size: the
  * first a file at a time, the second in chunks as they come. The buffer of the second is sent to the first, in chunks too, which adds it with the
  * weight 1. What is written from the sum is held against the volume of all files written at once. */
 #include "../include/par1.h"

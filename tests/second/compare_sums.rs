@@ -62,8 +62,9 @@ fn in_turns(counts: &mut Counts, random: &mut Random) {
         while rest.iter().any(|bytes| !bytes.is_empty()) {
             let turn = random.below(2);
             let (chunk, after) = rest[turn].split_at(random.below(20).min(rest[turn].len()));
-            (_, jobs[turn], buffer) = mul_add_push(&jobs[turn], chunk, &buffer);
-            rest[turn] = after;
+            let (number, next, now) = mul_add_push(&jobs[turn], chunk, &buffer);
+            assert_eq!(number, 0);
+            (jobs[turn], buffer, rest[turn]) = (next, now, after);
         }
         counts.same(|| format!("jobs in turns, round {round}, weights {v} and {w}"), buffer, want);
     }
