@@ -1,0 +1,6 @@
+mod Sizes
+pub mod CauchyRows
+pub mod CauchyStates
+pub mod AnyWillDo
+pub mod LeftInverses
+pub mod Examples

@@ -1,0 +1,77 @@
+-- Laws of how many numbers are in a set.
+--
+--   counts-one, counts-none      what a number counts for
+--   size-same        sets with the same numbers below the bound have one size
+--   size-shifted     the numbers less 1, where neither 0 nor the bound is in the set
+--   size-remove      one number less
+--   some-member      a set has a number below a bound, or none
+-- Assumes nothing.
+use mathlib.Core.Path.{_≡_, refl, ap, ap₂, _∙_}
+use mathlib.Core.Logic.{_⊎_, inl, inr}
+use mathlib.Core.Bool.{Bool, true, false, not, cond, _&&_}
+use Prim.Native.Nat.{ℕ, zero, suc, _<_, _+_}
+use native.Mathlib.Nat.{not-suc-le-zero}
+use native.Mathlib.Omega.{arith}
+use native.Mathlib.Decide.{ℕ-discrete}
+use borrow.Author.Tests.{eq-eqb, ne-eqb}
+use Rattle.number_sets.specs.Sets.{sizeBelow}
+use Rattle.inventory.specs.Model.{remove}
+
+pub size-same : (m : ℕ) (s t : ℕ → Bool) → ((k : ℕ) → k < m → s k ≡ t k) → sizeBelow m s ≡ sizeBelow m t
+unfolding sizeBelow
+size-same zero s t h = refl
+size-same (suc m) s t h =
+    ap₂ (λ (a : ℕ) (b : Bool). a + cond b 1 0) (size-same m s t (λ k l. h k (omega arith))) (h m (omega arith))
+
+-- a number counts as 1 where it is in a set, else as 0
+pub counts-one : (b : Bool) → b ≡ true → _≡_ {A = ℕ} (cond b 1 0) 1
+counts-one b e = ap (λ (c : Bool). cond c 1 0) e
+
+pub counts-none : (b : Bool) → b ≡ false → _≡_ {A = ℕ} (cond b 1 0) 0
+counts-none b e = ap (λ (c : Bool). cond c 1 0) e
+
+-- ---- numbers from 0
+
+size-first : (m : ℕ) (s : ℕ → Bool) → sizeBelow (suc m) s ≡ cond (s 0) 1 0 + sizeBelow m (λ k. s (suc k))
+unfolding sizeBelow
+size-first zero s = omega arith
+size-first (suc m) s = let e = size-first m s in omega arith
+
+pub size-shifted : (m : ℕ) (s : ℕ → Bool) → s 0 ≡ false → s m ≡ false → sizeBelow m s ≡ sizeBelow m (λ k. s (suc k))
+unfolding sizeBelow
+size-shifted m s first last =
+    let e = size-first m s in
+    let a = counts-none (s 0) first in
+    let z = counts-none (s m) last in
+    omega arith
+
+-- ---- one number less
+
+pub size-remove : (m : ℕ) (s : ℕ → Bool) (a : ℕ) → a < m → s a ≡ true → sizeBelow m s ≡ suc (sizeBelow m (remove a s))
+unfolding sizeBelow
+size-remove zero s a l e = absurd (not-suc-le-zero l)
+size-remove (suc m) s a l e =
+    elim (ℕ-discrete m a) [
+      | yes p ↦
+          let kept = size-same m (remove a s) s
+          (λ k h. ap (λ (b : Bool). not b && s k) (ne-eqb k a (λ z. omega arith))) in
+          let here = counts-one (s m) (ap s p ∙ e) in
+          let gone = counts-none (remove a s m) (ap (λ (b : Bool). not b && s m) (eq-eqb m a p)) in
+          omega arith
+      | no q ↦
+          let less = size-remove m s a (omega arith) e in
+          let same : _≡_ {A = ℕ} (cond (remove a s m) 1 0) (cond (s m) 1 0) = ap (λ (b : Bool). cond (not b && s m) 1 0) (ne-eqb m a q) in
+          omega arith
+    ]
+
+-- ---- a number of a set
+
+pub some-member : (m : ℕ) (s : ℕ → Bool) → ((k : ℕ) × (k < m) × (s k ≡ true)) ⊎ ((k : ℕ) → k < m → s k ≡ false)
+some-member zero s = inr (λ k l. absurd (not-suc-le-zero l))
+some-member (suc m) s = go (some-member m s) (s m) refl
+  where
+    go : ((k : ℕ) × (k < m) × (s k ≡ true)) ⊎ ((k : ℕ) → k < m → s k ≡ false) → (b : Bool) → s m ≡ b
+        → ((k : ℕ) × (k < suc m) × (s k ≡ true)) ⊎ ((k : ℕ) → k < suc m → s k ≡ false)
+    go (inl (k, l, e)) b h = inl (k, omega arith, e)
+    go (inr none) true h = inl (m, omega arith, h)
+    go (inr none) false h = inr (λ k l. elim (ℕ-discrete k m) [ yes p ↦ ap s p ∙ h | no q ↦ none k (omega arith) ])
