@@ -1,33 +1,26 @@
--- Cauchy coefficients, and when a call for one is answered.
+-- Cauchy coefficients.
 --
 --   cauchy-rule              the coefficient is the inverse of f exclusive-or (256 - v), and no other byte is
 --   cauchy-byte              it is a byte
 --   cauchy-bytes             in range it is a byte other than 0
 --   cauchy-by-tables         it is what the tables give
---   answer-in-range          numbers in range are answered
---   answer-file-zero, answer-volume-zero,
---   answer-sum-above         other numbers are refused
---   cauchy-answered          so each call is answered
 -- Assumes nothing.
 use mathlib.Core.Path.{_≡_, refl, sym, ap, _∙_}
-use mathlib.Core.Bool.{or-true}
 use mathlib.Core.List.{List}
-use Prim.Native.Nat.{ℕ, _+_, _-_, _%_, _<_, _≤_}
+use Prim.Native.Nat.{ℕ, _-_, _%_, _<_}
 use native.Mathlib.Nat.{mod-lt, mod-eq-of-lt}
 use native.Mathlib.Omega.{arith}
-use native.Mathlib.Decide.{ℕ-discrete, decLt}
+use native.Mathlib.Decide.{ℕ-discrete}
 use lib.Bits.{bitXor}
-use borrow.Author.Tests.{eq-eqb, ne-eqb, lt-ltb, le-ltb}
 use Rattle.gf256.specs.Field.{product, power, inverse, inverseBelow}
 use Rattle.gf256.specs.Polynomial.{coeff, sumBelow, polyProduct, remainder}
 use Rattle.gf256.specs.Tables.{powersOf2, IsExponents}
-use Rattle.gf256.specs.declared.ByteAnswer.the-variants.{Byte, Refused}
 use Rattle.gf256.proofs.Xor.{xor-byte, xor-equal}
 use Rattle.gf256.proofs.Products.{product-zero-r}
 use Rattle.gf256.proofs.Inverses.{inverse-byte, inverse-power, one-inverse}
 use Rattle.gf256.proofs.TableLaws.{power-by-tables}
-use Rattle.cauchy.specs.Cauchy.{rowPoint, cauchy, cauchyBy, cauchyAnswer}
-use Rattle.cauchy.specs.Claim.{InRange, CauchyRule, CauchyBytes, CauchyAnswered}
+use Rattle.cauchy.specs.Cauchy.{rowPoint, cauchy, cauchyBy}
+use Rattle.cauchy.specs.Claim.{InRange, CauchyRule, CauchyBytes}
 
 -- ---- the rule
 
@@ -87,42 +80,3 @@ unfolding cauchyBy cauchy
 cauchy-by-tables ps es p t f v h =
     let byte = xor-byte h (mod-lt (256 - v) (omega arith)) in
     power-by-tables ps es p t (bitXor f (rowPoint v)) 254 byte ∙ inverse-by-power (bitXor f (rowPoint v)) byte
-
--- ---- calls
-
-module _ (f v : ℕ) where
-  pub answer-in-range : 0 < f → 0 < v → f + v ≤ 255 → cauchyAnswer f v ≡ Byte (cauchy f v)
-  unfolding cauchyAnswer
-  answer-in-range hf hv h = simp (ne-eqb f 0 (λ e. omega arith), ne-eqb v 0 (λ e. omega arith), le-ltb 255 (f + v) h)
-
-  pub answer-file-zero : f ≡ 0 → cauchyAnswer f v ≡ Refused 10
-  unfolding cauchyAnswer
-  answer-file-zero e = simp (eq-eqb f 0 e)
-
-  pub answer-volume-zero : v ≡ 0 → cauchyAnswer f v ≡ Refused 10
-  unfolding cauchyAnswer
-  answer-volume-zero e = simp (eq-eqb v 0 e, or-true)
-
-  pub answer-sum-above : 255 < f + v → cauchyAnswer f v ≡ Refused 10
-  unfolding cauchyAnswer
-  answer-sum-above h = simp (lt-ltb 255 (f + v) h, or-true)
-
-  out-of-range : ¬ InRange f v → cauchyAnswer f v ≡ Refused 10
-  out-of-range h = elim (ℕ-discrete f 0) [
-    | yes e ↦ answer-file-zero e
-    | no p ↦
-        elim (ℕ-discrete v 0) [
-          | yes e ↦ answer-volume-zero e
-          | no q ↦
-              elim (decLt 255 (f + v)) [
-                | yes l ↦ answer-sum-above l
-                | no r ↦ absurd (h (record { file = omega (arith, p); volume = omega (arith, q); both = omega (arith, r) }))
-              ]
-        ]
-  ]
-
-pub cauchy-answered : CauchyAnswered
-cauchy-answered = record {
-  inRange = λ f v h. answer-in-range f v (h .file) (h .volume) (h .both);
-  outOfRange = out-of-range;
-}

@@ -3,17 +3,12 @@
 --   rowPoint v            the number that stands for volume v: 256 - v, as a byte
 --   cauchy f v            the coefficient of file f in volume v
 --   cauchyBy ps es f v    the same by a table of powers and a table of exponents
---   cauchyAnswer f v      the answer to a call for it
 -- Assumes nothing.
-use Prim.Native.Nat.{ℕ, _+_, _-_, _%_}
-use mathlib.Core.Bool.{cond, _||_}
+use Prim.Native.Nat.{ℕ, _-_, _%_}
 use mathlib.Core.List.{List}
 use lib.Bits.{bitXor}
-use lib.Dec.{eqb, ltb}
 use Rattle.gf256.specs.Field.{inverse}
 use Rattle.gf256.specs.Tables.{powerBy}
-use Rattle.gf256.specs.declared.ByteAnswer.{ByteAnswer}
-use Rattle.gf256.specs.declared.ByteAnswer.the-variants.{Byte, Refused}
 
 -- "256 - v": of a volume's number 1 to 254 it is a byte; there is no volume 0
 abbrev pub rowPoint : ℕ → ℕ
@@ -26,7 +21,3 @@ cauchy f v = inverse (bitXor f (rowPoint v))
 -- 2026-04: "use tables of logarithms and powers"; an inverse is the power 254
 unfoldable pub cauchyBy : List ℕ → List ℕ → ℕ → ℕ → ℕ
 cauchyBy ps es f v = powerBy ps es (bitXor f (rowPoint v)) 254
-
--- "for f + v up to 255"; document 01: "Asking for a factor refuses with 10 if f or v is 0 or f + v is above 255"
-unfoldable pub cauchyAnswer : ℕ → ℕ → ByteAnswer
-cauchyAnswer f v = cond (eqb f 0 || (eqb v 0 || ltb 255 (f + v))) (Refused 10) (Byte (cauchy f v))

@@ -3,16 +3,14 @@
 --   InRange f v        f and v are the numbers of a file and a volume of one set
 --   CauchyRule         the coefficient times f exclusive-or (256 - v) is 1, and no other byte's product with it is
 --   CauchyBytes        it is a byte, and not 0
---   CauchyAnswered     a call for it is answered in range, and refused with 10 out of it
--- Numbers in range are there (1 and 1), so no claim is empty. What the coefficients are for is claimed in crate `cauchy_recovery`.
--- Sentences in quotation marks are document 02's, or document 01's.
+-- Numbers in range are there (1 and 1), so no claim is empty. Calls for a coefficient are claimed in crate `parity`, and what
+-- the coefficients are for in crate `cauchy_recovery`. Sentences in quotation marks are document 02's, or document 01's.
 -- Assumes nothing.
 use mathlib.Core.Path.{_≡_}
 use Prim.Native.Nat.{ℕ, _+_, _-_, _<_, _≤_}
 use lib.Bits.{bitXor}
 use Rattle.gf256.specs.Field.{product}
-use Rattle.gf256.specs.declared.ByteAnswer.the-variants.{Byte, Refused}
-use Rattle.cauchy.specs.Cauchy.{cauchy, cauchyAnswer}
+use Rattle.cauchy.specs.Cauchy.{cauchy}
 
 -- "for f + v up to 255"
 pub record InRange (f v : ℕ) : Type 0 where
@@ -29,8 +27,3 @@ CauchyRule =
 -- a coefficient is a byte, and each file counts in each volume; proved: proofs/Coefficients.antt, `cauchy-bytes`
 abbrev pub CauchyBytes : Type 0
 CauchyBytes = (f v : ℕ) → InRange f v → (cauchy f v < 256) × (0 < cauchy f v)
-
--- "Asking for a factor refuses with 10 if f or v is 0 or f + v is above 255"; proved: proofs/Coefficients.antt, `cauchy-answered`
-pub record CauchyAnswered : Type 0 where
-  pub inRange : (f v : ℕ) → InRange f v → cauchyAnswer f v ≡ Byte (cauchy f v)
-  pub outOfRange : (f v : ℕ) → ¬ InRange f v → cauchyAnswer f v ≡ Refused 10

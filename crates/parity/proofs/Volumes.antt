@@ -1,7 +1,7 @@
 -- What a volume's data is, over any rule for the coefficients.
 --
 --   files-parity                every file, times its coefficient, added to zeros in any order: the parity
---   volume-data                 the same at document 01's coefficients
+--   volume-data                 the same at the coefficients of each code
 --   volume-shares               and in two shares
 --   parity-bytes, parity-ends   at these coefficients the parity of bytes is a byte, and past the greatest size it is 0
 -- Assumes nothing.
@@ -20,9 +20,9 @@ use Rattle.mul_add.specs.Once.{Once}
 use Rattle.mul_add.proofs.AnyOrder.{mulAddAll-once}
 use Rattle.mul_add.proofs.MulAdds.{length-mulAddAll, mulAddAll-shares}
 use Rattle.parity.specs.Claim.{VolumeData, VolumeShares, ParityBytes, ParityEnds}
-use Rattle.parity.specs.Coefficient.{coefficient}
+use Rattle.parity.specs.Coefficient.{ruleOf}
 use Rattle.parity.specs.Parity.{Contents, isFile, parityByte, parity}
-use Rattle.parity.proofs.Coefficients.{coefficient-byte}
+use Rattle.parity.proofs.Coefficients.{rule-byte}
 use Rattle.parity.proofs.Files.{isFile-in, isFile-inside}
 use Rattle.parity.proofs.Parities.{length-parity, parity-at, parityByte-byte, parityByte-end}
 
@@ -46,14 +46,14 @@ module _ (rule : ℕ → ℕ → ℕ) (n : ℕ) (X : Contents) (v m : ℕ) where
       ∙ sym (parity-at rule n X v m p inside))
 
 pub volume-data : VolumeData
-volume-data = files-parity coefficient
+volume-data c = files-parity (ruleOf c)
 
 pub volume-shares : VolumeShares
-volume-shares n X v m ks ls once = mulAddAll-shares (λ f. coefficient f v) X ks ls m ∙ volume-data n X v m (ks ++ ls) once
+volume-shares c n X v m ks ls once = mulAddAll-shares (λ f. ruleOf c f v) X ks ls m ∙ volume-data c n X v m (ks ++ ls) once
 
 pub parity-bytes : ParityBytes
-parity-bytes n X v p h hX =
-    parityByte-byte coefficient n X v p (λ f pos l. coefficient-byte f v (omega arith)) (λ f. hX f p)
+parity-bytes c n X v p h hX =
+    parityByte-byte (ruleOf c) n X v p (λ f pos l. rule-byte c f v (omega arith)) (λ f. hX f p)
 
 pub parity-ends : ParityEnds
-parity-ends n X v p h = parityByte-end coefficient n X v p h
+parity-ends c n X v p h = parityByte-end (ruleOf c) n X v p h

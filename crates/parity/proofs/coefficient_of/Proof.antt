@@ -2,7 +2,7 @@
 -- Assumes nothing.
 use mathlib.Core.Path.{_∙_}
 use borrow.Author.Needs.{needs}
-use Rattle.parity.proofs.Coefficients.{coefficient-by-tables}
+use Rattle.parity.proofs.Coefficients.{rule-by-tables}
 use Rattle.parity.proofs.coefficient_of.Statement.{statement}
 use Rattle.parity.proofs.coefficient_of.Tie as tie
 
@@ -11,7 +11,7 @@ returns c =
     let x = c .before .before .before in
     let a = x .before .before .args in
     c .coefficient-by .ensures
-    ∙ coefficient-by-tables _ _ (x .before .power-table .ensures) (x .exponent-table .ensures) (a .file) (a .volume) (search needs)
+    ∙ rule-by-tables _ _ (x .before .power-table .ensures) (x .exponent-table .ensures) (a .code) (a .file) (a .volume) (search needs)
 
 pub coefficient-of-spec : {M : Type 1} → statement M
 coefficient-of-spec = tie.close (tie.spec (λ c κs. search needs) (λ c κs. search needs) (λ c κs. search needs) returns)
