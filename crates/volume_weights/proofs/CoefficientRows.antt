@@ -23,8 +23,9 @@ use Rattle.elimination.proofs.ByteField.{toByte-value, toByte-of-value}
 use Rattle.number_sets.specs.Sets.{member}
 use Rattle.number_sets.proofs.Words.{member-none}
 use Rattle.gf256.specs.Tables.{powersOf2, IsExponents}
-use Rattle.parity.specs.Coefficient.{coefficient, coefficientBy}
-use Rattle.parity.proofs.Coefficients.{coefficient-by-tables}
+use Rattle.codes.specs.declared.Code.{Code}
+use Rattle.parity.specs.Coefficient.{ruleOf, coefficientBy}
+use Rattle.parity.proofs.Coefficients.{rule-by-tables}
 use Rattle.volume_weights.specs.Weights.{columnIn, tableOf, rowOf}
 
 -- ---- a list, filled from the front
@@ -40,10 +41,10 @@ set-below f l j v b e h i m =
 -- ---- an entry
 
 -- the coefficient that the tables give, where it is wanted
-pub entry-wanted : (ps es : List ℕ) → ps ≡ powersOf2 → IsExponents es → (wanted : Bool) (f v : ℕ) → f < 256 → wanted ≡ true
-    → coefficientBy ps es f v ≡ cond wanted (coefficient f v) 0
-entry-wanted ps es p t wanted f v l e =
-    coefficient-by-tables ps es p t f v l ∙ sym (ap (λ (b : Bool). cond b (coefficient f v) 0) e)
+pub entry-wanted : (c : Code) (ps es : List ℕ) → ps ≡ powersOf2 → IsExponents es → (wanted : Bool) (f v : ℕ) → f < 256 → wanted ≡ true
+    → coefficientBy c ps es f v ≡ cond wanted (ruleOf c f v) 0
+entry-wanted c ps es p t wanted f v l e =
+    rule-by-tables ps es p t c f v l ∙ sym (ap (λ (b : Bool). cond b (ruleOf c f v) 0) e)
 
 -- ---- a row
 

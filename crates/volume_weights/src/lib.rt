@@ -1,5 +1,5 @@
 // Weights of the volumes present that bring a missing file back (document 01, "The sheet": the recipe), and what the files present
-// then weigh. The rule of the coefficients is `parity::coefficient_by`.
+// then weigh. The rule of the coefficients is that of the code, `parity::coefficient_by`.
 ghost use mathlib.Core.Path.{_≡_};
 ghost use mathlib.Core.Bool.{not, cond, _&&_};
 ghost use Prim.Native.Nat.{suc, _<_, _≤_};
@@ -9,12 +9,13 @@ ghost use Rattle.computed_tests.specs.Lists.{listBelow, firstBelow};
 ghost use Rattle.gf256.specs.Tables.{powersOf2, IsExponents};
 ghost use Rattle.mul_add.specs.MulAdd.{mulAdd};
 ghost use Rattle.elimination.specs.Reduction.{inBlocks, Apart};
-ghost use Rattle.parity.specs.Coefficient.{coefficient};
+ghost use Rattle.parity.specs.Coefficient.{ruleOf};
 ghost use Rattle.volume_weights.specs.Weights.{rowOf, volumeAdded, volumesAdded, Solved, fileWeight};
 ghost use Rattle.volume_weights.specs.Weights.{IsColumns, renumbered, numbersTo};
 
 mod solved;
 
+use codes::Code;
 use number_sets::has;
 use parity::coefficient_by;
 pub use solved::solved_columns;
@@ -29,13 +30,14 @@ pub struct Solution {
 // columns are the files of size 1 or more that are not present, file k in column k - 1; the elimination takes them side by side.
 // Its matrix takes 65,536 bytes of stack.
 pub fn solve(
+    code: Code,
     nonempty: [u64; 4],
     present: [u64; 4],
     volumes: [u64; 4],
     rows: u8,
     column: u8,
 ) -> Solution
-    ensures { λ r. ⌜ Solved coefficient nonempty present volumes rows column (r .weights) (r .found) ⌝ }
+    ensures { λ r. ⌜ Solved (ruleOf code) nonempty present volumes rows column (r .weights) (r .found) ⌝ }
 {
     let columns = columns(nonempty, present);
     let files = columns.files;
@@ -45,7 +47,7 @@ pub fn solve(
     let mut owners = [0u8; 256];
     if at < width {
         elimination::set_diagonal(&mut matrix);
-        add_volumes(&files, width, volumes, rows, &mut matrix, &mut owners);
+        add_volumes(code, &files, width, volumes, rows, &mut matrix, &mut owners);
         if elimination::solvable(&matrix, &owners, at) {
             let weights = elimination::weights(&matrix, &owners, at);
             return Solution {
@@ -108,6 +110,7 @@ fn place(files: &[u8; 256], width: u8, column: u8) -> u8
 
 // Adds the rows of the volumes present, of the first `rows`.
 fn add_volumes(
+    code: Code,
     files: &[u8; 256],
     width: u8,
     volumes: [u64; 4],
@@ -117,18 +120,19 @@ fn add_volumes(
 )
     requires { ⌜ Apart (inBlocks width) (now matrix) ⌝ }
     ensures { λ _. ⌜ (now (matrix .exit), now (owners .exit))
-        ≡ volumesAdded (renumbered coefficient (now (files .entry))) (numbersTo width) (replicate 4 0) volumes rows
+        ≡ volumesAdded (renumbered (ruleOf code) (now (files .entry))) (numbersTo width) (replicate 4 0) volumes rows
         (now (matrix .entry), now (owners .entry)) ⌝ }
 {
     let mut v: u8 = 0;
     while v < rows {
-        add_volume(files, width, volumes, v + 1, matrix, owners);
+        add_volume(code, files, width, volumes, v + 1, matrix, owners);
         v += 1;
     }
 }
 
 // Adds the row of a volume, if it is present.
 fn add_volume(
+    code: Code,
     files: &[u8; 256],
     width: u8,
     volumes: [u64; 4],
@@ -138,18 +142,18 @@ fn add_volume(
 )
     requires { ⌜ Apart (inBlocks width) (now matrix) ⌝ }
     ensures { λ _. ⌜ (now (matrix .exit), now (owners .exit))
-        ≡ volumeAdded (renumbered coefficient (now (files .entry))) (numbersTo width) (replicate 4 0) volumes volume
+        ≡ volumeAdded (renumbered (ruleOf code) (now (files .entry))) (numbersTo width) (replicate 4 0) volumes volume
         (now (matrix .entry), now (owners .entry)) ⌝ }
 {
     if has(volumes, volume as u64) {
-        let row = row(files, width, volume);
+        let row = row(code, files, width, volume);
         elimination::add_row(matrix, owners, width, &row, volume);
     }
 }
 
 // The coefficients of the columns in a volume, side by side.
-fn row(files: &[u8; 256], width: u8, volume: u8) -> [u8; 256]
-    ensures { λ r. ⌜ r ≡ rowOf (renumbered coefficient (now (files .entry))) (numbersTo width) (replicate 4 0) volume ⌝ }
+fn row(code: Code, files: &[u8; 256], width: u8, volume: u8) -> [u8; 256]
+    ensures { λ r. ⌜ r ≡ rowOf (renumbered (ruleOf code) (now (files .entry))) (numbersTo width) (replicate 4 0) volume ⌝ }
 {
     let powers = gf256::power_table();
     let exponents = gf256::exponent_table();
@@ -157,19 +161,26 @@ fn row(files: &[u8; 256], width: u8, volume: u8) -> [u8; 256]
     let mut p: u8 = 0;
     while p < width {
         let k = index(p);
-        row[k] = entry(&powers, &exponents, true, files[k], volume);
+        row[k] = entry(code, &powers, &exponents, true, files[k], volume);
         p += 1;
     }
     row
 }
 
 // The coefficient of a file in a volume by the tables that are lent, if it is wanted, else 0.
-fn entry(powers: &[u8; 263], exponents: &[u8; 256], wanted: bool, file: u8, volume: u8) -> u8
+fn entry(
+    code: Code,
+    powers: &[u8; 263],
+    exponents: &[u8; 256],
+    wanted: bool,
+    file: u8,
+    volume: u8,
+) -> u8
     requires { ⌜ (now powers ≡ powersOf2) × IsExponents (now exponents) ⌝ }
-    ensures { λ r. ⌜ r ≡ cond wanted (coefficient file volume) 0 ⌝ }
+    ensures { λ r. ⌜ r ≡ cond wanted (ruleOf code file volume) 0 ⌝ }
 {
     if wanted {
-        coefficient_by(powers, exponents, file, volume)
+        coefficient_by(code, powers, exponents, file, volume)
     } else {
         0
     }
@@ -177,31 +188,31 @@ fn entry(powers: &[u8; 263], exponents: &[u8; 256], wanted: bool, file: u8, volu
 
 // The weights of the files present, by file number less 1: the sum, over the first `rows` volumes, of weight times coefficient; 0 for
 // a file that is not present.
-pub fn file_weights(present: [u64; 4], rows: u8, weights: &[u8; 256]) -> [u8; 255]
-    ensures { λ r. ⌜ r ≡ listBelow 255 (fileWeight coefficient present (now (weights .entry)) rows) ⌝ }
+pub fn file_weights(code: Code, present: [u64; 4], rows: u8, weights: &[u8; 256]) -> [u8; 255]
+    ensures { λ r. ⌜ r ≡ listBelow 255 (fileWeight (ruleOf code) present (now (weights .entry)) rows) ⌝ }
 {
     let mut sums = [0u8; 255];
     let mut v: u8 = 0;
     while v < rows {
-        add_terms(present, weights[v as usize + 1], v + 1, &mut sums);
+        add_terms(code, present, weights[v as usize + 1], v + 1, &mut sums);
         v += 1;
     }
     sums
 }
 
 // Adds a weight times the coefficient in a volume of each file present. A weight of 0 takes no time.
-fn add_terms(present: [u64; 4], weight: u8, volume: u8, sums: &mut [u8; 255])
-    ensures { λ _. ⌜ now (sums .exit) ≡ mulAdd weight (rowOf coefficient present (replicate 4 0) volume) (now (sums .entry)) ⌝ }
+fn add_terms(code: Code, present: [u64; 4], weight: u8, volume: u8, sums: &mut [u8; 255])
+    ensures { λ _. ⌜ now (sums .exit) ≡ mulAdd weight (rowOf (ruleOf code) present (replicate 4 0) volume) (now (sums .entry)) ⌝ }
 {
     if weight != 0 {
-        let row = present_row(present, volume);
+        let row = present_row(code, present, volume);
         mul_add::mul_add(weight, &row, sums);
     }
 }
 
 // The coefficients of the files present in a volume, file k in place k - 1.
-fn present_row(present: [u64; 4], volume: u8) -> [u8; 256]
-    ensures { λ r. ⌜ r ≡ rowOf coefficient present (replicate 4 0) volume ⌝ }
+fn present_row(code: Code, present: [u64; 4], volume: u8) -> [u8; 256]
+    ensures { λ r. ⌜ r ≡ rowOf (ruleOf code) present (replicate 4 0) volume ⌝ }
 {
     let powers = gf256::power_table();
     let exponents = gf256::exponent_table();
@@ -209,7 +220,14 @@ fn present_row(present: [u64; 4], volume: u8) -> [u8; 256]
     let mut i: usize = 0;
     while i < 255 {
         let file = i as u64 + 1;
-        row[i] = entry(&powers, &exponents, has(present, file), file as u8, volume);
+        row[i] = entry(
+            code,
+            &powers,
+            &exponents,
+            has(present, file),
+            file as u8,
+            volume,
+        );
         i += 1;
     }
     row

@@ -8,7 +8,7 @@ use lib.ListN.{replicate}
 use borrow.Author.Needs.{needs}
 use Rattle.mul_add.specs.MulAdd.{mulAdd}
 use Rattle.mul_add.proofs.MulAdds.{mulAdd-zero}
-use Rattle.parity.specs.Coefficient.{coefficient}
+use Rattle.parity.specs.Coefficient.{ruleOf}
 use Rattle.volume_weights.specs.Weights.{rowOf}
 use Rattle.volume_weights.proofs.add_terms.Statement.{statement}
 use Rattle.volume_weights.proofs.add_terms.Tie as tie
@@ -22,7 +22,7 @@ returns c =
 returns-2 : tie.Need-returns-2
 returns-2 c =
     let a = c .before .args in
-    let row = rowOf coefficient (a .present) (replicate 4 0) (a .volume) in
+    let row = rowOf (ruleOf (a .code)) (a .present) (replicate 4 0) (a .volume) in
     sym (ap (λ (w : ℕ). mulAdd w row (a .sums .now)) (omega (arith, c .if1 .left)) ∙ mulAdd-zero row (a .sums .now))
 
 pub add-terms-spec : {M : Type 1} → statement M

@@ -5,17 +5,17 @@ use mathlib.Core.Path.{_≡_}
 use Prim.Native.Nat.{_≤_, _<_, _-_}
 use native.Mathlib.Omega.{arith}
 use borrow.Author.Needs.{needs}
-use Rattle.parity.specs.Coefficient.{coefficient}
+use Rattle.parity.specs.Coefficient.{ruleOf}
 use Rattle.volume_weights.proofs.Steps.{Added, added-none, added-more}
 use Rattle.volume_weights.proofs.add_volumes.Statement.{statement}
 use Rattle.volume_weights.proofs.add_volumes.Tie as tie
 
 abbrev Inv-loop : tie.InvT-loop
-Inv-loop files width volumes rows matrix₀ owners₀ v₀ matrix owners v =
-    (v ≤ rows) × ((small : width < 256) → Added coefficient files volumes width small v (matrix₀, owners₀) (matrix, owners))
+Inv-loop code files width volumes rows matrix₀ owners₀ v₀ matrix owners v =
+    (v ≤ rows) × ((small : width < 256) → Added (ruleOf code) files volumes width small v (matrix₀, owners₀) (matrix, owners))
 
 abbrev μ-loop : tie.MeasureT-loop
-μ-loop files width volumes rows matrix₀ owners₀ v₀ matrix owners v = rows - v
+μ-loop code files width volumes rows matrix₀ owners₀ v₀ matrix owners v = rows - v
 
 loop-holds : tie.Need-loop-holds Inv-loop μ-loop
 loop-holds c = (omega arith, λ small. added-none _ _ _ _ small _ (c .pre))

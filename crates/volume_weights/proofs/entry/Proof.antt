@@ -3,7 +3,7 @@
 use mathlib.Core.Path.{sym, ap, _∙_}
 use mathlib.Core.Bool.{Bool, cond}
 use borrow.Author.Needs.{needs}
-use Rattle.parity.specs.Coefficient.{coefficient}
+use Rattle.parity.specs.Coefficient.{ruleOf}
 use Rattle.volume_weights.proofs.CoefficientRows.{entry-wanted}
 use Rattle.volume_weights.proofs.entry.Statement.{statement}
 use Rattle.volume_weights.proofs.entry.Tie as tie
@@ -12,12 +12,13 @@ returns : tie.Need-returns
 returns c =
     let s = c .before .before in
     let a = s .args in
-    c .coefficient-by .ensures ∙ entry-wanted _ _ (s .pre .0) (s .pre .1) (a .wanted) (a .file) (a .volume) (search needs) (c .before .if1 .taken)
+    c .coefficient-by .ensures
+    ∙ entry-wanted (a .code) _ _ (s .pre .0) (s .pre .1) (a .wanted) (a .file) (a .volume) (search needs) (c .before .if1 .taken)
 
 returns-2 : tie.Need-returns-2
 returns-2 c =
     let a = c .before .args in
-    sym (ap (λ (b : Bool). cond b (coefficient (a .file) (a .volume)) 0) (c .if1 .left))
+    sym (ap (λ (b : Bool). cond b (ruleOf (a .code) (a .file) (a .volume)) 0) (c .if1 .left))
 
 pub entry-spec : {M : Type 1} → statement M
 entry-spec = tie.close (tie.spec (λ c κs. search needs) returns returns-2)

@@ -8,19 +8,19 @@ use native.Mathlib.Omega.{arith}
 use lib.ListN.{length, getD, length-set, getD-replicate}
 use lib.Seq.{getD-set-other}
 use borrow.Author.Needs.{needs}
-use Rattle.parity.specs.Coefficient.{coefficient}
+use Rattle.parity.specs.Coefficient.{ruleOf}
 use Rattle.volume_weights.proofs.CoefficientRows.{set-below}
 use Rattle.volume_weights.proofs.Renumbered.{packed-row}
 use Rattle.volume_weights.proofs.row.Statement.{statement}
 use Rattle.volume_weights.proofs.row.Tie as tie
 
 abbrev Inv-loop : tie.InvT-loop
-Inv-loop files width volume powers exponents row₀ p₀ row p =
-    (p ≤ width) × (length row ≡ 256) × ((k : ℕ) → k < p → getD row k 0 ≡ coefficient (getD files k 0) volume)
+Inv-loop code files width volume powers exponents row₀ p₀ row p =
+    (p ≤ width) × (length row ≡ 256) × ((k : ℕ) → k < p → getD row k 0 ≡ ruleOf code (getD files k 0) volume)
     × ((k : ℕ) → p ≤ k → k < 256 → getD row k 0 ≡ 0)
 
 abbrev μ-loop : tie.MeasureT-loop
-μ-loop files width volume powers exponents row₀ p₀ row p = width - p
+μ-loop code files width volume powers exponents row₀ p₀ row p = width - p
 
 loop-holds : tie.Need-loop-holds Inv-loop μ-loop
 loop-holds c = (omega arith, refl, λ k l. absurd (not-suc-le-zero l), λ k l h. getD-replicate 256 k 0 0 h)
@@ -33,7 +33,7 @@ loop-again c =
     let k = i .index .result in
     let e : k ≡ l .p = i .index .ensures .0 in
     let x = c .entry .result in
-    let file : ℕ → ℕ = λ (k : ℕ). coefficient (getD (a .files .now) k 0) (a .volume) in
+    let file : ℕ → ℕ = λ (k : ℕ). ruleOf (a .code) (getD (a .files .now) k 0) (a .volume) in
     let inside : k < length (l .row) = omega (arith, l .inv .1) in (
       omega arith,
       simp length-set (l .inv .1),
@@ -47,7 +47,7 @@ returns c =
     let s = c .before .before .before .before in
     let a = s .args in
     let e : l .p ≡ a .width = omega arith in
-    packed-row coefficient (a .files .now) (a .width) (a .volume) (l .row) (search needs) (l .inv .1) (λ p b. l .inv .2 p (omega arith))
+    packed-row (ruleOf (a .code)) (a .files .now) (a .width) (a .volume) (l .row) (search needs) (l .inv .1) (λ p b. l .inv .2 p (omega arith))
     (λ p b h. l .inv .3 p (omega arith) h)
 
 pub row-spec : {M : Type 1} → statement M

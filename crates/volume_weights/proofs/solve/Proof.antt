@@ -2,8 +2,8 @@
 -- Assumes nothing.
 use mathlib.Core.Path.{sym, _∙_}
 use borrow.Author.Needs.{needs}
-use Rattle.parity.specs.Coefficient.{coefficient}
-use Rattle.parity.proofs.Coefficients.{coefficient-byte}
+use Rattle.parity.specs.Coefficient.{ruleOf}
+use Rattle.parity.proofs.Coefficients.{rule-byte}
 use Rattle.volume_weights.proofs.Steps.{packed-start, column-solved, column-unsolved}
 use Rattle.volume_weights.proofs.Renumbered.{placed, unplaced, outside-solved}
 use Rattle.volume_weights.proofs.solve.Statement.{statement}
@@ -25,8 +25,8 @@ returns c =
     let columns = place .before .before .before in
     let a = columns .before .args in
     let (t, z) = placed (a .nonempty) (a .present) _ _ (columns .columns .ensures) (a .column) _ (place .place .ensures) (i .if1 .taken) in
-    column-solved coefficient coefficient-byte (a .nonempty) (a .present) (a .volumes) _ _ (columns .columns .ensures) (a .column) _ (search needs)
-    t z (a .rows) _ _ _ (d .set-diagonal .ensures) (added .add-volumes .ensures) _
+    column-solved (ruleOf (a .code)) (rule-byte (a .code)) (a .nonempty) (a .present) (a .volumes) _ _ (columns .columns .ensures)
+    (a .column) _ (search needs) t z (a .rows) _ _ _ (d .set-diagonal .ensures) (added .add-volumes .ensures) _
     (sym (tested .before .solvable .ensures) ∙ tested .if2 .taken) (c .weights .ensures)
 
 returns-2 : tie.Need-returns-2
@@ -38,8 +38,8 @@ returns-2 c =
     let columns = place .before .before .before in
     let a = columns .before .args in
     let (t, z) = placed (a .nonempty) (a .present) _ _ (columns .columns .ensures) (a .column) _ (place .place .ensures) (i .if1 .taken) in
-    column-unsolved coefficient coefficient-byte (a .nonempty) (a .present) (a .volumes) _ _ (columns .columns .ensures) (a .column) _ (search needs)
-    t z (a .rows) _ _ _ (d .set-diagonal .ensures) (added .add-volumes .ensures)
+    column-unsolved (ruleOf (a .code)) (rule-byte (a .code)) (a .nonempty) (a .present) (a .volumes) _ _ (columns .columns .ensures)
+    (a .column) _ (search needs) t z (a .rows) _ _ _ (d .set-diagonal .ensures) (added .add-volumes .ensures)
     (sym (c .before .solvable .ensures) ∙ c .if2 .left)
 
 returns-3 : tie.Need-returns-3
@@ -47,7 +47,7 @@ returns-3 c =
     let place = c .before in
     let columns = place .before .before .before in
     let a = columns .before .args in
-    outside-solved coefficient (a .nonempty) (a .present) (a .volumes) (a .rows) (a .column) (search needs)
+    outside-solved (ruleOf (a .code)) (a .nonempty) (a .present) (a .volumes) (a .rows) (a .column) (search needs)
     (unplaced (a .nonempty) (a .present) _ _ (columns .columns .ensures) (a .column) _ (place .place .ensures) (c .if1 .left))
 
 pub solve-spec : {M : Type 1} → statement M

@@ -1,8 +1,8 @@
 -- `volume_weights::solved::solved_columns` meets its contract.
 -- Assumes nothing.
 use borrow.Author.Needs.{needs}
-use Rattle.parity.specs.Coefficient.{coefficient}
-use Rattle.parity.proofs.Coefficients.{coefficient-byte}
+use Rattle.parity.specs.Coefficient.{ruleOf}
+use Rattle.parity.proofs.Coefficients.{rule-byte}
 use Rattle.volume_weights.proofs.Steps.{packed-start}
 use Rattle.volume_weights.proofs.SolvedColumns.{columns-solved}
 use Rattle.volume_weights.proofs.solved.solved_columns.Statement.{statement}
@@ -19,8 +19,8 @@ returns c =
     let d = added .before .before .before .before in
     let columns = d .before .before .before in
     let a = columns .before .args in
-    columns-solved coefficient coefficient-byte (a .nonempty) (a .present) (a .volumes) _ _ (columns .columns .ensures) (a .rows) _ _ _
-    (d .set-diagonal .ensures) (added .add-volumes .ensures) _ (c .gathered .ensures)
+    columns-solved (ruleOf (a .code)) (rule-byte (a .code)) (a .nonempty) (a .present) (a .volumes) _ _ (columns .columns .ensures)
+    (a .rows) _ _ _ (d .set-diagonal .ensures) (added .add-volumes .ensures) _ (c .gathered .ensures)
 
 pub solved-columns-spec : {M : Type 1} → statement M
 solved-columns-spec =
