@@ -1,8 +1,8 @@
 -- Every list of calls is answered: what condition 3 speaks of is there.
 --
 --   query-answered     every query has a reply
---   answered-for       every list of calls has its replies, over any rule for the coefficients that gives bytes
---   answered           so at document 01's
+--   answered-for       every list of calls has its replies, over any rules for the coefficients that give bytes
+--   answered           so at those of the two codes
 -- Assumes nothing.
 use mathlib.Core.Path.{_≡_, refl}
 use mathlib.Core.Logic.{_⊎_, inl, inr}
@@ -19,9 +19,10 @@ use Rattle.computed_tests.proofs.Lists.{listBelow-at}
 use Rattle.computed_tests.proofs.Tests.{oneTo-inside}
 use Rattle.gf256.proofs.Polynomials.{sumBelow-lt}
 use Rattle.gf256.proofs.Products.{product-byte}
-use Rattle.parity.specs.Coefficient.{coefficient}
+use Rattle.codes.specs.declared.Code.{Code}
+use Rattle.parity.specs.Coefficient.{ruleOf}
 use Rattle.parity.specs.Parity.{isFile}
-use Rattle.parity.proofs.Coefficients.{coefficient-byte}
+use Rattle.parity.proofs.Coefficients.{rule-byte}
 use Rattle.elimination.specs.Matrix.{IsSolution, IsKernelVector}
 use Rattle.elimination.specs.ByteField.{Byte, byteField}
 use Rattle.elimination.proofs.ByteField.{is-zero}
@@ -84,25 +85,25 @@ weightAt-byte rows w (suc v) = go (leb (suc v) rows)
 
 -- ---- a query
 
-module _ (rule : ℕ → ℕ → ℕ) (small : (f v : ℕ) → f < 256 → rule f v < 256) where
+module _ (rules : Code → ℕ → ℕ → ℕ) (small : (c : Code) (f v : ℕ) → f < 256 → rules c f v < 256) where
   abbrev QueryAnswered : Inventory → ℕ → List ℕ → Type 0
-  QueryAnswered s f room = (a : Answer) × (room′ : List ℕ) × Queried rule s f room a room′
+  QueryAnswered s f room = (a : Answer) × (room′ : List ℕ) × Queried rules s f room a room′
 
   module _ (s : Inventory) (valid : isInventory s ≡ true) (f : ℕ) (room : List ℕ) where
     module _ (inRange : isFile (s .n) f ≡ true) (missing : member (s .files) f ≡ false) where
       -- with weights the file is recoverable, if the room is enough
       by-weights : (ws : List ℕ) → ((v : ℕ) → v < 256 → getD ws v 0 < 256)
-          → Found rule (s .n) (s .files) (s .volumes) (s .nonempty) f true ws → QueryAnswered s f room
+          → Found (rules (s .code)) (s .n) (s .files) (s .volumes) (s .nonempty) f true ws → QueryAnswered s f room
       by-weights ws bytes F =
           elim (decLe 255 (length room)) [
             | yes l ↦
-                let (r, W) = weights-written rule (s .n) (s .files) ws room 255 l in (
+                let (r, W) = weights-written (rules (s .code)) (s .n) (s .files) ws room 255 l in (
                   answer.Recoverable,
                   r,
-                  query-recoverable rule small s valid f inRange missing room ws r l W
-                      (written-byte rule (s .n) (s .files) ws room small (few-files s valid) bytes r W) true F refl,
+                  query-recoverable rules small s valid f inRange missing room ws r l W
+                      (written-byte (rules (s .code)) (s .n) (s .files) ws room (small (s .code)) (few-files s valid) bytes r W) true F refl,
                 )
-            | no q ↦ (answer.Refused 14, room, query-no-room rule small s valid f inRange missing room ws true F refl (omega arith))
+            | no q ↦ (answer.Refused 14, room, query-no-room rules small s valid f inRange missing room ws true F refl (omega arith))
           ]
 
       -- an empty file comes back by no weight; of any other the elimination decides
@@ -110,7 +111,7 @@ module _ (rule : ℕ → ℕ → ℕ) (small : (f v : ℕ) → f < 256 → rule 
       missing-answered = go (member (s .nonempty) f) refl
         where
           table : ℕ → ℕ → Byte
-          table = tableOf rule (s .nonempty) (s .files) (s .volumes)
+          table = tableOf (rules (s .code)) (s .nonempty) (s .files) (s .volumes)
 
           decided : member (s .nonempty) f ≡ true
               → ((w : ℕ → Byte) × IsSolution byteField table 256 (255 - s .n) (f - 1) w)
@@ -122,7 +123,7 @@ module _ (rule : ℕ → ℕ → ℕ) (small : (f v : ℕ) → f < 256 → rule 
           decided e (inr (x, X)) = (
             answer.Undetermined,
             room,
-            query-undetermined rule small s valid f inRange missing room (replicate 256 0) false
+            query-undetermined rules small s valid f inRange missing room (replicate 256 0) false
                 (notEmpty e (unsolved x X refl)) refl,
           )
 
@@ -136,20 +137,20 @@ module _ (rule : ℕ → ℕ → ℕ) (small : (f v : ℕ) → f < 256 → rule 
     valid-answered = go (isFile (s .n) f) refl (member (s .files) f) refl
       where
         go : (b : Bool) → isFile (s .n) f ≡ b → (c : Bool) → member (s .files) f ≡ c → QueryAnswered s f room
-        go false e c h = (answer.Refused 10, room, query-out-of-range rule s valid f room e)
-        go true e true h = (answer.Present, room, query-present rule s valid f room e h)
+        go false e c h = (answer.Refused 10, room, query-out-of-range rules s valid f room e)
+        go true e true h = (answer.Present, room, query-present rules s valid f room e h)
         go true e false h = missing-answered e h
 
   query-answered : (s : Inventory) (f : ℕ) (room : List ℕ) → QueryAnswered s f room
   query-answered s f room = go (isInventory s) refl
     where
       go : (b : Bool) → isInventory s ≡ b → QueryAnswered s f room
-      go false e = (answer.Refused 10, room, query-no-inventory rule s f room e)
+      go false e = (answer.Refused 10, room, query-no-inventory rules s f room e)
       go true e = valid-answered s e f room
 
   -- ---- a call, and a list of calls
 
-  call-answered : (s : Inventory) (c : Call) → (r : Reply) × (s₁ : Inventory) × Step rule s c r s₁
+  call-answered : (s : Inventory) (c : Call) → (r : Reply) × (s₁ : Inventory) × Step rules s c r s₁
   unfolding Step
   call-answered s (change c k) = (_, _, (refl, refl))
   call-answered s count = (_, _, (refl, refl))
@@ -157,7 +158,7 @@ module _ (rule : ℕ → ℕ → ℕ) (small : (f v : ℕ) → f < 256 → rule 
       let (a, room′, Q) = query-answered s f room in
       (_, _, (a, room′, Q, refl, refl))
 
-  pub answered-for : AnsweredFor rule
+  pub answered-for : AnsweredFor rules
   unfolding Run
   answered-for s [] = ([], s, refl)
   answered-for s (c ∷ cs) =
@@ -166,4 +167,4 @@ module _ (rule : ℕ → ℕ → ℕ) (small : (f v : ℕ) → f < 256 → rule 
       (r ∷ rs, e, (s₁, D, R))
 
 pub answered : Answered
-answered = answered-for coefficient coefficient-byte
+answered = answered-for ruleOf rule-byte

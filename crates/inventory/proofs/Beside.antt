@@ -11,6 +11,8 @@ use mathlib.Core.Bool.{Bool, true, false, not, cond, _&&_, _||_}
 use mathlib.Core.List.{List, [], _∷_, List·Memᴰ, List·Memᴰ·head, List·Memᴰ·tail}
 use Prim.Native.Nat.{ℕ, _<_, _≤_}
 use lib.Dec.{eqb}
+use Rattle.codes.specs.Codes.{same}
+use Rattle.codes.specs.declared.Code.{Code}
 use Rattle.number_sets.specs.Sets.{sizeBelow}
 use Rattle.parity.specs.Parity.{isFile}
 use Rattle.inventory.specs.Recoverable.{State, isVolume, Recoverable, SumOfLower, weighted, IsWeights}
@@ -62,24 +64,25 @@ module _ (v : ℕ) (t : State) (q : ℕ → Bool) (off : Off v q t) where
   unfolding Elsewhere numberOf
   number-beside addFile f e = refl
   number-beside removeFile f e = refl
-  number-beside addVolume u e = ap (λ (b : Bool). cond (isVolume (t .n) u) (cond b 27 (cond (t .volumes u) 11 0)) 10) (off u e)
+  number-beside (addVolume c) u e =
+      ap (λ (b : Bool). cond (isVolume (t .n) u) (cond (same c (t .code)) (cond b 27 (cond (t .volumes u) 11 0)) 29) 10) (off u e)
   number-beside removeVolume u e = ap (λ (b : Bool). cond (isVolume (t .n) u) (cond (t .volumes u || b) 0 11) 10) (off u e)
   number-beside quarantine u e = refl
   number-beside release u e = ap (λ (b : Bool). cond (isVolume (t .n) u) (cond b 0 11) 10) (off u e)
 
   -- the states after a call are beside each other too
   record Beside (t₁ u₁ : State) : Type 0 where
-    same : u₁ ≡ beside t₁ (u₁ .quarantined)
+    is-beside : u₁ ≡ beside t₁ (u₁ .quarantined)
     off₁ : Off v (u₁ .quarantined) t₁
 
   changed-beside : (c : Change) (k : ℕ) → Beside (changed c t k) (changed c (beside t q) k)
   unfolding changed
-  changed-beside addFile f = record { same = refl; off₁ = off }
-  changed-beside removeFile f = record { same = refl; off₁ = off }
-  changed-beside addVolume u = record { same = refl; off₁ = off }
-  changed-beside removeVolume u = record { same = refl; off₁ = λ w n. ap (λ (b : Bool). not (eqb w u) && b) (off w n) }
-  changed-beside quarantine u = record { same = refl; off₁ = λ w n. ap (λ (b : Bool). eqb w u || b) (off w n) }
-  changed-beside release u = record { same = refl; off₁ = λ w n. ap (λ (b : Bool). not (eqb w u) && b) (off w n) }
+  changed-beside addFile f = record { is-beside = refl; off₁ = off }
+  changed-beside removeFile f = record { is-beside = refl; off₁ = off }
+  changed-beside (addVolume c) u = record { is-beside = refl; off₁ = off }
+  changed-beside removeVolume u = record { is-beside = refl; off₁ = λ w n. ap (λ (b : Bool). not (eqb w u) && b) (off w n) }
+  changed-beside quarantine u = record { is-beside = refl; off₁ = λ w n. ap (λ (b : Bool). eqb w u || b) (off w n) }
+  changed-beside release u = record { is-beside = refl; off₁ = λ w n. ap (λ (b : Bool). not (eqb w u) && b) (off w n) }
 
   next-beside : (c : Call) → Elsewhere v c → Beside (next t c) (next (beside t q) c)
   unfolding next
@@ -89,12 +92,12 @@ module _ (v : ℕ) (t : State) (q : ℕ → Bool) (off : Off v q t) where
     where
       go : (b : Bool) → Beside (cond b (changed c t k) t) (cond b (changed c (beside t q) k) (beside t q))
       go true = changed-beside c k
-      go false = record { same = refl; off₁ = off }
-  next-beside count e = record { same = refl; off₁ = off }
-  next-beside (query f room) e = record { same = refl; off₁ = off }
+      go false = record { is-beside = refl; off₁ = off }
+  next-beside count e = record { is-beside = refl; off₁ = off }
+  next-beside (query f room) e = record { is-beside = refl; off₁ = off }
 
-  module _ (rule : ℕ → ℕ → ℕ) (small : (f v : ℕ) → f < 256 → rule f v < 256) (fits : t .n ≤ 254) where
-    agrees : (c : Call) → Elsewhere v c → (r r′ : Reply) → Gives rule (beside t q) c r → Gives rule t c r′ → Agrees c r r′
+  module _ (rules : Code → ℕ → ℕ → ℕ) (small : (c : Code) (f v : ℕ) → f < 256 → rules c f v < 256) (fits : t .n ≤ 254) where
+    agrees : (c : Call) → Elsewhere v c → (r r′ : Reply) → Gives rules (beside t q) c r → Gives rules t c r′ → Agrees c r r′
     unfolding Gives Agrees
     agrees (change c k) e r r′ g g′ = g ∙ ap numbered (number-beside c k e) ∙ sym g′
     agrees count e r r′ g g′ =
@@ -106,14 +109,14 @@ module _ (v : ℕ) (t : State) (q : ℕ → Bool) (off : Off v q t) where
         volumes : ℕ
         volumes = sizeBelow 256 (t .volumes)
     agrees (query f room) e r r′ g g′ =
-        gives-one rule small t fits (query f room) r r′ (query-beside rule t q f room (isFile (t .n) f) (t .files f) r g) g′
+        gives-one rules small t fits (query f room) r r′ (query-beside (rules (t .code)) t q f room (isFile (t .n) f) (t .files f) r g) g′
 
 -- ---- calls elsewhere
 
-module _ (rule : ℕ → ℕ → ℕ) (small : (f v : ℕ) → f < 256 → rule f v < 256) (v : ℕ) where
+module _ (rules : Code → ℕ → ℕ → ℕ) (small : (c : Code) (f v : ℕ) → f < 256 → rules c f v < 256) (v : ℕ) where
   pub all-agree : (cs : List Call) → ((c : Call) → List·Memᴰ c cs → Elsewhere v c)
       → (t : State) (q : ℕ → Bool) → Off v q t → t .n ≤ 254
-      → (r r′ : List Reply) → GivesAll rule (beside t q) cs r → GivesAll rule t cs r′ → AllAgree cs r r′
+      → (r r′ : List Reply) → GivesAll rules (beside t q) cs r → GivesAll rules t cs r′ → AllAgree cs r r′
   unfolding GivesAll AllAgree
   all-agree [] away t q off fits [] [] g g′ = tt
   all-agree [] away t q off fits [] (x′ ∷ r′) g g′ = absurd g′
@@ -123,7 +126,7 @@ module _ (rule : ℕ → ℕ → ℕ) (small : (f v : ℕ) → f < 256 → rule 
   all-agree (c ∷ cs) away t q off fits (x ∷ r) (x′ ∷ r′) (g, h) (g′, h′) =
       let here = away c (List·Memᴰ·head refl) in
       let b = next-beside v t q off c here in (
-        agrees v t q off rule small fits c here x x′ g g′,
+        agrees v t q off rules small fits c here x x′ g g′,
         all-agree cs (λ d m. away d (List·Memᴰ·tail m)) (next t c) (next (beside t q) c .quarantined) (b .off₁)
-            (subst (λ (k : ℕ). k ≤ 254) (sym (next-same t c .same-n)) fits) r r′ (subst (λ (u : State). GivesAll rule u cs r) (b .same) h) h′,
+            (subst (λ (k : ℕ). k ≤ 254) (sym (next-same t c .same-n)) fits) r r′ (subst (λ (u : State). GivesAll rules u cs r) (b .is-beside) h) h′,
       )

@@ -1,11 +1,11 @@
 -- Laws of the model.
 --
---   Same t u                  u is of the same files as t
---   next-same, after-same     calls keep the number of files and their sizes
+--   Same t u                  u is of the same files and the same code as t
+--   next-same, after-same     calls keep the number of files, their sizes, and the code
 --   Ranged t                  what is present or quarantined in t is in range, and no volume is both
 --   next-ranged, after-ranged     calls keep that
 --   gives-one, givesAll-one   the model gives one reply at most to each call
---   one-reply                 so at document 01's rule
+--   one-reply                 so at the rules of the two codes
 -- Assumes nothing.
 use mathlib.Core.Path.{_≡_, refl, sym, ap, ap₂, _∙_, subst}
 use mathlib.Core.Bool.{Bool, true, false, cond, false≢true}
@@ -15,8 +15,9 @@ use native.Mathlib.Omega.{arith}
 use lib.Dec.{eqb}
 use lib.ListN.{drop}
 use borrow.Author.Tests.{eqb-true}
-use Rattle.parity.proofs.Coefficients.{coefficient-byte}
-use Rattle.parity.specs.Coefficient.{coefficient}
+use Rattle.codes.specs.declared.Code.{Code}
+use Rattle.parity.proofs.Coefficients.{rule-byte}
+use Rattle.parity.specs.Coefficient.{ruleOf}
 use Rattle.parity.specs.Parity.{isFile}
 use Rattle.inventory.specs.Recoverable.{State, isVolume}
 use Rattle.inventory.specs.Model.{Change, addFile, removeFile, addVolume, removeVolume, quarantine, release, changed, numberOf}
@@ -28,20 +29,21 @@ use Rattle.inventory.specs.Model.{Gives, GivesQuery, GivesMissing, undet
 use Rattle.inventory.specs.Claim.{OneReply}
 use Rattle.inventory.proofs.Weights.{one-weights}
 
--- ---- calls keep the files and their sizes
+-- ---- calls keep the files, their sizes, and the code
 
 pub record Same (t u : State) : Type 0 where
   pub same-n : u .n ≡ t .n
   pub same-size : u .size ≡ t .size
+  pub same-code : u .code ≡ t .code
 
 changed-same : (c : Change) (t : State) (k : ℕ) → Same t (changed c t k)
 unfolding changed
-changed-same addFile t f = record { same-n = refl; same-size = refl }
-changed-same removeFile t f = record { same-n = refl; same-size = refl }
-changed-same addVolume t v = record { same-n = refl; same-size = refl }
-changed-same removeVolume t v = record { same-n = refl; same-size = refl }
-changed-same quarantine t v = record { same-n = refl; same-size = refl }
-changed-same release t v = record { same-n = refl; same-size = refl }
+changed-same addFile t f = record { same-n = refl; same-size = refl; same-code = refl }
+changed-same removeFile t f = record { same-n = refl; same-size = refl; same-code = refl }
+changed-same (addVolume c) t v = record { same-n = refl; same-size = refl; same-code = refl }
+changed-same removeVolume t v = record { same-n = refl; same-size = refl; same-code = refl }
+changed-same quarantine t v = record { same-n = refl; same-size = refl; same-code = refl }
+changed-same release t v = record { same-n = refl; same-size = refl; same-code = refl }
 
 pub next-same : (t : State) (c : Call) → Same t (next t c)
 unfolding next
@@ -49,17 +51,17 @@ next-same t (change c k) = go (eqb (numberOf t c k) 0)
   where
     go : (b : Bool) → Same t (cond b (changed c t k) t)
     go true = changed-same c t k
-    go false = record { same-n = refl; same-size = refl }
-next-same t count = record { same-n = refl; same-size = refl }
-next-same t (query f room) = record { same-n = refl; same-size = refl }
+    go false = record { same-n = refl; same-size = refl; same-code = refl }
+next-same t count = record { same-n = refl; same-size = refl; same-code = refl }
+next-same t (query f room) = record { same-n = refl; same-size = refl; same-code = refl }
 
 pub after-same : (t : State) (cs : List Call) → Same t (after t cs)
 unfolding after
-after-same t [] = record { same-n = refl; same-size = refl }
+after-same t [] = record { same-n = refl; same-size = refl; same-code = refl }
 after-same t (c ∷ cs) =
     let one = next-same t c in
     let more = after-same (next t c) cs in
-    record { same-n = more .same-n ∙ one .same-n; same-size = more .same-size ∙ one .same-size }
+    record { same-n = more .same-n ∙ one .same-n; same-size = more .same-size ∙ one .same-size; same-code = more .same-code ∙ one .same-code }
 
 -- ---- what is present is in range
 
@@ -69,8 +71,8 @@ pub record Ranged (t : State) : Type 0 where
   pub quarantined : (v : ℕ) → t .quarantined v ≡ true → isVolume (t .n) v ≡ true
   pub apart : Apart (t .volumes) (t .quarantined)
 
-pub opened-ranged : (n : ℕ) (size : ℕ → ℕ) → Ranged (opened n size)
-opened-ranged n size = record {
+pub opened-ranged : (d : Code) (n : ℕ) (size : ℕ → ℕ) → Ranged (opened d n size)
+opened-ranged d n size = record {
   files = λ f e. absurd (false≢true e);
   volumes = λ v e. absurd (false≢true e);
   quarantined = λ v e. absurd (false≢true e);
@@ -90,7 +92,7 @@ changed-ranged : (c : Change) (t : State) (k : ℕ) → Ranged t → inRange c (
 unfolding inRange whileQuarantined changed
 changed-ranged addFile t f h r e = with-files t h _ (insert-inside (t .files) (isFile (t .n)) f r (h .files))
 changed-ranged removeFile t f h r e = with-files t h _ (λ g m. h .files g (remove-inside (t .files) f g m))
-changed-ranged addVolume t v h r e =
+changed-ranged (addVolume c) t v h r e =
     with-volumes t h _ _ (insert-inside (t .volumes) (isVolume (t .n)) v r (h .volumes)) (h .quarantined)
     (apart-insert (t .volumes) (t .quarantined) v (h .apart) e)
 changed-ranged removeVolume t v h r e =
@@ -108,7 +110,7 @@ unfolding next
 next-ranged t (change c k) h = go (eqb (numberOf t c k) 0) refl
   where
     go : (b : Bool) → eqb (numberOf t c k) 0 ≡ b → Ranged (cond b (changed c t k) t)
-    go true e = let (r, a) = accepted-tests t c k (eqb-true (numberOf t c k) 0 e) in changed-ranged c t k h r a
+    go true e = let (r, o, a) = accepted-tests t c k (eqb-true (numberOf t c k) 0 e) in changed-ranged c t k h r a
     go false e = h
 next-ranged t count h = h
 next-ranged t (query f room) h = h
@@ -140,13 +142,15 @@ module _ (rule : ℕ → ℕ → ℕ) (small : (f v : ℕ) → f < 256 → rule 
   query-one t l f room true true r r′ p q = p ∙ sym q
   query-one t l f room true false r r′ p q = missing-one t l f room r r′ p q
 
-  pub gives-one : (t : State) → t .n ≤ 254 → (c : Call) (r r′ : Reply) → Gives rule t c r → Gives rule t c r′ → r ≡ r′
+module _ (rules : Code → ℕ → ℕ → ℕ) (small : (c : Code) (f v : ℕ) → f < 256 → rules c f v < 256) where
+  pub gives-one : (t : State) → t .n ≤ 254 → (c : Call) (r r′ : Reply) → Gives rules t c r → Gives rules t c r′ → r ≡ r′
   unfolding Gives
   gives-one t l (change c k) r r′ p q = p ∙ sym q
   gives-one t l count r r′ p q = p ∙ sym q
-  gives-one t l (query f room) r r′ p q = query-one t l f room (isFile (t .n) f) (t .files f) r r′ p q
+  gives-one t l (query f room) r r′ p q =
+      query-one (rules (t .code)) (small (t .code)) t l f room (isFile (t .n) f) (t .files f) r r′ p q
 
-  pub givesAll-one : (t : State) → t .n ≤ 254 → (cs : List Call) (r r′ : List Reply) → GivesAll rule t cs r → GivesAll rule t cs r′ → r ≡ r′
+  pub givesAll-one : (t : State) → t .n ≤ 254 → (cs : List Call) (r r′ : List Reply) → GivesAll rules t cs r → GivesAll rules t cs r′ → r ≡ r′
   unfolding GivesAll
   givesAll-one t l [] [] [] p q = refl
   givesAll-one t l [] [] (x ∷ r′) p q = absurd q
@@ -158,4 +162,4 @@ module _ (rule : ℕ → ℕ → ℕ) (small : (f v : ℕ) → f < 256 → rule 
       (givesAll-one (next t c) (subst (λ (k : ℕ). k ≤ 254) (sym (next-same t c .same-n)) l) cs r r′ (p .1) (q .1))
 
 pub one-reply : OneReply
-one-reply = givesAll-one coefficient coefficient-byte
+one-reply = givesAll-one ruleOf rule-byte

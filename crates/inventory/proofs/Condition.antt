@@ -1,8 +1,8 @@
 -- Condition 3: the claim about a whole list of calls.
 --
 --   sound        the replies are the model's, and the inventory stands for the model's state
---   condition-for    the claim over any rule, for every accepted opening and every list of calls
---   condition    the claim at document 01's rule
+--   condition-for    the claim over any rules, for every accepted opening and every list of calls
+--   condition    the claim at the rules of the two codes
 -- Assumes nothing.
 use mathlib.Core.Path.{_≡_, refl, sym, ap, _∙_, subst}
 use mathlib.Core.Logic.{_↔_}
@@ -14,11 +14,12 @@ use native.Mathlib.Omega.{arith}
 use lib.ListN.{length, take, drop, replicate}
 use lib.Seq.{take-at}
 use Rattle.computed_tests.proofs.Tests.{oneTo-inside}
-use Rattle.parity.specs.Coefficient.{coefficient}
+use Rattle.codes.specs.declared.Code.{Code}
+use Rattle.parity.specs.Coefficient.{ruleOf}
 use Rattle.mul_add.specs.MulAdd.{mulAddAll}
 use Rattle.mul_add.specs.Once.{Once}
 use Rattle.parity.specs.Parity.{Contents, isFile}
-use Rattle.parity.proofs.Coefficients.{coefficient-byte}
+use Rattle.parity.proofs.Coefficients.{rule-byte}
 use Rattle.inventory.specs.Recoverable.{State, IsContents, Recoverable, IsWeights, place, present, ComeFrom}
 use Rattle.inventory.specs.Model.{Call, query, Reply, queried, opened, next, after}
 use Rattle.inventory.specs.Model.{Gives, GivesQuery, GivesMissing, undetermined, noRoom, recoverable, GivesAll}
@@ -31,16 +32,16 @@ use Rattle.inventory.proofs.Openings.{opened-represents}
 use Rattle.inventory.proofs.Told.{after-told}
 use Rattle.inventory.proofs.Calls.{after-same, givesAll-one}
 
-pub sound : (rule : ℕ → ℕ → ℕ) (size : ℕ → ℕ) (t : State) (s : Inventory) (cs : List Call) (rs : List Reply) (e : Inventory)
-    → Represents size t s → Run rule s cs rs e → GivesAll rule t cs rs × Represents size (after t cs) e
+pub sound : (rules : Code → ℕ → ℕ → ℕ) (size : ℕ → ℕ) (t : State) (s : Inventory) (cs : List Call) (rs : List Reply) (e : Inventory)
+    → Represents size t s → Run rules s cs rs e → GivesAll rules t cs rs × Represents size (after t cs) e
 unfolding Run GivesAll after
-sound rule size t s [] [] e R q = (tt, subst (Represents size t) q R)
-sound rule size t s [] (r ∷ rs) e R q = absurd q
-sound rule size t s (c ∷ cs) [] e R q = absurd q
-sound rule size t s (c ∷ cs) (r ∷ rs) e R (s₁, d, q) =
-    let m : Gives rule t c r × Represents size (next t c) s₁ = meets rule size t s c r s₁ R d in
-    let h : GivesAll rule (next t c) cs rs × Represents size (after (next t c) cs) e =
-    sound rule size (next t c) s₁ cs rs e (m .1) q in
+sound rules size t s [] [] e R q = (tt, subst (Represents size t) q R)
+sound rules size t s [] (r ∷ rs) e R q = absurd q
+sound rules size t s (c ∷ cs) [] e R q = absurd q
+sound rules size t s (c ∷ cs) (r ∷ rs) e R (s₁, d, q) =
+    let m : Gives rules t c r × Represents size (next t c) s₁ = meets rules size t s c r s₁ R d in
+    let h : GivesAll rules (next t c) cs rs × Represents size (after (next t c) cs) e =
+    sound rules size (next t c) s₁ cs rs e (m .1) q in
     ((m .0, h .0), h .1)
 
 module _ (rule : ℕ → ℕ → ℕ) (small : (f v : ℕ) → f < 256 → rule f v < 256) where
@@ -69,53 +70,55 @@ module _ (rule : ℕ → ℕ → ℕ) (small : (f v : ℕ) → f < 256 → rule 
   follow-file t l X hX (suc f) r m w W fragment from ks once =
       follow rule small t l X hX f (oneTo-inside (t .n) (suc f) r .1) m w W fragment from ks once
 
-  pub condition-for : ConditionFor rule
+module _ (rules : Code → ℕ → ℕ → ℕ) (small : (c : Code) (f v : ℕ) → f < 256 → rules c f v < 256) where
+  pub condition-for : ConditionFor rules
   unfolding Gives
-  condition-for n sizes accepted cs rs s run = record {
+  condition-for d n sizes accepted cs rs s run = record {
     replies = whole .0;
     afterwards = λ adds told ra s′ run′ more r r′ e e′ ran ran′.
-        let R′ = subst (λ (t : State). Represents size t s′) (after-told n size cs adds told) (sound rule size start o adds ra s′ R run′ .1) in
-        givesAll-one rule small now fits more r r′ (sound rule size now s more r e (whole .1) ran .0)
-        (sound rule size now s′ more r′ e′ R′ ran′ .0);
+        let R′ = subst (λ (t : State). Represents size t s′) (after-told d n size cs adds told) (sound rules size start o adds ra s′ R run′ .1) in
+        givesAll-one rules small now fits more r r′ (sound rules size now s more r e (whole .1) ran .0)
+        (sound rules size now s′ more r′ e′ R′ ran′ .0);
     exactly = λ f r m room l number room′ e did.
-        missing-exactly now f room l number room′ (queried number room′) refl (asked f r m room (queried number room′) e did);
+        missing-exactly (rules d) (small d) now f room l number room′ (queried number room′) refl (asked f r m room (queried number room′) e did);
     follows = λ f r m room room′ e did X hX fragment from ks once.
         ap (λ (k : ℕ). mulAddAll (place (take 255 room′)) fragment ks (replicate k 0))
-        (sym (ap (λ (g : ℕ → ℕ). g f) (after-same (opened n size) cs .same-size)))
-        ∙ follow-file now fits X hX f (in-range f r) m (take 255 room′)
-        (missing-weights now f room room′ (queried 0 room′) refl (asked f r m room (queried 0 room′) e did)) fragment from ks once;
+        (sym (ap (λ (g : ℕ → ℕ). g f) (after-same (opened d n size) cs .same-size)))
+        ∙ follow-file (rules d) (small d) now fits X hX f (in-range f r) m (take 255 room′)
+        (missing-weights (rules d) (small d) now f room room′ (queried 0 room′) refl (asked f r m room (queried 0 room′) e did)) fragment from ks once;
   }
     where
       size : ℕ → ℕ
       size = sizeIn sizes
 
       o : Inventory
-      o = openStep n sizes .next
+      o = openStep d n sizes .next
 
       start : State
-      start = opened n size
+      start = opened d n size
 
       now : State
       now = after start cs
 
       R : Represents size start o
-      R = opened-represents n sizes accepted .1
+      R = opened-represents d n sizes accepted .1
 
-      whole : GivesAll rule start cs rs × Represents size now s
-      whole = sound rule size start o cs rs s R run
+      whole : GivesAll rules start cs rs × Represents size now s
+      whole = sound rules size start o cs rs s R run
 
       fits : now .n ≤ 254
-      fits = subst (λ (k : ℕ). k ≤ 254) (sym (after-same (opened n size) cs .same-n)) (opened-represents n sizes accepted .0)
+      fits = subst (λ (k : ℕ). k ≤ 254) (sym (after-same (opened d n size) cs .same-n)) (opened-represents d n sizes accepted .0)
 
       in-range : (f : ℕ) → isFile n f ≡ true → isFile (now .n) f ≡ true
-      in-range f r = subst (λ (k : ℕ). isFile k f ≡ true) (sym (after-same (opened n size) cs .same-n)) r
+      in-range f r = subst (λ (k : ℕ). isFile k f ≡ true) (sym (after-same (opened d n size) cs .same-n)) r
 
-      asked : (f : ℕ) → isFile n f ≡ true → now .files f ≡ false → (room : List ℕ) (r : Reply) (e : Inventory) → Step rule s (query f room) r e
-          → GivesMissing rule now f room r
+      asked : (f : ℕ) → isFile n f ≡ true → now .files f ≡ false → (room : List ℕ) (r : Reply) (e : Inventory) → Step rules s (query f room) r e
+          → GivesMissing (rules d) now f room r
       asked f q m room r e did =
-          subst (λ (b : Bool). GivesQuery rule now f room true b r) m
-          (subst (λ (b : Bool). GivesQuery rule now f room b (now .files f) r) (in-range f q)
-          (meets rule size now s (query f room) r e (whole .1) did .0))
+          subst (λ (b : Bool). GivesQuery (rules d) now f room true b r) m
+          (subst (λ (b : Bool). GivesQuery (rules d) now f room b (now .files f) r) (in-range f q)
+          (subst (λ (k : Code). GivesQuery (rules k) now f room (isFile (now .n) f) (now .files f) r) (after-same (opened d n size) cs .same-code)
+          (meets rules size now s (query f room) r e (whole .1) did .0)))
 
 pub condition : Condition3
-condition = condition-for coefficient coefficient-byte
+condition = condition-for ruleOf rule-byte

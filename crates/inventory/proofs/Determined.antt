@@ -2,8 +2,8 @@
 --
 --   someSize, some-matches     sizes that an inventory can stand for
 --   one-count      two answers to one count are the same
---   queried-one    two replies to one query are the same, over any rule
---   one-answer     so at document 01's rule
+--   queried-one    two replies to one query are the same, over any rules
+--   one-answer     so at the rules of the two codes
 -- Assumes nothing.
 use mathlib.Core.Path.{_≡_, refl, sym, ap, _∙_}
 use mathlib.Core.Logic.{_⊎_, inl, inr}
@@ -11,8 +11,9 @@ use mathlib.Core.Bool.{Bool, true, false, cond}
 use mathlib.Core.List.{List}
 use Prim.Native.Nat.{ℕ, _<_}
 use lib.Dec.{leb, eqb}
-use Rattle.parity.specs.Coefficient.{coefficient}
-use Rattle.parity.proofs.Coefficients.{coefficient-byte}
+use Rattle.codes.specs.declared.Code.{Code}
+use Rattle.parity.specs.Coefficient.{ruleOf}
+use Rattle.parity.proofs.Coefficients.{rule-byte}
 use Rattle.number_sets.specs.Sets.{member}
 use Rattle.inventory.specs.Model.{query, queried}
 use Rattle.inventory.specs.Steps.{isInventory, countReply, answerNumber}
@@ -82,14 +83,14 @@ same-reply k k′ a b e =
     let r : a ≡ b = cc in
     (n, r)
 
-pub queried-one : (rule : ℕ → ℕ → ℕ) → ((f v : ℕ) → f < 256 → rule f v < 256)
+pub queried-one : (rules : Code → ℕ → ℕ → ℕ) → ((c : Code) (f v : ℕ) → f < 256 → rules c f v < 256)
     → (s : Inventory) (f : ℕ) (room : List ℕ) (r r′ : Answer) (a b : List ℕ)
-    → Queried rule s f room r a → Queried rule s f room r′ b → (r ≡ r′) × (a ≡ b)
-queried-one rule small s f room r r′ a b Q Q′ = (number-one r r′ (Q .refusal) (Q′ .refusal) (same .0), same .1)
+    → Queried rules s f room r a → Queried rules s f room r′ b → (r ≡ r′) × (a ≡ b)
+queried-one rules small s f room r r′ a b Q Q′ = (number-one r r′ (Q .refusal) (Q′ .refusal) (same .0), same .1)
   where
     go : (v : Bool) → isInventory s ≡ v → queried (answerNumber r) a ≡ queried (answerNumber r′) b
     go true e =
-        gives-one rule small (stateOf s (someSize s)) (few-files s e) (query f room) _ _ (Q .as-model e (someSize s) (some-matches s))
+        gives-one rules small (stateOf s (someSize s)) (few-files s e) (query f room) _ _ (Q .as-model e (someSize s) (some-matches s))
         (Q′ .as-model e (someSize s) (some-matches s))
     go false e = Q .first e ∙ sym (Q′ .first e)
 
@@ -97,4 +98,4 @@ queried-one rule small s f room r r′ a b Q Q′ = (number-one r r′ (Q .refus
     same = same-reply (answerNumber r) (answerNumber r′) a b (go (isInventory s) refl)
 
 pub one-answer : OneAnswer
-one-answer = queried-one coefficient coefficient-byte
+one-answer = queried-one ruleOf rule-byte

@@ -15,7 +15,7 @@ use borrow.Author.Tests.{ne-eqb}
 use Rattle.gf256.specs.Field.{product}
 use Rattle.gf256.proofs.Polynomials.{sumBelow-same, sumBelow-none}
 use Rattle.gf256.proofs.Products.{product-zero-l}
-use Rattle.parity.specs.Coefficient.{coefficient}
+use Rattle.parity.specs.Coefficient.{ruleOf}
 use Rattle.elimination.proofs.Reductions.{zeros-at}
 use Rattle.inventory.specs.Recoverable.{State, column, place, weighted, IsWeights}
 use Rattle.inventory.specs.Claim.{EmptyRecoverable}
@@ -48,4 +48,4 @@ module _ (rule : ℕ → ℕ → ℕ) (t : State) where
       no-column = ap (λ (k : ℕ). not (t .files f) && leb 1 k) e ∙ and-false (not (t .files f))
 
 pub empty-file : EmptyRecoverable
-empty-file t f l m e = (empty-recoverable coefficient t f l e, empty-weights coefficient t f e)
+empty-file t f l m e = (empty-recoverable (ruleOf (t .code)) t f l e, empty-weights (ruleOf (t .code)) t f e)

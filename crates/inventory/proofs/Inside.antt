@@ -17,21 +17,30 @@ use Rattle.inventory.proofs.Calls.{Ranged}
 abbrev pub held : State → ℕ → Bool
 held t v = t .volumes v || t .quarantined v
 
--- u is of the same files as t; what is present in u is present in t, a volume perhaps quarantined there; what is quarantined in u is so in t
+-- u is of the same files and the same code as t; what is present in u is present in t, a volume perhaps quarantined there; what is quarantined in u is so in t
 pub record Inside (u t : State) : Type 0 where
   pub same-n : u .n ≡ t .n
   pub same-size : u .size ≡ t .size
+  pub same-code : u .code ≡ t .code
   pub files : (f : ℕ) → u .files f ≡ true → t .files f ≡ true
   pub volumes : (v : ℕ) → held u v ≡ true → held t v ≡ true
   pub quarantined : (v : ℕ) → u .quarantined v ≡ true → t .quarantined v ≡ true
 
 pub inside-itself : (u : State) → Inside u u
-inside-itself u = record { same-n = refl; same-size = refl; files = λ f e. e; volumes = λ v e. e; quarantined = λ v e. e }
+inside-itself u = record {
+  same-n = refl;
+  same-size = refl;
+  same-code = refl;
+  files = λ f e. e;
+  volumes = λ v e. e;
+  quarantined = λ v e. e;
+}
 
 pub inside-more : {t u w : State} → Inside t u → Inside u w → Inside t w
 inside-more h k = record {
   same-n = h .same-n ∙ k .same-n;
   same-size = h .same-size ∙ k .same-size;
+  same-code = h .same-code ∙ k .same-code;
   files = λ f e. k .files f (h .files f e);
   volumes = λ v e. k .volumes v (h .volumes v e);
   quarantined = λ v e. k .quarantined v (h .quarantined v e);
@@ -58,6 +67,7 @@ inside-same u t ru rt h k = λ i. record {
   files = fun-ext (λ f. tests-same (u .files f) (t .files f) (h .files f) (k .files f)) i;
   volumes = fun-ext (λ v. tests-same (u .volumes v) (t .volumes v) (there u t ru h k v) (there t u rt k h v)) i;
   quarantined = fun-ext (λ v. tests-same (u .quarantined v) (t .quarantined v) (h .quarantined v) (k .quarantined v)) i;
+  code = (h .same-code) i;
 }
   where
     there : (u t : State) → Ranged u → Inside u t → Inside t u → (v : ℕ) → u .volumes v ≡ true → t .volumes v ≡ true

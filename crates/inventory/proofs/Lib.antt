@@ -23,6 +23,7 @@ pub mod Representation
 pub mod Openings
 pub mod Condition
 pub mod Quarantine
+pub mod OtherCode
 pub mod RecoverableAnswers
 pub mod Decided
 pub mod Answered

@@ -16,6 +16,7 @@ use lib.ListN.{length, getD, replicate, length-replicate}
 use borrow.Author.Tests.{eq-eqb, ne-eqb, le-leb, lt-leb}
 use Rattle.computed_tests.specs.Numbers.{oneTo, allBelow}
 use Rattle.computed_tests.proofs.Tests.{and-both, oneTo-in, oneTo-outside, oneTo-inside}
+use Rattle.codes.specs.declared.Code.{Code}
 use Rattle.parity.specs.Parity.{isFile}
 use Rattle.number_sets.specs.Sets.{member, inserted, Words}
 use Rattle.inventory.specs.Model.{opened, next}
@@ -77,10 +78,10 @@ nonempty-member sizes (suc k) l f =
 
 -- ---- opening
 
-pub opened-represents : (n : ℕ) (sizes : List ℕ) → openStep n sizes .number ≡ 0
-    → (n ≤ 254) × Represents (sizeIn sizes) (opened n (sizeIn sizes)) (openStep n sizes .next)
+pub opened-represents : (d : Code) (n : ℕ) (sizes : List ℕ) → openStep d n sizes .number ≡ 0
+    → (n ≤ 254) × Represents (sizeIn sizes) (opened d n (sizeIn sizes)) (openStep d n sizes .next)
 unfolding openStep
-opened-represents n sizes e =
+opened-represents d n sizes e =
     go (oneTo 254 n && eqb (length sizes) n) refl (allBelow n (λ i. leb (getD sizes i 0) 16777216)) e
   where
     none : (m : ℕ) → m ≤ 255 → IsSet m (replicate 4 0) (λ k. false)
@@ -92,9 +93,9 @@ opened-represents n sizes e =
     }
 
     go : (a : Bool) → (oneTo 254 n && eqb (length sizes) n) ≡ a → (b : Bool)
-        → cond a (cond b (outcome (fresh n sizes) 0) (refusedOpening 1)) (refusedOpening 10) .number ≡ 0
-        → (n ≤ 254) × Represents (sizeIn sizes) (opened n (sizeIn sizes))
-        (cond a (cond b (outcome (fresh n sizes) 0) (refusedOpening 1)) (refusedOpening 10) .next)
+        → cond a (cond b (outcome (fresh d n sizes) 0) (refusedOpening 1)) (refusedOpening 10) .number ≡ 0
+        → (n ≤ 254) × Represents (sizeIn sizes) (opened d n (sizeIn sizes))
+        (cond a (cond b (outcome (fresh d n sizes) 0) (refusedOpening 1)) (refusedOpening 10) .next)
     go true p true z =
         let r = and-both (oneTo 254 n) (eqb (length sizes) n) p .0 in
         let l = oneTo-inside 254 n r .1 in (

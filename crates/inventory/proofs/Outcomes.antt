@@ -16,6 +16,7 @@ use lib.ListN.{length, getD}
 use borrow.Author.Tests.{eq-eqb, ne-eqb, le-leb, lt-leb}
 use Rattle.computed_tests.specs.Numbers.{oneTo, allBelow}
 use Rattle.computed_tests.proofs.Tests.{all-false, all-true}
+use Rattle.codes.specs.declared.Code.{Code}
 use Rattle.number_sets.specs.Sets.{inserted}
 use Rattle.inventory.specs.Steps.{changeNumber, unlessRefused}
 use Rattle.inventory.specs.Steps.{ifInventory, outcome, accepted, withFiles, withVolumes, fresh, refusedOpening, nonemptyOf, openStep}
@@ -56,9 +57,9 @@ module _ (s : Inventory) (ws now changed : List ℕ) (k number : ℕ) (is : chan
       go false = refl
 
 -- the tests of the code are those of the step
-pub number-same : (s : Inventory) {a a′ b b′ c c′ : Bool} → a ≡ a′ → b ≡ b′ → c ≡ c′
-    → ifInventory s (changeNumber a b c) ≡ ifInventory s (changeNumber a′ b′ c′)
-number-same s e f g = cc
+pub number-same : (s : Inventory) {a a′ b b′ c c′ d d′ : Bool} → a ≡ a′ → b ≡ b′ → c ≡ c′ → d ≡ d′
+    → ifInventory s (changeNumber a b c d) ≡ ifInventory s (changeNumber a′ b′ c′ d′)
+number-same s e f g h = cc
 
 -- ---- a row of tests
 
@@ -73,33 +74,33 @@ first-holds a b r e h = h ∙ sym (ap (λ (x : Bool). x && b) e)
 abbrev fits : List ℕ → ℕ → Bool
 fits sizes i = leb (getD sizes i 0) 16777216
 
-abbrev opening : ℕ → List ℕ → Bool → Bool → Outcome
-opening n sizes counted small = cond counted (cond small (outcome (fresh n sizes) 0) (refusedOpening 1)) (refusedOpening 10)
+abbrev opening : Code → ℕ → List ℕ → Bool → Bool → Outcome
+opening d n sizes counted small = cond counted (cond small (outcome (fresh d n sizes) 0) (refusedOpening 1)) (refusedOpening 10)
 
-module _ (n : ℕ) (sizes : List ℕ) where
-  pub open-out-of-range : oneTo 254 n ≡ false → refusedOpening 10 ≡ openStep n sizes
+module _ (d : Code) (n : ℕ) (sizes : List ℕ) where
+  pub open-out-of-range : oneTo 254 n ≡ false → refusedOpening 10 ≡ openStep d n sizes
   unfolding openStep
-  open-out-of-range e = sym (ap (λ (b : Bool). opening n sizes (b && eqb (length sizes) n) (allBelow n (fits sizes))) e)
+  open-out-of-range e = sym (ap (λ (b : Bool). opening d n sizes (b && eqb (length sizes) n) (allBelow n (fits sizes))) e)
 
-  pub open-miscounted : length sizes ≢ n → refusedOpening 10 ≡ openStep n sizes
+  pub open-miscounted : length sizes ≢ n → refusedOpening 10 ≡ openStep d n sizes
   unfolding openStep
   open-miscounted q =
-      sym (ap (λ (b : Bool). opening n sizes (oneTo 254 n && b) (allBelow n (fits sizes))) (ne-eqb (length sizes) n q)
-      ∙ ap (λ (b : Bool). opening n sizes b (allBelow n (fits sizes))) (and-false (oneTo 254 n)))
+      sym (ap (λ (b : Bool). opening d n sizes (oneTo 254 n && b) (allBelow n (fits sizes))) (ne-eqb (length sizes) n q)
+      ∙ ap (λ (b : Bool). opening d n sizes b (allBelow n (fits sizes))) (and-false (oneTo 254 n)))
 
   module _ (r : oneTo 254 n ≡ true) (c : length sizes ≡ n) where
     counted : (oneTo 254 n && eqb (length sizes) n) ≡ true
     counted = ap₂ (λ (a b : Bool). a && b) r (eq-eqb (length sizes) n c)
 
-    pub open-too-large : (k : ℕ) → k < n → 16777216 < getD sizes k 0 → refusedOpening 1 ≡ openStep n sizes
+    pub open-too-large : (k : ℕ) → k < n → 16777216 < getD sizes k 0 → refusedOpening 1 ≡ openStep d n sizes
     unfolding openStep
     open-too-large k l h =
-        sym (ap₂ (opening n sizes) counted (all-false n (fits sizes) k l (lt-leb (getD sizes k 0) 16777216 h)))
+        sym (ap₂ (opening d n sizes) counted (all-false n (fits sizes) k l (lt-leb (getD sizes k 0) 16777216 h)))
 
-    pub open-accepted : ((k : ℕ) → k < n → getD sizes k 0 ≤ 16777216) → outcome (fresh n sizes) 0 ≡ openStep n sizes
+    pub open-accepted : ((k : ℕ) → k < n → getD sizes k 0 ≤ 16777216) → outcome (fresh d n sizes) 0 ≡ openStep d n sizes
     unfolding openStep
     open-accepted h =
-        sym (ap₂ (opening n sizes) counted (all-true n (fits sizes) (λ k l. le-leb (getD sizes k 0) 16777216 (h k l))))
+        sym (ap₂ (opening d n sizes) counted (all-true n (fits sizes) (λ k l. le-leb (getD sizes k 0) 16777216 (h k l))))
 
 -- ---- the loop of opening
 

@@ -1,4 +1,4 @@
--- The reply to a query is the model's, whatever the sizes are, over any rule for the coefficients that gives bytes.
+-- The reply to a query is the model's, whatever the sizes are, over any rules for the coefficients of the codes that give bytes.
 --
 --   recovered, unrecovered     a file is recoverable exactly where weights are found for it
 --   query-no-inventory, query-out-of-range, query-present, query-undetermined, query-no-room, query-recoverable     the cases of a query
@@ -17,6 +17,7 @@ use Rattle.computed_tests.proofs.Tests.{oneTo-inside}
 use Rattle.gf256.specs.Field.{product}
 use Rattle.gf256.proofs.Polynomials.{sumBelow-same, sumBelow-none}
 use Rattle.gf256.proofs.Products.{product-zero-r}
+use Rattle.codes.specs.declared.Code.{Code}
 use Rattle.parity.specs.Parity.{isFile}
 use Rattle.elimination.specs.Matrix.{IsSolution, IsKernelVector}
 use Rattle.elimination.specs.ByteField.{Byte, byteField}
@@ -58,39 +59,46 @@ not-refused-recoverable k e = let z : _≡_ {A = ℕ} 0 1 = cc in absurd (omega 
 
 -- ---- no inventory, out of range, present
 
-module _ (rule : ℕ → ℕ → ℕ) where
-  pub query-no-inventory : (s : Inventory) (f : ℕ) (room : List ℕ) → isInventory s ≡ false → Queried rule s f room (answer.Refused 10) room
+module _ (rules : Code → ℕ → ℕ → ℕ) where
+  pub query-no-inventory : (s : Inventory) (f : ℕ) (room : List ℕ) → isInventory s ≡ false → Queried rules s f room (answer.Refused 10) room
   unfolding answerNumber
   query-no-inventory s f room e =
       record { first = λ _. refl; as-model = λ v. absurd (true≢false (sym v ∙ e)); refusal = refused-out-of-range }
 
   answered : {s : Inventory} {f : ℕ} {room : List ℕ} {r : Answer} {room′ : List ℕ} → isInventory s ≡ true → Refusal r
-      → ((size : ℕ → ℕ) → Matches s size → Gives rule (stateOf s size) (query f room) (queried (answerNumber r) room′))
-      → Queried rule s f room r room′
+      → ((size : ℕ → ℕ) → Matches s size → Gives rules (stateOf s size) (query f room) (queried (answerNumber r) room′))
+      → Queried rules s f room r room′
   answered valid refusal gives =
       record { first = λ e. absurd (true≢false (sym valid ∙ e)); as-model = λ _. gives; refusal = refusal }
 
   module _ (s : Inventory) (valid : isInventory s ≡ true) (f : ℕ) (room : List ℕ) where
     as-model : (size : ℕ → ℕ) (inRange has : Bool) (r : Reply) → isFile (s .n) f ≡ inRange → member (s .files) f ≡ has
-        → GivesQuery rule (stateOf s size) f room inRange has r → Gives rule (stateOf s size) (query f room) r
+        → GivesQuery (rules (s .code)) (stateOf s size) f room inRange has r → Gives rules (stateOf s size) (query f room) r
     unfolding Gives
     as-model size inRange has r p q g =
-        subst (λ (b : Bool). GivesQuery rule (stateOf s size) f room b (member (s .files) f) r) (sym p)
-        (subst (λ (b : Bool). GivesQuery rule (stateOf s size) f room inRange b r) (sym q) g)
+        subst (λ (b : Bool). GivesQuery (rules (s .code)) (stateOf s size) f room b (member (s .files) f) r) (sym p)
+        (subst (λ (b : Bool). GivesQuery (rules (s .code)) (stateOf s size) f room inRange b r) (sym q) g)
 
-    pub query-out-of-range : isFile (s .n) f ≡ false → Queried rule s f room (answer.Refused 10) room
+    pub query-out-of-range : isFile (s .n) f ≡ false → Queried rules s f room (answer.Refused 10) room
     unfolding answerNumber
     query-out-of-range e =
         answered valid refused-out-of-range (λ size matches. as-model size false (member (s .files) f) (queried 10 room) e refl refl)
 
-    pub query-present : isFile (s .n) f ≡ true → member (s .files) f ≡ true → Queried rule s f room answer.Present room
+    pub query-present : isFile (s .n) f ≡ true → member (s .files) f ≡ true → Queried rules s f room answer.Present room
     unfolding answerNumber
     query-present e h = answered valid not-refused-present (λ size matches. as-model size true true (queried 13 room) e h refl)
 
 -- ---- missing
 
-module _ (rule : ℕ → ℕ → ℕ) (small : (f v : ℕ) → f < 256 → rule f v < 256) (s : Inventory) (valid : isInventory s ≡ true) (f : ℕ)
-    (inRange : isFile (s .n) f ≡ true) (missing : member (s .files) f ≡ false) (room : List ℕ) where
+module _ (rules : Code → ℕ → ℕ → ℕ) (bytes : (c : Code) (f v : ℕ) → f < 256 → rules c f v < 256) (s : Inventory) (valid : isInventory s ≡ true)
+    (f : ℕ) (inRange : isFile (s .n) f ≡ true) (missing : member (s .files) f ≡ false) (room : List ℕ) where
+  -- the rule of the inventory's code
+  abbrev rule : ℕ → ℕ → ℕ
+  rule = rules (s .code)
+
+  abbrev small : (f v : ℕ) → f < 256 → rule f v < 256
+  small = bytes (s .code)
+
   abbrev state : (ℕ → ℕ) → State
   state size = stateOf s size
 
@@ -143,25 +151,25 @@ module _ (rule : ℕ → ℕ → ℕ) (small : (f v : ℕ) → f < 256 → rule 
       (subst (Recoverable rule (state size)) as-suc r)
 
   pub query-undetermined : (ws : List ℕ) (found : Bool) → Found rule (s .n) (s .files) (s .volumes) (s .nonempty) f found ws → found ≡ false
-      → Queried rule s f room answer.Undetermined room
+      → Queried rules s f room answer.Undetermined room
   unfolding answerNumber
   query-undetermined ws found S t =
-      answered rule valid not-refused-undetermined
+      answered rules valid not-refused-undetermined
       (λ size matches.
-      as-model rule s valid f room size true false (queried 12 room) inRange missing (undetermined (unrecovered ws found S t size matches)))
+      as-model rules s valid f room size true false (queried 12 room) inRange missing (undetermined (unrecovered ws found S t size matches)))
 
   pub query-no-room : (ws : List ℕ) (found : Bool) → Found rule (s .n) (s .files) (s .volumes) (s .nonempty) f found ws → found ≡ true
-      → length room < 255 → Queried rule s f room (answer.Refused 14) room
+      → length room < 255 → Queried rules s f room (answer.Refused 14) room
   unfolding answerNumber
   query-no-room ws found S t l =
-      answered rule valid refused-no-room
+      answered rules valid refused-no-room
       (λ size matches.
-      as-model rule s valid f room size true false (queried 14 room) inRange missing (noRoom (recovered ws found S t size matches) l))
+      as-model rules s valid f room size true false (queried 14 room) inRange missing (noRoom (recovered ws found S t size matches) l))
 
   -- ---- the weights in the room
 
   module _ (ws room′ : List ℕ) (long : 255 ≤ length room) (W : Written rule (s .n) (s .files) ws room room′ 255)
-      (bytes : (p : ℕ) → p < 255 → getD room′ p 0 < 256) where
+      (fit : (p : ℕ) → p < 255 → getD room′ p 0 < 256) where
     written : List ℕ
     written = take 255 room′
 
@@ -176,7 +184,7 @@ module _ (rule : ℕ → ℕ → ℕ) (small : (f v : ℕ) → f < 256 → rule 
     written-bytes : (p : ℕ) → getD written p 0 < 256
     written-bytes p =
         elim (decLt p 255) [
-          | yes l ↦ subst (λ (x : ℕ). x < 256) (sym (written-at p l)) (bytes p l)
+          | yes l ↦ subst (λ (x : ℕ). x < 256) (sym (written-at p l)) (fit p l)
           | no q ↦
               subst (λ (x : ℕ). x < 256) (sym (List·getD-eq-default written 0 (omega (arith, written-long)))) (omega arith)
         ]
@@ -249,11 +257,11 @@ module _ (rule : ℕ → ℕ → ℕ) (small : (f v : ℕ) → f < 256 → rule 
     written-weights found (notEmpty e (unsolved x X z)) t size matches = absurd (false≢true t)
 
     pub query-recoverable : (found : Bool) → Found rule (s .n) (s .files) (s .volumes) (s .nonempty) f found ws → found ≡ true
-        → Queried rule s f room answer.Recoverable room′
+        → Queried rules s f room answer.Recoverable room′
     unfolding answerNumber
     query-recoverable found S t =
-        answered rule valid not-refused-recoverable
+        answered rules valid not-refused-recoverable
         (λ size matches.
-        subst (λ (l : List ℕ). Gives rule (state size) (query f room) (queried 0 l)) (sym written-rest)
-        (as-model rule s valid f room size true false (queried 0 (written ++ drop 255 room)) inRange missing
+        subst (λ (l : List ℕ). Gives rules (state size) (query f room) (queried 0 l)) (sym written-rest)
+        (as-model rules s valid f room size true false (queried 0 (written ++ drop 255 room)) inRange missing
         (recoverable (recovered ws found S t size matches) long written (written-weights found S t size matches))))

@@ -2,7 +2,7 @@
 --
 --   given-valid    what an accepted opening and calls give is an inventory
 --   valid-given    each inventory, of words of 64 bits, is given by an accepted opening and calls
---   exactly-given-for, exactly-given     so isInventory is exact: over any rule, and at document 01's
+--   exactly-given-for, exactly-given     so isInventory is exact: over any rules, and at those of the two codes
 -- Assumes nothing.
 use mathlib.Core.Path.{_≡_, refl, sym, ap, _∙_, subst}
 use mathlib.Core.Bool.{Bool, true, false, cond, _&&_, false≢true}
@@ -15,9 +15,10 @@ use Rattle.computed_tests.specs.Numbers.{oneTo}
 use Rattle.computed_tests.specs.Lists.{listBelow}
 use Rattle.computed_tests.proofs.Lists.{length-listBelow, listBelow-at}
 use Rattle.computed_tests.proofs.Tests.{oneTo-inside}
-use Rattle.parity.specs.Coefficient.{coefficient}
+use Rattle.codes.specs.declared.Code.{Code}
+use Rattle.parity.specs.Coefficient.{ruleOf}
 use Rattle.parity.specs.Parity.{isFile}
-use Rattle.parity.proofs.Coefficients.{coefficient-byte}
+use Rattle.parity.proofs.Coefficients.{rule-byte}
 use Rattle.number_sets.specs.Sets.{member, Words}
 use Rattle.inventory.specs.Recoverable.{State}
 use Rattle.inventory.specs.Model.{Change, addFile, removeFile, addVolume, removeVolume, quarantine, release}
@@ -37,12 +38,12 @@ use Rattle.inventory.proofs.Told.{opened-told, calls-for}
 use Rattle.inventory.proofs.Condition.{sound}
 use Rattle.inventory.proofs.Answered.{answered-for}
 
-given-valid : (rule : ℕ → ℕ → ℕ) (n : ℕ) (sizes : List ℕ) → openStep n sizes .number ≡ 0
-    → (cs : List Call) (rs : List Reply) (s : Inventory) → Run rule (openStep n sizes .next) cs rs s → isInventory s ≡ true
-given-valid rule n sizes well cs rs s run =
-    sound rule (sizeIn sizes) (opened n (sizeIn sizes)) (openStep n sizes .next) cs rs s (opened-represents n sizes well .1) run .1 .valid
+given-valid : (rules : Code → ℕ → ℕ → ℕ) (d : Code) (n : ℕ) (sizes : List ℕ) → openStep d n sizes .number ≡ 0
+    → (cs : List Call) (rs : List Reply) (s : Inventory) → Run rules (openStep d n sizes .next) cs rs s → isInventory s ≡ true
+given-valid rules d n sizes well cs rs s run =
+    sound rules (sizeIn sizes) (opened d n (sizeIn sizes)) (openStep d n sizes .next) cs rs s (opened-represents d n sizes well .1) run .1 .valid
 
--- ---- calls keep the number of files, and those that are not empty
+-- ---- calls keep the number of files, those that are not empty, and the code
 
 -- the sets of what is present or quarantined are words
 record Sets (s : Inventory) : Type 0 where
@@ -53,13 +54,14 @@ record Sets (s : Inventory) : Type 0 where
 record Kept (s e : Inventory) : Type 0 where
   same-n : e .n ≡ s .n
   same-nonempty : e .nonempty ≡ s .nonempty
+  same-code : e .code ≡ s .code
   sets : Sets e
 
 changed-sets : (c : Change) (s : Inventory) (k : ℕ) → Sets s → Sets (afterChange c s k)
 unfolding afterChange
 changed-sets addFile s f w = record { files = words-inserted f (s .files) (w .files); volumes = w .volumes; quarantined = w .quarantined }
 changed-sets removeFile s f w = record { files = words-removed f (s .files) (w .files); volumes = w .volumes; quarantined = w .quarantined }
-changed-sets addVolume s v w = record { files = w .files; volumes = words-inserted v (s .volumes) (w .volumes); quarantined = w .quarantined }
+changed-sets (addVolume c) s v w = record { files = w .files; volumes = words-inserted v (s .volumes) (w .volumes); quarantined = w .quarantined }
 changed-sets removeVolume s v w = record {
   files = w .files;
   volumes = words-removed v (s .volumes) (w .volumes);
@@ -78,18 +80,18 @@ changed-sets release s v w = record {
 
 change-kept : (c : Change) (s : Inventory) (k : ℕ) → Sets s → Kept s (afterChange c s k)
 unfolding afterChange
-change-kept addFile s f w = record { same-n = refl; same-nonempty = refl; sets = changed-sets addFile s f w }
-change-kept removeFile s f w = record { same-n = refl; same-nonempty = refl; sets = changed-sets removeFile s f w }
-change-kept addVolume s v w = record { same-n = refl; same-nonempty = refl; sets = changed-sets addVolume s v w }
-change-kept removeVolume s v w = record { same-n = refl; same-nonempty = refl; sets = changed-sets removeVolume s v w }
-change-kept quarantine s v w = record { same-n = refl; same-nonempty = refl; sets = changed-sets quarantine s v w }
-change-kept release s v w = record { same-n = refl; same-nonempty = refl; sets = changed-sets release s v w }
+change-kept addFile s f w = record { same-n = refl; same-nonempty = refl; same-code = refl; sets = changed-sets addFile s f w }
+change-kept removeFile s f w = record { same-n = refl; same-nonempty = refl; same-code = refl; sets = changed-sets removeFile s f w }
+change-kept (addVolume c) s v w = record { same-n = refl; same-nonempty = refl; same-code = refl; sets = changed-sets (addVolume c) s v w }
+change-kept removeVolume s v w = record { same-n = refl; same-nonempty = refl; same-code = refl; sets = changed-sets removeVolume s v w }
+change-kept quarantine s v w = record { same-n = refl; same-nonempty = refl; same-code = refl; sets = changed-sets quarantine s v w }
+change-kept release s v w = record { same-n = refl; same-nonempty = refl; same-code = refl; sets = changed-sets release s v w }
 
 kept : {s e : Inventory} → e ≡ s → Sets s → Kept s e
-kept {s} q w = subst (Kept s) (sym q) record { same-n = refl; same-nonempty = refl; sets = w }
+kept {s} q w = subst (Kept s) (sym q) record { same-n = refl; same-nonempty = refl; same-code = refl; sets = w }
 
-module _ (rule : ℕ → ℕ → ℕ) where
-  step-kept : (s : Inventory) (c : Call) (r : Reply) (s₁ : Inventory) → Step rule s c r s₁ → Sets s → Kept s s₁
+module _ (rules : Code → ℕ → ℕ → ℕ) where
+  step-kept : (s : Inventory) (c : Call) (r : Reply) (s₁ : Inventory) → Step rules s c r s₁ → Sets s → Kept s s₁
   unfolding Step changeStep
   step-kept s (change c k) r s₁ (p, q) w = subst (Kept s) (sym q) (go (eqb (changeStep c s k .number) 0))
     where
@@ -99,7 +101,7 @@ module _ (rule : ℕ → ℕ → ℕ) where
   step-kept s count r s₁ (p, q) w = kept q w
   step-kept s (query f room) r s₁ (a, room′, Q, p, q) w = kept q w
 
-  run-kept : (s : Inventory) (cs : List Call) (rs : List Reply) (e : Inventory) → Run rule s cs rs e → Sets s → Kept s e
+  run-kept : (s : Inventory) (cs : List Call) (rs : List Reply) (e : Inventory) → Run rules s cs rs e → Sets s → Kept s e
   unfolding Run
   run-kept s [] [] e q w = kept (sym q) w
   run-kept s [] (r ∷ rs) e q w = absurd q
@@ -110,6 +112,7 @@ module _ (rule : ℕ → ℕ → ℕ) where
       record {
         same-n = more .same-n ∙ one .same-n;
         same-nonempty = more .same-nonempty ∙ one .same-nonempty;
+        same-code = more .same-code ∙ one .same-code;
         sets = more .sets;
       }
 
@@ -143,12 +146,12 @@ module _ (s : Inventory) (valid : isInventory s ≡ true) (w : Sets s) (ew : Wor
   sizes = listBelow (s .n) (λ i. cond (member (s .nonempty) (suc i)) 1 0)
 
   start : Inventory
-  start = fresh (s .n) sizes
+  start = fresh (s .code) (s .n) sizes
 
-  opens : outcome start 0 ≡ openStep (s .n) sizes
+  opens : outcome start 0 ≡ openStep (s .code) (s .n) sizes
   unfolding sizes start
   opens =
-      open-accepted (s .n) sizes (n-valid s valid) (length-listBelow (s .n) (λ i. cond (member (s .nonempty) (suc i)) 1 0))
+      open-accepted (s .code) (s .n) sizes (n-valid s valid) (length-listBelow (s .n) (λ i. cond (member (s .nonempty) (suc i)) 1 0))
       (λ k l.
       let e = listBelow-at (s .n) (λ i. cond (member (s .nonempty) (suc i)) 1 0) k l in
       let b = one-or-none (member (s .nonempty) (suc k)) in
@@ -188,34 +191,35 @@ module _ (s : Inventory) (valid : isInventory s ≡ true) (w : Sets s) (ew : Wor
   calls : (cs : List Call) × TellsExactly present cs
   calls = calls-for present present-ranged
 
-  module _ (rule : ℕ → ℕ → ℕ) where
+  module _ (rules : Code → ℕ → ℕ → ℕ) where
     -- the calls that add what is present lead from the inventory newly opened to s
-    given-by : (rs : List Reply) (e : Inventory) → Run rule start (calls .0) rs e → Given rule s
+    given-by : (rs : List Reply) (e : Inventory) → Run rules start (calls .0) rs e → Given rules s
     unfolding start present
     given-by rs e run = (
+      s .code,
       s .n,
       sizes,
       calls .0,
       rs,
       opened-well,
-      subst (λ (o : Inventory). Run rule o (calls .0) rs s) (ap (λ (o : Outcome). o .next) opens)
-          (subst (λ (x : Inventory). Run rule start (calls .0) rs x) same run),
+      subst (λ (o : Inventory). Run rules o (calls .0) rs s) (ap (λ (o : Outcome). o .next) opens)
+          (subst (λ (x : Inventory). Run rules start (calls .0) rs x) same run),
     )
       where
-        opened-well : openStep (s .n) sizes .number ≡ 0
+        opened-well : openStep (s .code) (s .n) sizes .number ≡ 0
         opened-well = sym (ap (λ (o : Outcome). o .number) opens)
 
-        R : Represents (sizeIn sizes) (opened (s .n) (sizeIn sizes)) start
-        R = subst (λ (o : Inventory). Represents (sizeIn sizes) (opened (s .n) (sizeIn sizes)) o) (sym (ap (λ (o : Outcome). o .next) opens))
-            (opened-represents (s .n) sizes opened-well .1)
+        R : Represents (sizeIn sizes) (opened (s .code) (s .n) (sizeIn sizes)) start
+        R = subst (λ (o : Inventory). Represents (sizeIn sizes) (opened (s .code) (s .n) (sizeIn sizes)) o) (sym (ap (λ (o : Outcome). o .next) opens))
+            (opened-represents (s .code) (s .n) sizes opened-well .1)
 
         state : present ≡ stateOf e (sizeIn sizes)
         state =
-            sym (opened-told present present-ranged (s .n) (sizeIn sizes) (calls .0) refl refl (calls .1))
-            ∙ sound rule (sizeIn sizes) (opened (s .n) (sizeIn sizes)) start (calls .0) rs e R run .1 .state
+            sym (opened-told present present-ranged (s .code) (s .n) (sizeIn sizes) (calls .0) refl refl refl (calls .1))
+            ∙ sound rules (sizeIn sizes) (opened (s .code) (s .n) (sizeIn sizes)) start (calls .0) rs e R run .1 .state
 
         k : Kept start e
-        k = run-kept rule start (calls .0) rs e run record { files = words-none; volumes = words-none; quarantined = words-none }
+        k = run-kept rules start (calls .0) rs e run record { files = words-none; volumes = words-none; quarantined = words-none }
 
         same : e ≡ s
         same = λ i. record {
@@ -225,16 +229,17 @@ module _ (s : Inventory) (valid : isInventory s ≡ true) (w : Sets s) (ew : Wor
           nonempty = (k .same-nonempty ∙ nonempty-same) i;
           quarantined = words-same (e .quarantined) (s .quarantined) (k .sets .quarantined) (w .quarantined)
               (λ j l. sym (ap (λ (t : State). t .quarantined j) state)) i;
+          code = (k .same-code) i;
         }
 
-    valid-given : ((f v : ℕ) → f < 256 → rule f v < 256) → Given rule s
-    valid-given small = let (rs, e, run) = answered-for rule small start (calls .0) in given-by rs e run
+    valid-given : ((c : Code) (f v : ℕ) → f < 256 → rules c f v < 256) → Given rules s
+    valid-given small = let (rs, e, run) = answered-for rules small start (calls .0) in given-by rs e run
 
-pub exactly-given-for : (rule : ℕ → ℕ → ℕ) → ((f v : ℕ) → f < 256 → rule f v < 256) → ExactlyGivenFor rule
-exactly-given-for rule small s fw vw ew qw = (
-  λ valid. valid-given s valid record { files = fw; volumes = vw; quarantined = qw } ew rule small,
-  λ given. let (n, sizes, cs, rs, well, run) = given in given-valid rule n sizes well cs rs s run,
+pub exactly-given-for : (rules : Code → ℕ → ℕ → ℕ) → ((c : Code) (f v : ℕ) → f < 256 → rules c f v < 256) → ExactlyGivenFor rules
+exactly-given-for rules small s fw vw ew qw = (
+  λ valid. valid-given s valid record { files = fw; volumes = vw; quarantined = qw } ew rules small,
+  λ given. let (d, n, sizes, cs, rs, well, run) = given in given-valid rules d n sizes well cs rs s run,
 )
 
 pub exactly-given : ExactlyGiven
-exactly-given = exactly-given-for coefficient coefficient-byte
+exactly-given = exactly-given-for ruleOf rule-byte

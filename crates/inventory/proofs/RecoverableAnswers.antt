@@ -13,13 +13,14 @@ use mathlib.Core.List.{List}
 use Prim.Native.Nat.{ℕ, _<_, _≤_}
 use native.Mathlib.Omega.{arith}
 use lib.ListN.{length}
-use Rattle.parity.specs.Coefficient.{coefficient}
+use Rattle.codes.specs.declared.Code.{Code}
+use Rattle.parity.specs.Coefficient.{ruleOf}
 use Rattle.parity.specs.Parity.{isFile}
-use Rattle.parity.proofs.Coefficients.{coefficient-byte}
+use Rattle.parity.proofs.Coefficients.{rule-byte}
 use Rattle.number_sets.specs.Sets.{member}
 use Rattle.number_sets.proofs.Words.{member-none, words-same}
 use Rattle.inventory.specs.Recoverable.{State}
-use Rattle.inventory.specs.Model.{queried, Gives, GivesQuery}
+use Rattle.inventory.specs.Model.{queried, opened, after, Gives, GivesQuery}
 use Rattle.inventory.specs.Steps.{isInventory, answerNumber}
 use Rattle.inventory.specs.Query.{stateOf, Queried}
 use Rattle.inventory.specs.RecoverableFiles.{RecoverableNow, RecoverableSet}
@@ -30,6 +31,7 @@ use Rattle.inventory.specs.declared.recoverable.RecoverableFiles.{Recove
 use Rattle.inventory.proofs.Representation.{Represents}
 use Rattle.inventory.proofs.Openings.{opened-represents}
 use Rattle.inventory.proofs.Determined.{someSize, some-matches}
+use Rattle.inventory.proofs.Calls.{after-same}
 use Rattle.inventory.proofs.Condition.{sound, missing-exactly}
 
 -- ---- the set is determined
@@ -39,8 +41,8 @@ same-test true b f g = sym (f refl)
 same-test false true f g = g refl
 same-test false false f g = refl
 
-pub set-one : (rule : ℕ → ℕ → ℕ) (s : Inventory) (r r′ : RecoverableFiles) → RecoverableSet rule s r → RecoverableSet rule s r′ → r ≡ r′
-set-one rule s r r′ R R′ = go (isInventory s) refl
+pub set-one : (rules : Code → ℕ → ℕ → ℕ) (s : Inventory) (r r′ : RecoverableFiles) → RecoverableSet rules s r → RecoverableSet rules s r′ → r ≡ r′
+set-one rules s r r′ R R′ = go (isInventory s) refl
   where
     go : (v : Bool) → isInventory s ≡ v → r ≡ r′
     go true e =
@@ -54,18 +56,20 @@ set-one rule s r r′ R R′ = go (isInventory s) refl
     go false e = R .first e ∙ sym (R′ .first e)
 
 pub one-set : OneSet
-one-set = set-one coefficient
+one-set = set-one ruleOf
 
 -- ---- what the model says
 
-pub represented-set : (rule : ℕ → ℕ → ℕ) (size : ℕ → ℕ) (t : State) (s : Inventory) → Represents size t s
-    → (r : RecoverableFiles) → RecoverableSet rule s r → (f : ℕ) → (member (r .files) f ≡ true) ↔ RecoverableNow rule t f
-represented-set rule size t s P r R f =
-    subst (λ (t : State). (member (r .files) f ≡ true) ↔ RecoverableNow rule t f) (sym (P .state)) (R .exactly (P .valid) size (P .matches) f)
+pub represented-set : (rules : Code → ℕ → ℕ → ℕ) (size : ℕ → ℕ) (t : State) (s : Inventory) → Represents size t s
+    → (r : RecoverableFiles) → RecoverableSet rules s r → (f : ℕ) → (member (r .files) f ≡ true) ↔ RecoverableNow (rules (t .code)) t f
+represented-set rules size t s P r R f =
+    subst (λ (t : State). (member (r .files) f ≡ true) ↔ RecoverableNow (rules (t .code)) t f) (sym (P .state)) (R .exactly (P .valid) size (P .matches) f)
 
 pub recoverable-after : RecoverableAfter
-recoverable-after n sizes o cs rs s run r R f =
-    represented-set coefficient (sizeIn sizes) _ s (sound coefficient (sizeIn sizes) _ _ cs rs s (opened-represents n sizes o .1) run .1) r R f
+recoverable-after d n sizes o cs rs s run r R f =
+    let t : State = after (opened d n (sizeIn sizes)) cs in
+    subst (λ (k : Code). (member (r .files) f ≡ true) ↔ RecoverableNow (ruleOf k) t f) (after-same (opened d n (sizeIn sizes)) cs .same-code)
+    (represented-set ruleOf (sizeIn sizes) t s (sound ruleOf (sizeIn sizes) _ _ cs rs s (opened-represents d n sizes o .1) run .1) r R f)
 
 -- ---- what a query says
 
@@ -81,8 +85,9 @@ module _ (rule : ℕ → ℕ → ℕ) (small : (f v : ℕ) → f < 256 → rule 
       let exactly = missing-exactly rule small t f room l number room′ _ refl g in
       (λ now. exactly .1 (now .2), λ z. (i, h, exactly .0 z))
 
-  set-queried : (s : Inventory) (r : RecoverableFiles) → RecoverableSet rule s r → (f : ℕ) (room : List ℕ) → 255 ≤ length room
-      → (a : Answer) (room′ : List ℕ) → Queried rule s f room a room′ → (member (r .files) f ≡ true) ↔ (answerNumber a ≡ 0)
+module _ (rules : Code → ℕ → ℕ → ℕ) (small : (c : Code) (f v : ℕ) → f < 256 → rules c f v < 256) where
+  set-queried : (s : Inventory) (r : RecoverableFiles) → RecoverableSet rules s r → (f : ℕ) (room : List ℕ) → 255 ≤ length room
+      → (a : Answer) (room′ : List ℕ) → Queried rules s f room a room′ → (member (r .files) f ≡ true) ↔ (answerNumber a ≡ 0)
   unfolding Gives
   set-queried s r R f room l a room′ Q = go (isInventory s) refl
     where
@@ -90,7 +95,9 @@ module _ (rule : ℕ → ℕ → ℕ) (small : (f v : ℕ) → f < 256 → rule 
       go true e =
           let size = someSize s in
           let in-set = R .exactly e size (some-matches s) f in
-          let asked = query-exactly (stateOf s size) f room l (answerNumber a) room′ _ _ refl refl (Q .as-model e size (some-matches s)) in
+          let asked =
+          query-exactly (rules (s .code)) (small (s .code)) (stateOf s size) f room l (answerNumber a) room′ _ _ refl refl
+          (Q .as-model e size (some-matches s)) in
           (λ h. asked .0 (in-set .0 h), λ z. in-set .1 (asked .1 z))
       go false e =
           let q = Q .first e in
@@ -100,4 +107,4 @@ module _ (rule : ℕ → ℕ → ℕ) (small : (f v : ℕ) → f < 256 → rule 
           )
 
 pub as-queried : RecoverableAsQueried
-as-queried = set-queried coefficient coefficient-byte
+as-queried = set-queried ruleOf rule-byte

@@ -14,6 +14,7 @@ use lib.Dec.{leb}
 use lib.ListN.{replicate}
 use borrow.Author.Tests.{leb-true, not-true}
 use Rattle.computed_tests.proofs.Tests.{and-both, oneTo-in, oneTo-inside}
+use Rattle.codes.specs.declared.Code.{Code}
 use Rattle.parity.specs.Parity.{isFile}
 use Rattle.elimination.proofs.Reductions.{zeros-at}
 use Rattle.number_sets.specs.Sets.{member, gathered, Words}
@@ -29,16 +30,20 @@ use Rattle.inventory.specs.declared.recoverable.RecoverableFiles.{Recove
 use Rattle.inventory.proofs.ValidInventories.{within-bits, few-files, nonempty-valid}
 use Rattle.inventory.proofs.Queries.{recovered, unrecovered}
 
-pub set-refused : (rule : ℕ → ℕ → ℕ) (s : Inventory) → isInventory s ≡ false → RecoverableSet rule s record { files = replicate 4 0; number = 10 }
-set-refused rule s e = record {
+pub set-refused : (rules : Code → ℕ → ℕ → ℕ) (s : Inventory) → isInventory s ≡ false → RecoverableSet rules s record { files = replicate 4 0; number = 10 }
+set-refused rules s e = record {
   first = λ _. refl;
   accepted = λ v. absurd (true≢false (sym v ∙ e));
   exactly = λ v. absurd (true≢false (sym v ∙ e));
   words = words-none;
 }
 
-module _ (rule : ℕ → ℕ → ℕ) (small : (f v : ℕ) → f < 256 → rule f v < 256) (s : Inventory) (valid : isInventory s ≡ true) (solved : List ℕ)
-    (S : SolvedColumns rule (s .nonempty) (s .files) (s .volumes) (255 - s .n) solved) where
+module _ (rules : Code → ℕ → ℕ → ℕ) (small : (c : Code) (f v : ℕ) → f < 256 → rules c f v < 256) (s : Inventory) (valid : isInventory s ≡ true) (solved : List ℕ)
+    (S : SolvedColumns (rules (s .code)) (s .nonempty) (s .files) (s .volumes) (255 - s .n) solved) where
+  -- the rule of the inventory's code
+  abbrev rule : ℕ → ℕ → ℕ
+  rule = rules (s .code)
+
   -- whether file i + 1 is missing and empty
   abbrev isEmpty : ℕ → Bool
   isEmpty i = not (member (s .files) (suc i)) && not (member (s .nonempty) (suc i))
@@ -54,7 +59,7 @@ module _ (rule : ℕ → ℕ → ℕ) (small : (f v : ℕ) → f < 256 → rule 
     by-weights : (inRange : isFile (s .n) f ≡ true) (missing : member (s .files) f ≡ false) (ws : List ℕ) (found : Bool)
         → Found rule (s .n) (s .files) (s .volumes) (s .nonempty) f found ws → found ≡ true → Now
     by-weights inRange missing ws found F t =
-        (inRange, missing, recovered rule small s valid f inRange missing [] ws found F t size matches)
+        (inRange, missing, recovered rules small s valid f inRange missing [] ws found F t size matches)
 
     solved-now : member solved f ≡ true → Now
     solved-now h =
@@ -99,12 +104,12 @@ module _ (rule : ℕ → ℕ → ℕ) (small : (f v : ℕ) → f < 256 → rule 
             → Solved rule (s .nonempty) (s .files) (s .volumes) (255 - s .n) (f - 1) ws (member solved f)
             → (member solved f ≡ true) ⊎ ((i : ℕ) × (i < s .n) × (isEmpty i ≡ true) × (suc i ≡ f))
         go true h ws W = inl h
-        go false h ws W = absurd (unrecovered rule small s valid f inRange missing [] ws (member solved f) (notEmpty e W) h size matches r)
+        go false h ws W = absurd (unrecovered rules small s valid f inRange missing [] ws (member solved f) (notEmpty e W) h size matches r)
 
   bytes : (i : ℕ) → i < s .n → suc i < 256
   bytes i l = let few = few-files s valid in omega arith
 
-  pub set-gathered : (r : List ℕ) → r ≡ all → RecoverableSet rule s record { files = r; number = 0 }
+  pub set-gathered : (r : List ℕ) → r ≡ all → RecoverableSet rules s record { files = r; number = 0 }
   set-gathered r z = record {
     first = λ e. absurd (true≢false (sym valid ∙ e));
     accepted = λ _. refl;

@@ -3,7 +3,7 @@
 --   Represents size t s     the inventory s stands for the state t, of files of these sizes
 --   IsSet m ws set          the words ws are the set, of some of the numbers 1 to m
 --   represents              an inventory of such sets stands for the state of these sets
---   meets                   the code's reply is the model's, and what it hands back stands for the next state
+--   meets                   a call's reply is the model's, and what it hands back stands for the next state
 -- Assumes nothing.
 use mathlib.Core.Path.{_≡_, refl, sym, ap, ap₂, _∙_, subst, fun-ext}
 use mathlib.Core.Bool.{Bool, true, false, not, cond, _&&_, _||_, false≢true}
@@ -15,6 +15,7 @@ use lib.ListN.{length}
 use borrow.Author.Tests.{eqb-true}
 use Rattle.computed_tests.specs.Numbers.{oneTo}
 use Rattle.computed_tests.proofs.Tests.{and-both, oneTo-inside}
+use Rattle.codes.specs.declared.Code.{Code}
 use Rattle.parity.specs.Parity.{isFile}
 use Rattle.number_sets.specs.Sets.{member, inserted, removed}
 use Rattle.inventory.specs.Recoverable.{State}
@@ -22,7 +23,7 @@ use Rattle.inventory.specs.Model as M
 use Rattle.inventory.specs.Model.{Change, addFile, removeFile, addVolume, removeVolume, quarantine, release}
 use Rattle.inventory.specs.Model.{insert, remove, changed}
 use Rattle.inventory.specs.Model.{Call, change, count, query, Reply, numbered, queried, next, Gives}
-use Rattle.inventory.specs.Steps.{within, apart, isInventory, ifInventory, inRange, whileQuarantined, already, changeNumber, unlessRefused}
+use Rattle.inventory.specs.Steps.{within, apart, isInventory, ifInventory, inRange, ofOtherCode, whileQuarantined, already, changeNumber, unlessRefused}
 use Rattle.inventory.specs.Steps.{accepted, withFiles, withVolumes, afterChange, changeStep, countStep, answerNumber}
 use Rattle.inventory.proofs.ChangeNumbers.{model-number}
 use Rattle.inventory.specs.Query.{stateOf, Matches, Queried}
@@ -79,13 +80,13 @@ without-number {m} {ws} f h r = record {
     at = let b = oneTo-inside m f r in member-removed ws f (h .words) (omega arith)
 
 -- an inventory of three sets stands for the state of these sets, if no volume is both present and quarantined
-pub represents : {size : ℕ → ℕ} {n : ℕ} {fs vs es qs : List ℕ} {files volumes quarantined : ℕ → Bool}
+pub represents : {size : ℕ → ℕ} {d : Code} {n : ℕ} {fs vs es qs : List ℕ} {files volumes quarantined : ℕ → Bool}
     → oneTo 254 n ≡ true → IsSet n fs files → IsSet (255 - n) vs volumes → IsSet (255 - n) qs quarantined → Apart volumes quarantined
     → within n es ≡ true → ((f : ℕ) → isFile n f ≡ true → member es f ≡ leb 1 (size f))
-    → Represents size record { n = n; size = size; files = files; volumes = volumes; quarantined = quarantined }
-    record { n = n; files = fs; volumes = vs; nonempty = es; quarantined = qs }
+    → Represents size record { n = n; size = size; files = files; volumes = volumes; quarantined = quarantined; code = d }
+    record { n = n; files = fs; volumes = vs; nonempty = es; quarantined = qs; code = d }
 unfolding isInventory
-represents {size} {n} {vs = vs} {qs = qs} r F W Q a e m = record {
+represents {size} {d} {n} {vs = vs} {qs = qs} r F W Q a e m = record {
   valid = ap₂ _&&_ r (ap₂ _&&_ (F .in-range) (ap₂ _&&_ e (ap₂ _&&_ (W .in-range) (ap₂ _&&_ (Q .in-range) none-both))));
   state = λ i. record {
     n = n;
@@ -93,6 +94,7 @@ represents {size} {n} {vs = vs} {qs = qs} r F W Q a e m = record {
     files = fun-ext (λ k. sym (F .members k)) i;
     volumes = fun-ext (λ k. sym (W .members k)) i;
     quarantined = fun-ext (λ k. sym (Q .members k)) i;
+    code = d;
   };
   matches = m;
   file-words = F .words;
@@ -140,7 +142,7 @@ module _ (size : ℕ → ℕ) (s : Inventory) (R : Represents size (stateOf s si
   unfolding inRange whileQuarantined changed afterChange
   changed-represents addFile f e a = with-files (with-number f files-set e)
   changed-represents removeFile f e a = with-files (without-number f files-set e)
-  changed-represents addVolume v e a = with-volumes (with-number v volumes-set e) quarantined-set (apart-insert _ _ v none-shared a)
+  changed-represents (addVolume c) v e a = with-volumes (with-number v volumes-set e) quarantined-set (apart-insert _ _ v none-shared a)
   changed-represents removeVolume v e a =
       with-volumes (without-number v volumes-set e) (without-number v quarantined-set e) (apart-remove _ _ v none-shared)
   changed-represents quarantine v e a =
@@ -148,48 +150,49 @@ module _ (size : ℕ → ℕ) (s : Inventory) (R : Represents size (stateOf s si
   changed-represents release v e a =
       with-volumes (with-number v volumes-set e) (without-number v quarantined-set e) (apart-back _ _ v none-shared)
 
-  abbrev Met : (ℕ → ℕ → ℕ) → Call → Reply → Inventory → Type 0
-  Met rule c r s₁ = Gives rule (stateOf s size) c r × Represents size (next (stateOf s size) c) s₁
+  abbrev Met : (Code → ℕ → ℕ → ℕ) → Call → Reply → Inventory → Type 0
+  Met rules c r s₁ = Gives rules (stateOf s size) c r × Represents size (next (stateOf s size) c) s₁
 
-  module _ (rule : ℕ → ℕ → ℕ) where
+  module _ (rules : Code → ℕ → ℕ → ℕ) where
     -- a refused change leaves all as it was
-    meets-change : (c : Change) (k : ℕ) → Met rule (change c k) (numbered (changeStep c s k .number)) (changeStep c s k .next)
+    meets-change : (c : Change) (k : ℕ) → Met rules (change c k) (numbered (changeStep c s k .number)) (changeStep c s k .next)
     unfolding Gives next changeStep ifInventory changeNumber
     meets-change c k =
         let same = model-number (stateOf s size) c k in
         let met =
-        by (isInventory s) (inRange c (s .n) k) (whileQuarantined c (member (s .quarantined)) k)
+        by (isInventory s) (inRange c (s .n) k) (ofOtherCode c (s .code)) (whileQuarantined c (member (s .quarantined)) k)
         (already c (member (s .files)) (member (s .volumes)) (member (s .quarantined)) k) (R .valid) (changed-represents c k) in (
           met .0 ∙ ap numbered (sym same),
           subst (λ (n : ℕ). Represents size (cond (eqb n 0) (changed c (stateOf s size) k) (stateOf s size)) (changeStep c s k .next)) (sym same) (met .1),
         )
       where
-        by : {t₁ : State} {s₁ : Inventory} (valid ranged aside done : Bool) → valid ≡ true → (ranged ≡ true → aside ≡ false → Represents size t₁ s₁)
-            → (numbered (cond valid (changeNumber ranged aside done) 10) ≡ numbered (changeNumber ranged aside done))
-            × Represents size (unlessRefused (changeNumber ranged aside done) t₁ (stateOf s size))
-            (accepted (cond valid (changeNumber ranged aside done) 10) s₁ s .next)
-        by true true true done e h = (refl, R)
-        by true true false true e h = (refl, R)
-        by true true false false e h = (refl, h refl refl)
-        by true false aside done e h = (refl, R)
-        by false ranged aside done e h = absurd (false≢true e)
+        by : {t₁ : State} {s₁ : Inventory} (valid ranged other aside done : Bool) → valid ≡ true → (ranged ≡ true → aside ≡ false → Represents size t₁ s₁)
+            → (numbered (cond valid (changeNumber ranged other aside done) 10) ≡ numbered (changeNumber ranged other aside done))
+            × Represents size (unlessRefused (changeNumber ranged other aside done) t₁ (stateOf s size))
+            (accepted (cond valid (changeNumber ranged other aside done) 10) s₁ s .next)
+        by true true true aside done e h = (refl, R)
+        by true true false true done e h = (refl, R)
+        by true true false false true e h = (refl, R)
+        by true true false false false e h = (refl, h refl refl)
+        by true false other aside done e h = (refl, R)
+        by false ranged other aside done e h = absurd (false≢true e)
 
-    meets-count : Met rule count (countStep s) s
+    meets-count : Met rules count (countStep s) s
     unfolding Gives next countStep
     meets-count = (simp (R .valid), R)
 
-    meets-query : (f : ℕ) (room : List ℕ) (a : Answer) (room′ : List ℕ) → Queried rule s f room a room′
-        → Met rule (query f room) (queried (answerNumber a) room′) s
+    meets-query : (f : ℕ) (room : List ℕ) (a : Answer) (room′ : List ℕ) → Queried rules s f room a room′
+        → Met rules (query f room) (queried (answerNumber a) room′) s
     unfolding next
     meets-query f room a room′ Q = (Q .as-model (R .valid) size (R .matches), R)
 
 -- ---- every call
 
-pub meets : (rule : ℕ → ℕ → ℕ) (size : ℕ → ℕ) (t : State) (s : Inventory) (c : Call) (r : Reply) (s₁ : Inventory)
-    → Represents size t s → Step rule s c r s₁ → Gives rule t c r × Represents size (next t c) s₁
+pub meets : (rules : Code → ℕ → ℕ → ℕ) (size : ℕ → ℕ) (t : State) (s : Inventory) (c : Call) (r : Reply) (s₁ : Inventory)
+    → Represents size t s → Step rules s c r s₁ → Gives rules t c r × Represents size (next t c) s₁
 unfolding Step
-meets rule size t s c r s₁ R step =
-    subst (λ (t : State). Gives rule t c r × Represents size (next t c) s₁) (sym (R .state)) (by c step)
+meets rules size t s c r s₁ R step =
+    subst (λ (t : State). Gives rules t c r × Represents size (next t c) s₁) (sym (R .state)) (by c step)
   where
     own : Represents size (stateOf s size) s
     own = record {
@@ -201,13 +204,13 @@ meets rule size t s c r s₁ R step =
       quarantine-words = R .quarantine-words;
     }
 
-    to : (c : Call) (r′ : Reply) (s′ : Inventory) → r ≡ r′ → s₁ ≡ s′ → Met size s own rule c r′ s′ → Met size s own rule c r s₁
+    to : (c : Call) (r′ : Reply) (s′ : Inventory) → r ≡ r′ → s₁ ≡ s′ → Met size s own rules c r′ s′ → Met size s own rules c r s₁
     to c r′ s′ p q m = (
-      subst (λ (x : Reply). Gives rule (stateOf s size) c x) (sym p) (m .0),
+      subst (λ (x : Reply). Gives rules (stateOf s size) c x) (sym p) (m .0),
       subst (λ (x : Inventory). Represents size (next (stateOf s size) c) x) (sym q) (m .1),
     )
 
-    by : (c : Call) → Step rule s c r s₁ → Met size s own rule c r s₁
-    by (change c k) (p, q) = to (change c k) _ _ p q (meets-change size s own rule c k)
-    by count (p, q) = to count _ _ p q (meets-count size s own rule)
-    by (query f room) (a, room′, Q, p, q) = to (query f room) _ _ p q (meets-query size s own rule f room a room′ Q)
+    by : (c : Call) → Step rules s c r s₁ → Met size s own rules c r s₁
+    by (change c k) (p, q) = to (change c k) _ _ p q (meets-change size s own rules c k)
+    by count (p, q) = to count _ _ p q (meets-count size s own rules)
+    by (query f room) (a, room′, Q, p, q) = to (query f room) _ _ p q (meets-query size s own rules f room a room′ Q)

@@ -11,6 +11,7 @@ use mathlib.Core.List.{List, [], _∷_, List·Memᴰ, List·Memᴰ·head, List·
 use Prim.Native.Nat.{ℕ, zero, suc, _≤_, _+_}
 use native.Mathlib.Omega.{arith}
 use native.Mathlib.Decide.{ℕ-discrete}
+use Rattle.codes.specs.declared.Code.{Code}
 use Rattle.computed_tests.proofs.Tests.{oneTo-inside}
 use Rattle.inventory.specs.Recoverable.{State, isVolume}
 use Rattle.inventory.specs.Model.{addFile, removeFile, addVolume, removeVolume, quarantine, release}
@@ -27,9 +28,9 @@ record TellsAll (t u : State) (cs : List Call) (e : State) : Type 0 where
   inside : Inside e t
   keeps : Inside u e
   files : (f : ℕ) → List·Memᴰ (change addFile f) cs → e .files f ≡ true
-  volumes : (v : ℕ) → List·Memᴰ (change addVolume v) cs → held e v ≡ true
+  volumes : (v : ℕ) → List·Memᴰ (change (addVolume (t .code)) v) cs → held e v ≡ true
   moved : (v : ℕ) → held u v ≡ true → List·Memᴰ (change quarantine v) cs → e .quarantined v ≡ true
-  quarantined : (v : ℕ) → Before (change addVolume v) (change quarantine v) cs → e .quarantined v ≡ true
+  quarantined : (v : ℕ) → Before (change (addVolume (t .code)) v) (change quarantine v) cs → e .quarantined v ≡ true
 
 tells-more : {t u w e : State} {c : Call} {cs : List Call} → TellsOne t u c w → TellsAll t w cs e → TellsAll t u (c ∷ cs) e
 unfolding Before
@@ -48,7 +49,7 @@ module _ (t : State) (ranged : Ranged t) where
   next-tells : (c : Call) (u : State) → Inside u t → Tells t c → TellsOne t u c (next u c)
   unfolding Tells
   next-tells (change addFile g) u h e = told-file t u h g e (rw (h .same-n) (ranged .files g e))
-  next-tells (change addVolume g) u h e = told-volume t u h g e (rw (h .same-n) (volume-ranged (t .volumes g) refl e))
+  next-tells (change (addVolume c) g) u h (z, e) = told-volume t u h c g z e (rw (h .same-n) (volume-ranged (t .volumes g) refl e))
     where
       volume-ranged : (b : Bool) → t .volumes g ≡ b → (b || t .quarantined g) ≡ true → isVolume (t .n) g ≡ true
       volume-ranged true p e = ranged .volumes g p
@@ -74,27 +75,29 @@ module _ (t : State) (ranged : Ranged t) where
       let one = next-tells c u h (only c (List·Memᴰ·head refl)) in
       tells-more one (after-tells cs (next u c) (one .inside) (λ d m. only d (List·Memᴰ·tail m)))
 
-  pub opened-told : (n : ℕ) (size : ℕ → ℕ) (tells : List Call) → t .n ≡ n → t .size ≡ size → TellsExactly t tells
-      → after (opened n size) tells ≡ t
-  opened-told n size tells en es told =
-      inside-same e t (after-ranged (opened n size) tells (opened-ranged n size)) ranged (a .inside)
+  pub opened-told : (d : Code) (n : ℕ) (size : ℕ → ℕ) (tells : List Call) → t .code ≡ d → t .n ≡ n → t .size ≡ size → TellsExactly t tells
+      → after (opened d n size) tells ≡ t
+  opened-told d n size tells ed en es told =
+      inside-same e t (after-ranged (opened d n size) tells (opened-ranged d n size)) ranged (a .inside)
       record {
         same-n = sym (a .inside .same-n);
         same-size = sym (a .inside .same-size);
+        same-code = sym (a .inside .same-code);
         files = λ f m. a .files f (told .files f m);
         volumes = λ v m. held-there v (t .volumes v) refl m;
         quarantined = λ v m. a .quarantined v (told .quarantined v m);
       }
     where
       e : State
-      e = after (opened n size) tells
+      e = after (opened d n size) tells
 
-      a : TellsAll t (opened n size) tells e
+      a : TellsAll t (opened d n size) tells e
       a =
-          after-tells tells (opened n size)
+          after-tells tells (opened d n size)
           record {
             same-n = sym en;
             same-size = sym es;
+            same-code = sym ed;
             files = λ f e. absurd (false≢true e);
             volumes = λ v e. absurd (false≢true e);
             quarantined = λ v e. absurd (false≢true e);
@@ -105,12 +108,12 @@ module _ (t : State) (ranged : Ranged t) where
       held-there v true p m = a .volumes v (told .volumes v p)
       held-there v false p m = or-second (e .volumes v) (e .quarantined v) (a .quarantined v (told .quarantined v m))
 
-pub after-told : (n : ℕ) (size : ℕ → ℕ) (cs tells : List Call) → TellsExactly (after (opened n size) cs) tells
-    → after (opened n size) tells ≡ after (opened n size) cs
-after-told n size cs tells told =
-    let same = after-same (opened n size) cs in
-    opened-told (after (opened n size) cs) (after-ranged (opened n size) cs (opened-ranged n size)) n size tells (same .same-n)
-    (same .same-size) told
+pub after-told : (d : Code) (n : ℕ) (size : ℕ → ℕ) (cs tells : List Call) → TellsExactly (after (opened d n size) cs) tells
+    → after (opened d n size) tells ≡ after (opened d n size) cs
+after-told d n size cs tells told =
+    let same = after-same (opened d n size) cs in
+    opened-told (after (opened d n size) cs) (after-ranged (opened d n size) cs (opened-ranged d n size)) d n size tells (same .same-code)
+    (same .same-n) (same .same-size) told
 
 -- ---- there are such calls
 
@@ -151,16 +154,16 @@ module _ (t : State) where
   callsFor zero = []
   callsFor (suc m) =
       withCall (t .files (suc m)) (change addFile (suc m))
-      (withCall (held t (suc m)) (change addVolume (suc m)) (withCall (t .quarantined (suc m)) (change quarantine (suc m)) (callsFor m)))
+      (withCall (held t (suc m)) (change (addVolume (t .code)) (suc m)) (withCall (t .quarantined (suc m)) (change quarantine (suc m)) (callsFor m)))
 
   calls-only : (m : ℕ) (c : Call) → List·Memᴰ c (callsFor m) → Tells t c
   unfolding callsFor Tells
   calls-only zero c h = absurd (List·Memᴰ·not-nil h)
   calls-only (suc m) c h =
       ⊎-elim (λ p. subst (Tells t) (sym (p .1)) (p .0))
-      (λ h. ⊎-elim (λ p. subst (Tells t) (sym (p .1)) (p .0))
+      (λ h. ⊎-elim (λ p. subst (Tells t) (sym (p .1)) (refl, p .0))
       (λ h. ⊎-elim (λ p. subst (Tells t) (sym (p .1)) (p .0)) (calls-only m c)
-      (call-cases (t .quarantined (suc m)) (change quarantine (suc m)) c _ h)) (call-cases (held t (suc m)) (change addVolume (suc m)) c _ h))
+      (call-cases (t .quarantined (suc m)) (change quarantine (suc m)) c _ h)) (call-cases (held t (suc m)) (change (addVolume (t .code)) (suc m)) c _ h))
       (call-cases (t .files (suc m)) (change addFile (suc m)) c _ h)
 
   -- what tells of the numbers before tells of all
@@ -176,21 +179,21 @@ module _ (t : State) where
     | no q ↦ calls-before m _ (calls-file m f h (omega arith) e)
   ]
 
-  calls-volume : (m v : ℕ) → 1 ≤ v → v ≤ m → held t v ≡ true → List·Memᴰ (change addVolume v) (callsFor m)
+  calls-volume : (m v : ℕ) → 1 ≤ v → v ≤ m → held t v ≡ true → List·Memᴰ (change (addVolume (t .code)) v) (callsFor m)
   unfolding callsFor
   calls-volume zero v h l e = absurd (omega arith)
   calls-volume (suc m) v h l e = elim (ℕ-discrete v (suc m)) [
-    | yes p ↦ call-more _ _ _ _ (Memᴰ·cast (ap (change addVolume) p) (call-in _ (change addVolume (suc m)) _ (ap (held t) (sym p) ∙ e)))
+    | yes p ↦ call-more _ _ _ _ (Memᴰ·cast (ap (change (addVolume (t .code))) p) (call-in _ (change (addVolume (t .code)) (suc m)) _ (ap (held t) (sym p) ∙ e)))
     | no q ↦ calls-before m _ (calls-volume m v h (omega arith) e)
   ]
 
-  calls-quarantined : (m v : ℕ) → 1 ≤ v → v ≤ m → t .quarantined v ≡ true → Before (change addVolume v) (change quarantine v) (callsFor m)
+  calls-quarantined : (m v : ℕ) → 1 ≤ v → v ≤ m → t .quarantined v ≡ true → Before (change (addVolume (t .code)) v) (change quarantine v) (callsFor m)
   unfolding callsFor
   calls-quarantined zero v h l e = absurd (omega arith)
   calls-quarantined (suc m) v h l e = elim (ℕ-discrete v (suc m)) [
     | yes p ↦
         before-later _ _ _ _ _
-        (before-first _ _ _ _ (or-second (t .volumes (suc m)) (t .quarantined (suc m)) (ap (t .quarantined) (sym p) ∙ e)) (ap (change addVolume) p)
+        (before-first _ _ _ _ (or-second (t .volumes (suc m)) (t .quarantined (suc m)) (ap (t .quarantined) (sym p) ∙ e)) (ap (change (addVolume (t .code))) p)
         (Memᴰ·cast (ap (change quarantine) p) (call-in _ (change quarantine (suc m)) _ (ap (t .quarantined) (sym p) ∙ e))))
     | no q ↦
         before-later _ _ _ _ _ (before-later _ _ _ _ _ (before-later _ _ _ _ _ (calls-quarantined m v h (omega arith) e)))
@@ -212,4 +215,4 @@ module _ (t : State) where
   )
 
 pub retold : Retold
-retold n size cs = calls-for (after (opened n size) cs) (after-ranged (opened n size) cs (opened-ranged n size))
+retold d n size cs = calls-for (after (opened d n size) cs) (after-ranged (opened d n size) cs (opened-ranged d n size))

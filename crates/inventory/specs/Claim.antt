@@ -1,23 +1,26 @@
--- Condition 3 of the tender, as document 02 (2026-10) has it: one claim about a whole list of calls on an inventory newly opened, over
--- any rule for the coefficients and then at document 01's; and what quarantine and release count as.
+-- Condition 3 of the tender, as document 02 (2026-10, 2026-13) has it: one claim about a whole list of calls on an inventory newly opened,
+-- shown once over any rule for the coefficients of each code, and then at the rules of the two codes; what quarantine and release count as; and
+-- which volumes are of the other code.
 --
---   Step rule s c r s₁        the code's reply to the call c on the inventory s is r, and s₁ is what it hands back: by the very
---                             definitions that the contracts of the calls cite
---   Run rule s cs rs e        the calls cs, each on the inventory last handed back, give the replies rs and leave e
---   Given rule s              an accepted opening and calls give the inventory s
---   Tells t c                 the call c adds a file or a volume that is present in t, or adds or sets aside a volume that is quarantined in t
+--   Step rules s c r s₁       the reply to the call c on the inventory s is r, and s₁ is what it hands back: by the very definitions that
+--                             the contracts of the calls cite
+--   Run rules s cs rs e       the calls cs, each on the inventory last handed back, give the replies rs and leave e
+--   Given rules s             an accepted opening and calls give the inventory s
+--   Tells t c                 the call c adds a file or a volume that is present in t, or adds or sets aside a volume that is quarantined in t;
+--                             a volume by the code of t
 --   Before c d cs             the call c stands in cs, and the call d after it
 --   TellsExactly t cs         the calls cs tell what is present and what is quarantined in t and nothing else, in whatever order
 --   sizeIn sizes f            the size of file f in the sizes of an opening
 --   roomOf c                  the room lent to the call c
 --   Elsewhere v c             the call c changes nothing of volume v
+--   AddsOther d n c           the call c adds a volume in range, of n files, of another code than d
 --   Agrees c r r′             the replies r and r′ to the call c are the same, but for how many volumes are quarantined
 --   AllAgree cs rs rs′        so are those to the calls cs
---   Condition rule n size o cs rs s     what holds after the calls cs on the inventory o opened for n files of these sizes
---   ConditionFor rule         it holds for every accepted opening and every list of calls
---   AnsweredFor rule, ExactlyGivenFor rule, QuarantineAsRemovalFor rule, ReleaseAsAddingFor rule, QuarantineRefusalsFor rule
---                             claims, over any rule
--- The claims:
+--   Condition rules d n size o cs rs s     what holds after the calls cs on the inventory o opened for the code d and n files of these sizes
+--   ConditionFor rules        it holds for every accepted opening and every list of calls
+--   AnsweredFor rules, ExactlyGivenFor rules, QuarantineAsRemovalFor rules, ReleaseAsAddingFor rules, QuarantineRefusalsFor rules,
+--   OtherCodeRefusedFor rules     claims, over any rules
+-- The claims, at the rules of the two codes:
 --   Condition3                the condition
 --   Answered                  every list of calls has its replies, on whatever inventory
 --   Retold                    what is present and what is quarantined can be told to a new inventory
@@ -25,6 +28,7 @@
 --   ReleaseAsAdding           after release of a volume every reply is that after its removal, which is accepted, and its addition
 --   QuarantineRefusals        what is refused of a volume in quarantine, and of one that is neither present nor in quarantine; and that one in
 --                             quarantine is released once, and removed once
+--   OtherCodeRefused          after any list of calls a call is refused with 29 exactly where it adds a volume in range of the other code
 --   OneReply                  the model has one reply at most to each call
 --   OneAnswer, OneCount       what a query and a count promise determines the answer and the room
 --   ExactlyGiven              calls give what isInventory says, and nothing else
@@ -36,7 +40,7 @@
 --   RecoverableAfter          after any list of calls it has exactly the missing files that are recoverable by the model
 --   RecoverableAsQueried      and exactly those that a query calls recoverable
 -- Runs of these calls are there (Answered), and so are accepted ones (proofs/Examples.antt), so no claim is empty.
--- Sentences in quotation marks are document 01's, document 02's (2026-10, 2026-11), or the tender's condition 3.
+-- Sentences in quotation marks are document 01's, document 02's (2026-10, 2026-11, 2026-13), or the tender's condition 3.
 -- Assumes nothing.
 use mathlib.Core.Path.{_≡_}
 use mathlib.Core.Logic.{_↔_, _⊎_, _≢_}
@@ -44,12 +48,13 @@ use mathlib.Core.Bool.{true, false, _||_}
 use mathlib.Core.List.{List, [], _∷_, List·Memᴰ}
 use Prim.Native.Nat.{ℕ, _≤_, _-_}
 use lib.ListN.{length, getD, replicate, take}
-use Rattle.parity.specs.Coefficient.{coefficient}
+use Rattle.codes.specs.declared.Code.{Code}
+use Rattle.parity.specs.Coefficient.{ruleOf}
 use Rattle.mul_add.specs.MulAdd.{mulAddAll}
 use Rattle.mul_add.specs.Once.{Once}
 use Rattle.parity.specs.Parity.{Contents, isFile}
 use Rattle.number_sets.specs.Sets.{member, Words}
-use Rattle.inventory.specs.Recoverable.{State, IsContents, Recoverable, IsWeights, place, present, ComeFrom}
+use Rattle.inventory.specs.Recoverable.{State, isVolume, IsContents, Recoverable, IsWeights, place, present, ComeFrom}
 use Rattle.inventory.specs.Model.{Call, change, count, query, Reply, reply, numbered, queried, opened, after, GivesAll}
 use Rattle.inventory.specs.Model.{addFile, removeFile, addVolume, removeVolume, quarantine, release}
 use Rattle.inventory.specs.Steps.{isInventory, zeros, openStep, changeStep, countReply, countStep, answerNumber}
@@ -60,12 +65,13 @@ use Rattle.inventory.specs.declared.Counted.{Counted}
 use Rattle.inventory.specs.declared.Answer.{Answer}
 use Rattle.inventory.specs.declared.recoverable.RecoverableFiles.{RecoverableFiles}
 
--- ---- "a new sheet told what is in hand and what is set aside": "told only what is in hand now, in whatever order"
+-- ---- "a new sheet told what is in hand and what is set aside": "told only what is in hand now, in whatever order"; "Its tally and its new sheet
+-- have the code of the opening"
 
 unfoldable pub Tells : State → Call → Type 0
 Tells t (change addFile f) = t .files f ≡ true
 Tells t (change removeFile f) = ⊥
-Tells t (change addVolume v) = (t .volumes v || t .quarantined v) ≡ true
+Tells t (change (addVolume c) v) = (c ≡ t .code) × ((t .volumes v || t .quarantined v) ≡ true)
 Tells t (change removeVolume v) = ⊥
 Tells t (change quarantine v) = t .quarantined v ≡ true
 Tells t (change release v) = ⊥
@@ -79,9 +85,9 @@ Before c d (b ∷ cs) = ((c ≡ b) × List·Memᴰ d cs) ⊎ Before c d cs
 pub record TellsExactly (t : State) (cs : List Call) : Type 0 where
   pub only : (c : Call) → List·Memᴰ c cs → Tells t c
   pub files : (f : ℕ) → t .files f ≡ true → List·Memᴰ (change addFile f) cs
-  pub volumes : (v : ℕ) → t .volumes v ≡ true → List·Memᴰ (change addVolume v) cs
+  pub volumes : (v : ℕ) → t .volumes v ≡ true → List·Memᴰ (change (addVolume (t .code)) v) cs
   -- what is set aside is noted, and later set aside
-  pub quarantined : (v : ℕ) → t .quarantined v ≡ true → Before (change addVolume v) (change quarantine v) cs
+  pub quarantined : (v : ℕ) → t .quarantined v ≡ true → Before (change (addVolume (t .code)) v) (change quarantine v) cs
 
 -- the sizes of an opening, by file number
 abbrev pub sizeIn : List ℕ → ℕ → ℕ
@@ -98,7 +104,7 @@ roomOf (query f room) = room
 unfoldable pub Elsewhere : ℕ → Call → Type 0
 Elsewhere v (change addFile f) = Unit {0}
 Elsewhere v (change removeFile f) = Unit {0}
-Elsewhere v (change addVolume u) = u ≢ v
+Elsewhere v (change (addVolume c) u) = u ≢ v
 Elsewhere v (change removeVolume u) = u ≢ v
 Elsewhere v (change quarantine u) = u ≢ v
 Elsewhere v (change release u) = u ≢ v
@@ -119,14 +125,26 @@ AllAgree (c ∷ cs) [] rs′ = ⊥
 AllAgree (c ∷ cs) (r ∷ rs) [] = ⊥
 AllAgree (c ∷ cs) (r ∷ rs) (r′ ∷ rs′) = Agrees c r r′ × AllAgree cs rs rs′
 
-module _ (rule : ℕ → ℕ → ℕ) where
-  -- ---- what the code does
+-- ---- "29 a volume of the other code noted, after 10": in range; "before 27 and 11": whether it is in hand, set aside, or neither
+
+unfoldable pub AddsOther : Code → ℕ → Call → Type 0
+AddsOther d n (change addFile f) = ⊥
+AddsOther d n (change removeFile f) = ⊥
+AddsOther d n (change (addVolume c) v) = (isVolume n v ≡ true) × (c ≢ d)
+AddsOther d n (change removeVolume v) = ⊥
+AddsOther d n (change quarantine v) = ⊥
+AddsOther d n (change release v) = ⊥
+AddsOther d n count = ⊥
+AddsOther d n (query f room) = ⊥
+
+module _ (rules : Code → ℕ → ℕ → ℕ) where
+  -- ---- what the calls do
 
   unfoldable pub Step : Inventory → Call → Reply → Inventory → Type 0
   Step s (change c k) r s₁ = (r ≡ numbered (changeStep c s k .number)) × (s₁ ≡ changeStep c s k .next)
   Step s count r s₁ = (r ≡ countStep s) × (s₁ ≡ s)
   Step s (query f room) r s₁ =
-      (a : Answer) × (room′ : List ℕ) × Queried rule s f room a room′ × (r ≡ queried (answerNumber a) room′) × (s₁ ≡ s)
+      (a : Answer) × (room′ : List ℕ) × Queried rules s f room a room′ × (r ≡ queried (answerNumber a) room′) × (s₁ ≡ s)
 
   -- "Each later call gets the sheet last handed back"
   unfoldable pub Run : Inventory → List Call → List Reply → Inventory → Type 0
@@ -137,7 +155,9 @@ module _ (rule : ℕ → ℕ → ℕ) where
 
   -- what "opening and accepted calls" could have given
   abbrev pub Given : Inventory → Type 0
-  Given s = (n : ℕ) × (sizes : List ℕ) × (cs : List Call) × (rs : List Reply) × (openStep n sizes .number ≡ 0) × Run (openStep n sizes .next) cs rs s
+  Given s =
+      (d : Code) × (n : ℕ) × (sizes : List ℕ) × (cs : List Call) × (rs : List Reply)
+      × (openStep d n sizes .number ≡ 0) × Run (openStep d n sizes .next) cs rs s
 
   abbrev pub AnsweredFor : Type 0
   AnsweredFor = (s : Inventory) (cs : List Call) → (rs : List Reply) × (e : Inventory) × Run s cs rs e
@@ -148,34 +168,35 @@ module _ (rule : ℕ → ℕ → ℕ) where
 
   -- ---- the condition
 
-  pub record Condition (n : ℕ) (size : ℕ → ℕ) (o : Inventory) (cs : List Call) (rs : List Reply) (s : Inventory) : Type 0 where
+  pub record Condition (d : Code) (n : ℕ) (size : ℕ → ℕ) (o : Inventory) (cs : List Call) (rs : List Reply) (s : Inventory) : Type 0 where
     -- "each answer, and each byte of the room lent to an ask, is the one that the outline's tally gives"
-    pub replies : GivesAll rule (opened n size) cs rs
+    pub replies : GivesAll rules (opened d n size) cs rs
     -- "After the list, the sheet answers every further call as a new sheet of the same sizes told only what is in hand now,
     -- in whatever order": "a new sheet told what is in hand and what is set aside, and that is condition 3's new sheet"
-    pub afterwards : (tells : List Call) → TellsExactly (after (opened n size) cs) tells
+    pub afterwards : (tells : List Call) → TellsExactly (after (opened d n size) cs) tells
         → (rt : List Reply) (s′ : Inventory) → Run o tells rt s′
         → (more : List Call) (r r′ : List Reply) (e e′ : Inventory) → Run s more r e → Run s′ more r′ e′ → r ≡ r′
     -- "A file not in hand, asked about with room for the recipe, is called rebuildable exactly when every two sets of contents
-    -- with the listed sizes, alike in the files in hand and in the parity of the volumes in hand, are alike in that file"
-    pub exactly : (f : ℕ) → isFile n f ≡ true → after (opened n size) cs .files f ≡ false
+    -- with the listed sizes, alike in the files in hand and in the parity of the volumes in hand, are alike in that file": the parity by the
+    -- rule of the opening's code
+    pub exactly : (f : ℕ) → isFile n f ≡ true → after (opened d n size) cs .files f ≡ false
         → (room : List ℕ) → 255 ≤ length room → (number : ℕ) (room′ : List ℕ) (e : Inventory) → Step s (query f room) (queried number room′) e
-        → (number ≡ 0) ↔ Recoverable rule (after (opened n size) cs) f
+        → (number ≡ 0) ↔ Recoverable (rules d) (after (opened d n size) cs) f
     -- "If the pieces come from one set, following the sheet's recipe gives that file's bytes in it."
-    pub follows : (f : ℕ) → isFile n f ≡ true → after (opened n size) cs .files f ≡ false
+    pub follows : (f : ℕ) → isFile n f ≡ true → after (opened d n size) cs .files f ≡ false
         → (room room′ : List ℕ) (e : Inventory) → Step s (query f room) (queried 0 room′) e
-        → (X : Contents) → IsContents (after (opened n size) cs) X
-        → (fragment : ℕ → List ℕ) → ComeFrom rule (after (opened n size) cs) X fragment
-        → (ks : List ℕ) → Once (present (after (opened n size) cs)) ks
+        → (X : Contents) → IsContents (after (opened d n size) cs) X
+        → (fragment : ℕ → List ℕ) → ComeFrom (rules d) (after (opened d n size) cs) X fragment
+        → (ks : List ℕ) → Once (present (after (opened d n size) cs)) ks
         → mulAddAll (place (take 255 room′)) fragment ks (replicate (size f) 0) ≡ X f
 
   -- "For every list of calls on it from there (noting or withdrawing a file, noting or withdrawing a volume, counting, asking;
-  -- refused ones too)"; "Condition 3's list of calls holds setting aside and taking back too"
+  -- refused ones too)"; "Condition 3's list of calls holds setting aside and taking back too"; "condition 3 is shown once over the factor rule"
   abbrev pub ConditionFor : Type 0
   ConditionFor =
-      (n : ℕ) (sizes : List ℕ) → openStep n sizes .number ≡ 0
-      → (cs : List Call) (rs : List Reply) (s : Inventory) → Run (openStep n sizes .next) cs rs s
-      → Condition n (sizeIn sizes) (openStep n sizes .next) cs rs s
+      (d : Code) (n : ℕ) (sizes : List ℕ) → openStep d n sizes .number ≡ 0
+      → (cs : List Call) (rs : List Reply) (s : Inventory) → Run (openStep d n sizes .next) cs rs s
+      → Condition d n (sizeIn sizes) (openStep d n sizes .next) cs rs s
 
   -- ---- quarantine and release
 
@@ -194,7 +215,7 @@ module _ (rule : ℕ → ℕ → ℕ) where
       (s : Inventory) → Given s
       → (v : ℕ) (more : List Call) (j k : ℕ) (r r′ : List Reply) (e e′ : Inventory)
       → Run s (change release v ∷ more) (numbered 0 ∷ r) e
-      → Run s (change removeVolume v ∷ change addVolume v ∷ more) (numbered j ∷ numbered k ∷ r′) e′
+      → Run s (change removeVolume v ∷ change (addVolume (s .code)) v ∷ more) (numbered j ∷ numbered k ∷ r′) e′
       → (j ≡ 0) × (k ≡ 0) × (r ≡ r′)
 
   -- a volume that is set aside is noted, and set aside again; one that is withdrawn is set aside, and taken back; one that is set aside is
@@ -203,7 +224,7 @@ module _ (rule : ℕ → ℕ → ℕ) where
   QuarantineRefusalsFor =
       (s : Inventory) → Given s
       → (v : ℕ) (r r′ : Reply) (e : Inventory)
-      → (Run s (change quarantine v ∷ change addVolume v ∷ change quarantine v ∷ []) (numbered 0 ∷ r ∷ r′ ∷ []) e
+      → (Run s (change quarantine v ∷ change (addVolume (s .code)) v ∷ change quarantine v ∷ []) (numbered 0 ∷ r ∷ r′ ∷ []) e
       → (r ≡ numbered 27) × (r′ ≡ numbered 11))
       × (Run s (change removeVolume v ∷ change quarantine v ∷ change release v ∷ []) (numbered 0 ∷ r ∷ r′ ∷ []) e
       → (r ≡ numbered 11) × (r′ ≡ numbered 11))
@@ -212,97 +233,112 @@ module _ (rule : ℕ → ℕ → ℕ) where
       × (Run s (change quarantine v ∷ change removeVolume v ∷ change removeVolume v ∷ []) (numbered 0 ∷ r ∷ r′ ∷ []) e
       → (r ≡ numbered 0) × (r′ ≡ numbered 11))
 
+  -- ---- the other code
+
+  -- by the code and the number of files of the opening; whatever is in hand or set aside
+  abbrev pub OtherCodeRefusedFor : Type 0
+  OtherCodeRefusedFor =
+      (d : Code) (n : ℕ) (sizes : List ℕ) → openStep d n sizes .number ≡ 0
+      → (cs : List Call) (rs : List Reply) (s : Inventory) → Run (openStep d n sizes .next) cs rs s
+      → (c : Call) (k : ℕ) (values : List ℕ) (e : Inventory) → Step s c (reply k values) e → (k ≡ 29) ↔ AddsOther d n c
+
 -- ---- the claims
 
 -- proved: proofs/Condition.antt, `condition`
 abbrev pub Condition3 : Type 0
-Condition3 = ConditionFor coefficient
+Condition3 = ConditionFor ruleOf
 
 -- what Condition3 speaks of is there: the runs
 -- proved: proofs/Answered.antt, `answered`
 abbrev pub Answered : Type 0
-Answered = AnsweredFor coefficient
+Answered = AnsweredFor ruleOf
 
 -- and the calls that tell what is present and what is quarantined
 -- proved: proofs/Told.antt, `retold`
 abbrev pub Retold : Type 0
-Retold = (n : ℕ) (size : ℕ → ℕ) (cs : List Call) → (tells : List Call) × TellsExactly (after (opened n size) cs) tells
+Retold = (d : Code) (n : ℕ) (size : ℕ → ℕ) (cs : List Call) → (tells : List Call) × TellsExactly (after (opened d n size) cs) tells
 
 -- "setting aside counts as withdrawal for every answer of condition 3 and for the count"
 -- proved: proofs/Quarantine.antt, `quarantine-as-removal`
 abbrev pub QuarantineAsRemoval : Type 0
-QuarantineAsRemoval = QuarantineAsRemovalFor coefficient
+QuarantineAsRemoval = QuarantineAsRemovalFor ruleOf
 
 -- "taking it back counts as noting"; "Withdrawing a set-aside volume is accepted and removes it: it is then neither in hand nor set aside."
 -- proved: proofs/Quarantine.antt, `release-as-adding`
 abbrev pub ReleaseAsAdding : Type 0
-ReleaseAsAdding = ReleaseAsAddingFor coefficient
+ReleaseAsAdding = ReleaseAsAddingFor ruleOf
 
 -- "27 noted while set aside; 11 for setting aside what is not in hand, or taking back what is not set aside"; "Withdrawing a set-aside volume is
 -- accepted and removes it"
 -- proved: proofs/Quarantine.antt, `quarantine-refusals`
 abbrev pub QuarantineRefusals : Type 0
-QuarantineRefusals = QuarantineRefusalsFor coefficient
+QuarantineRefusals = QuarantineRefusalsFor ruleOf
+
+-- "29 a volume of the other code noted, after 10, before 27 and 11"; an inventory that takes volumes of both codes, or that forgets its code, is
+-- excluded
+-- proved: proofs/OtherCode.antt, `other-code-refused`
+abbrev pub OtherCodeRefused : Type 0
+OtherCodeRefused = OtherCodeRefusedFor ruleOf
 
 -- proved: proofs/Calls.antt, `one-reply`
 abbrev pub OneReply : Type 0
 OneReply =
     (t : State) → t .n ≤ 254
-    → (cs : List Call) (r r′ : List Reply) → GivesAll coefficient t cs r → GivesAll coefficient t cs r′ → r ≡ r′
+    → (cs : List Call) (r r′ : List Reply) → GivesAll ruleOf t cs r → GivesAll ruleOf t cs r′ → r ≡ r′
 
 -- proved: proofs/Determined.antt, `one-answer`
 abbrev pub OneAnswer : Type 0
 OneAnswer =
     (s : Inventory) (f : ℕ) (room : List ℕ) (r r′ : Answer) (a b : List ℕ)
-    → Queried coefficient s f room r a → Queried coefficient s f room r′ b → (r ≡ r′) × (a ≡ b)
+    → Queried ruleOf s f room r a → Queried ruleOf s f room r′ b → (r ≡ r′) × (a ≡ b)
 
 -- proved: proofs/Determined.antt, `one-count`
 abbrev pub OneCount : Type 0
 OneCount = (s : Inventory) (r r′ : Counted) → countReply r ≡ countStep s → countReply r′ ≡ countStep s → r ≡ r′
 
--- of an inventory whose sets are words, as those in the code are; so an opening that refuses all is excluded
+-- of an inventory whose sets are words, as those of each call are; so an opening that refuses all is excluded
 -- proved: proofs/Reachable.antt, `exactly-given`
 abbrev pub ExactlyGiven : Type 0
-ExactlyGiven = ExactlyGivenFor coefficient
+ExactlyGiven = ExactlyGivenFor ruleOf
 
 -- "Every call refuses with 10, first of all, a sheet that opening and accepted calls could not have given."
 -- proved: proofs/Refused.antt, `others-refused`
 abbrev pub OthersRefused : Type 0
 OthersRefused =
     (s : Inventory) → isInventory s ≡ false
-    → (c : Call) (r : Reply) (s₁ : Inventory) → Step coefficient s c r s₁ → (r ≡ reply 10 (roomOf c)) × (s₁ ≡ s)
+    → (c : Call) (r : Reply) (s₁ : Inventory) → Step ruleOf s c r s₁ → (r ≡ reply 10 (roomOf c)) × (s₁ ≡ s)
 
 -- "every part of it is 0, and every call refuses that sheet with 10"
 -- proved: proofs/Refused.antt, `zeros-refused`
 abbrev pub ZerosRefused : Type 0
-ZerosRefused = (c : Call) (r : Reply) (s₁ : Inventory) → Step coefficient zeros c r s₁ → (r ≡ reply 10 (roomOf c)) × (s₁ ≡ zeros)
+ZerosRefused = (c : Call) (r : Reply) (s₁ : Inventory) → Step ruleOf zeros c r s₁ → (r ≡ reply 10 (roomOf c)) × (s₁ ≡ zeros)
 
 -- "An empty file not in hand is always rebuildable", "its own recipe is all zeros"
 -- proved: proofs/EmptyFiles.antt, `empty-file`
 abbrev pub EmptyRecoverable : Type 0
 EmptyRecoverable =
     (t : State) (f : ℕ) → isFile (t .n) f ≡ true → t .files f ≡ false → t .size f ≡ 0
-    → Recoverable coefficient t f × IsWeights coefficient t f (replicate 255 0)
+    → Recoverable (ruleOf (t .code)) t f × IsWeights (ruleOf (t .code)) t f (replicate 255 0)
 
 -- ---- the recoverable files at once (document 02, 2026-11)
 
 -- proved: proofs/RecoverableAnswers.antt, `one-set`
 abbrev pub OneSet : Type 0
-OneSet = (s : Inventory) (r r′ : RecoverableFiles) → RecoverableSet coefficient s r → RecoverableSet coefficient s r′ → r ≡ r′
+OneSet = (s : Inventory) (r r′ : RecoverableFiles) → RecoverableSet ruleOf s r → RecoverableSet ruleOf s r′ → r ≡ r′
 
 -- "the file numbers that are rebuildable now"; a set that is always empty, or that has a file in hand, is excluded
 -- proved: proofs/RecoverableAnswers.antt, `recoverable-after`
 abbrev pub RecoverableAfter : Type 0
 RecoverableAfter =
-    (n : ℕ) (sizes : List ℕ) → openStep n sizes .number ≡ 0
-    → (cs : List Call) (rs : List Reply) (s : Inventory) → Run coefficient (openStep n sizes .next) cs rs s
-    → (r : RecoverableFiles) → RecoverableSet coefficient s r
-    → (f : ℕ) → (member (r .files) f ≡ true) ↔ RecoverableNow coefficient (after (opened n (sizeIn sizes)) cs) f
+    (d : Code) (n : ℕ) (sizes : List ℕ) → openStep d n sizes .number ≡ 0
+    → (cs : List Call) (rs : List Reply) (s : Inventory) → Run ruleOf (openStep d n sizes .next) cs rs s
+    → (r : RecoverableFiles) → RecoverableSet ruleOf s r
+    → (f : ℕ) → (member (r .files) f ≡ true) ↔ RecoverableNow (ruleOf d) (after (opened d n (sizeIn sizes)) cs) f
 
 -- of any inventory, with room for the weights
 -- proved: proofs/RecoverableAnswers.antt, `as-queried`
 abbrev pub RecoverableAsQueried : Type 0
 RecoverableAsQueried =
-    (s : Inventory) (r : RecoverableFiles) → RecoverableSet coefficient s r
-    → (f : ℕ) (room : List ℕ) → 255 ≤ length room → (a : Answer) (room′ : List ℕ) → Queried coefficient s f room a room′
+    (s : Inventory) (r : RecoverableFiles) → RecoverableSet ruleOf s r
+    → (f : ℕ) (room : List ℕ) → 255 ≤ length room → (a : Answer) (room′ : List ℕ) → Queried ruleOf s f room a room′
     → (member (r .files) f ≡ true) ↔ (answerNumber a ≡ 0)

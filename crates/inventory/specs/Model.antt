@@ -1,9 +1,10 @@
--- The model (document 01, "The sheet": the tally; document 02, 2026-10): what each call answers, worked out from the opening and the calls alone.
+-- The model (document 01, "The sheet": the tally; document 02, 2026-10, 2026-13): what each call answers, worked out from the opening and the
+-- calls alone.
 --
---   Change                     what adding, removing, quarantine and release change
+--   Change                     what adding, removing, quarantine and release change; adding a volume names its code
 --   Call, Reply                the calls, and what comes back: a number and values
 --   numbered k, counts f v q, queried k room     the replies to a change, a count, a query
---   opened n size              a set of n files of these sizes, nothing present
+--   opened c n size            a set of n files of these sizes, nothing present, opened for the code c
 --   withFiles t s              the state t with the files of the set s present
 --   withVolumes t s q          the state t with the volumes of the set s present, and those of the set q quarantined
 --   insert f s, remove f s     the set s with f, without f
@@ -13,8 +14,8 @@
 --   after t cs                 the state after the calls cs
 --   GivesMissing rule t f room r      the model's reply to a query for the missing file f is r
 --   GivesQuery rule t f room i h r    that to any query, where i says whether f is in range, h whether it is present
---   Gives rule t c r           the model's reply to the call c is r
---   GivesAll rule t cs rs      its replies to the calls cs, one after another, are rs
+--   Gives rules t c r          the model's reply to the call c is r, the rule for the coefficients being that of the state's code
+--   GivesAll rules t cs rs     its replies to the calls cs, one after another, are rs
 -- Assumes nothing.
 use mathlib.Core.Path.{_≡_}
 use mathlib.Core.Bool.{Bool, true, false, not, cond, _&&_, _||_}
@@ -24,13 +25,17 @@ use lib.Dec.{eqb}
 use lib.ListN.{length, drop}
 use Rattle.parity.specs.Parity.{isFile}
 use Rattle.number_sets.specs.Sets.{sizeBelow}
+use Rattle.codes.specs.Codes.{same}
+use Rattle.codes.specs.declared.Code.{Code}
 use Rattle.inventory.specs.Recoverable.{State, isVolume, Recoverable, IsWeights}
 
 -- ---- calls and replies
 
--- "note or withdraw a file, note or withdraw a volume", "setting aside and taking back too" (2026-10)
+-- "note or withdraw a file, note or withdraw a volume", "setting aside and taking back too" (2026-10), "noting a volume names its code" (2026-13)
 pub data Change : Type 0 where
-  addFile removeFile addVolume removeVolume quarantine release : Change
+  addFile removeFile : Change
+  addVolume : Code → Change
+  removeVolume quarantine release : Change
 
 -- "each call with its lent room and its arguments other than the sheet"
 pub data Call : Type 0 where
@@ -55,15 +60,15 @@ queried k room = reply k room
 
 -- ---- states
 
--- "n, the sizes, and which files and volumes are in hand, none at first"
-abbrev pub opened : ℕ → (ℕ → ℕ) → State
-opened n size = record { n = n; size = size; files = λ f. false; volumes = λ v. false; quarantined = λ v. false }
+-- "n, the sizes, and which files and volumes are in hand, none at first"; "A sheet is opened for one code or the other"
+abbrev pub opened : Code → ℕ → (ℕ → ℕ) → State
+opened c n size = record { n = n; size = size; files = λ f. false; volumes = λ v. false; quarantined = λ v. false; code = c }
 
 abbrev pub withFiles : State → (ℕ → Bool) → State
-withFiles t s = record { n = t .n; size = t .size; files = s; volumes = t .volumes; quarantined = t .quarantined }
+withFiles t s = record { n = t .n; size = t .size; files = s; volumes = t .volumes; quarantined = t .quarantined; code = t .code }
 
 abbrev pub withVolumes : State → (ℕ → Bool) → (ℕ → Bool) → State
-withVolumes t s q = record { n = t .n; size = t .size; files = t .files; volumes = s; quarantined = q }
+withVolumes t s q = record { n = t .n; size = t .size; files = t .files; volumes = s; quarantined = q; code = t .code }
 
 abbrev pub insert : ℕ → (ℕ → Bool) → ℕ → Bool
 insert f s g = eqb g f || s g
@@ -78,18 +83,19 @@ remove f s g = not (eqb g f) && s g
 unfoldable pub changed : Change → State → ℕ → State
 changed addFile t f = withFiles t (insert f (t .files))
 changed removeFile t f = withFiles t (remove f (t .files))
-changed addVolume t v = withVolumes t (insert v (t .volumes)) (t .quarantined)
+changed (addVolume c) t v = withVolumes t (insert v (t .volumes)) (t .quarantined)
 changed removeVolume t v = withVolumes t (remove v (t .volumes)) (remove v (t .quarantined))
 changed quarantine t v = withVolumes t (remove v (t .volumes)) (insert v (t .quarantined))
 changed release t v = withVolumes t (insert v (t .volumes)) (remove v (t .quarantined))
 
 -- "Note file f: 10 if f is not 1 to n, 11 if f is in hand; else accepted", "Withdraw file f: 10 the same, 11 if f is not in hand; else
 -- accepted", "Volume v: the same, with 1 to 255 - n for its range"; "27 noted while set aside; 11 for setting aside what is not in hand, or
--- taking back what is not set aside; number checks first", "Withdrawing a set-aside volume is accepted"
+-- taking back what is not set aside; number checks first", "Withdrawing a set-aside volume is accepted"; "29 a volume of the other code noted,
+-- after 10, before 27 and 11" (2026-13)
 unfoldable pub numberOf : State → Change → ℕ → ℕ
 numberOf t addFile f = cond (isFile (t .n) f) (cond (t .files f) 11 0) 10
 numberOf t removeFile f = cond (isFile (t .n) f) (cond (t .files f) 0 11) 10
-numberOf t addVolume v = cond (isVolume (t .n) v) (cond (t .quarantined v) 27 (cond (t .volumes v) 11 0)) 10
+numberOf t (addVolume c) v = cond (isVolume (t .n) v) (cond (same c (t .code)) (cond (t .quarantined v) 27 (cond (t .volumes v) 11 0)) 29) 10
 numberOf t removeVolume v = cond (isVolume (t .n) v) (cond (t .volumes v || t .quarantined v) 0 11) 10
 numberOf t quarantine v = cond (isVolume (t .n) v) (cond (t .volumes v) 0 11) 10
 numberOf t release v = cond (isVolume (t .n) v) (cond (t .quarantined v) 0 11) 10
@@ -121,10 +127,11 @@ module _ (rule : ℕ → ℕ → ℕ) where
   GivesQuery t f room true true r = r ≡ queried 13 room
   GivesQuery t f room true false r = GivesMissing t f room r
 
+module _ (rules : Code → ℕ → ℕ → ℕ) where
   unfoldable pub Gives : State → Call → Reply → Type 0
   Gives t (change c k) r = r ≡ numbered (numberOf t c k)
   Gives t count r = r ≡ counts (sizeBelow 256 (t .files)) (sizeBelow 256 (t .volumes)) (sizeBelow 256 (t .quarantined))
-  Gives t (query f room) r = GivesQuery t f room (isFile (t .n) f) (t .files f) r
+  Gives t (query f room) r = GivesQuery (rules (t .code)) t f room (isFile (t .n) f) (t .files f) r
 
   unfoldable pub GivesAll : State → List Call → List Reply → Type 0
   GivesAll t [] [] = Unit {0}

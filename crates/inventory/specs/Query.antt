@@ -1,8 +1,9 @@
--- What a query does (document 01, "The sheet": ask), and the parts that it is made of, over any rule for the coefficients.
+-- What a query does (document 01, "The sheet": ask), over any rule for the coefficients of each code, and the parts that it is made of, over
+-- any rule.
 --
 --   stateOf s size          the state that an inventory stands for, of files of these sizes
 --   Matches s size          a size is 0 exactly where the inventory has the file as empty
---   Queried rule s f room r room′     the answer r to a query, and the room after it
+--   Queried rules s f room r room′     the answer r to a query, and the room after it, by the rule of the inventory's code
 --   Found rule n files volumes nonempty f found ws     whether weights bring file f back, and these weights by volume number
 --   Written rule n files ws room room′ p     the first p weights of n files and the volumes, in the room
 -- Assumes nothing.
@@ -16,6 +17,7 @@ use lib.ListN.{length, getD}
 use Rattle.parity.specs.Parity.{isFile}
 use Rattle.number_sets.specs.Sets.{member}
 use Rattle.volume_weights.specs.Weights.{Solved, fileWeight}
+use Rattle.codes.specs.declared.Code.{Code}
 use Rattle.inventory.specs.Recoverable.{State}
 use Rattle.inventory.specs.Model.{query, queried, Gives}
 use Rattle.inventory.specs.Steps.{isInventory, answerNumber}
@@ -32,18 +34,19 @@ stateOf s size = record {
   files = member (s .files);
   volumes = member (s .volumes);
   quarantined = member (s .quarantined);
+  code = s .code;
 }
 
 abbrev pub Matches : Inventory → (ℕ → ℕ) → Type 0
 Matches s size = (f : ℕ) → isFile (s .n) f ≡ true → member (s .nonempty) f ≡ leb 1 (size f)
 
 -- the number of the answer and the room, as document 01 has them
-pub record Queried (rule : ℕ → ℕ → ℕ) (s : Inventory) (f : ℕ) (room : List ℕ) (r : Answer) (room′ : List ℕ) : Type 0 where
+pub record Queried (rules : Code → ℕ → ℕ → ℕ) (s : Inventory) (f : ℕ) (room : List ℕ) (r : Answer) (room′ : List ℕ) : Type 0 where
   -- "Every call refuses with 10, first of all, a sheet that opening and accepted calls could not have given"
   pub first : isInventory s ≡ false → queried (answerNumber r) room′ ≡ queried 10 room
   -- else as the model gives it, for all sizes that the inventory can stand for
   pub as-model : isInventory s ≡ true
-      → (size : ℕ → ℕ) → Matches s size → Gives rule (stateOf s size) (query f room) (queried (answerNumber r) room′)
+      → (size : ℕ → ℕ) → Matches s size → Gives rules (stateOf s size) (query f room) (queried (answerNumber r) room′)
   -- a refusal is 10 or 14, so the number tells the answer
   pub refusal : (k : ℕ) → r ≡ answer.Refused k → (k ≡ 10) ⊎ (k ≡ 14)
 

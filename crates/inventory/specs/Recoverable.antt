@@ -1,7 +1,7 @@
 -- When a missing file comes back, and by which weights (document 01, "The sheet"), over any rule for the coefficients.
 --
---   State                       what is known of a set of n files: their sizes, which files and which volumes are present, and which
---                               volumes are quarantined (set aside), which are not present
+--   State                       what is known of a set of n files: their sizes, which files and which volumes are present, which
+--                               volumes are quarantined (set aside), which are not present, and the code of the volumes
 --   isVolume n v                whether v is the number of a volume of n files
 --   IsContents t X              the bytes of X are as many as the sizes say
 --   Alike rule t X Y            X and Y have the same bytes in the files present, and the same parity in the volumes present
@@ -26,14 +26,17 @@ use Rattle.computed_tests.specs.Numbers.{oneTo}
 use Rattle.gf256.specs.Polynomial.{sumBelow}
 use Rattle.gf256.specs.Field.{product}
 use Rattle.parity.specs.Parity.{Contents, isFile, greatest, parityByte}
+use Rattle.codes.specs.declared.Code.{Code}
 
--- "It holds n, the sizes, and which files and volumes are in hand", "its tally keeps .. what is set aside" (2026-10)
+-- "It holds n, the sizes, and which files and volumes are in hand", "its tally keeps .. what is set aside" (2026-10), "Its tally and its new
+-- sheet have the code of the opening" (2026-13)
 pub record State : Type 0 where
   pub n : ℕ
   pub size : ℕ → ℕ
   pub files : ℕ → Bool
   pub volumes : ℕ → Bool
   pub quarantined : ℕ → Bool
+  pub code : Code
 
 -- "volume numbers 1 to 255 - n"
 abbrev pub isVolume : ℕ → ℕ → Bool

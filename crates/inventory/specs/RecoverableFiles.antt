@@ -1,7 +1,7 @@
--- Which missing files are recoverable now (document 02, 2026-11), over any rule for the coefficients.
+-- Which missing files are recoverable now (document 02, 2026-11), over any rule for the coefficients, or for those of each code.
 --
 --   RecoverableNow rule t f      file f of the state t is missing, and recoverable
---   RecoverableSet rule s r      r is the set of these files of the inventory s, or its refusal
+--   RecoverableSet rules s r     r is the set of these files of the inventory s, by the rule of its code, or its refusal
 -- Assumes nothing.
 use mathlib.Core.Path.{_≡_}
 use mathlib.Core.Logic.{_↔_}
@@ -10,6 +10,7 @@ use Prim.Native.Nat.{ℕ}
 use lib.ListN.{replicate}
 use Rattle.parity.specs.Parity.{isFile}
 use Rattle.number_sets.specs.Sets.{member, Words}
+use Rattle.codes.specs.declared.Code.{Code}
 use Rattle.inventory.specs.Recoverable.{State, Recoverable}
 use Rattle.inventory.specs.Steps.{isInventory}
 use Rattle.inventory.specs.Query.{stateOf, Matches}
@@ -20,12 +21,12 @@ use Rattle.inventory.specs.declared.recoverable.RecoverableFiles.{Recove
 abbrev pub RecoverableNow : (ℕ → ℕ → ℕ) → State → ℕ → Type 0
 RecoverableNow rule t f = (isFile (t .n) f ≡ true) × (t .files f ≡ false) × Recoverable rule t f
 
-pub record RecoverableSet (rule : ℕ → ℕ → ℕ) (s : Inventory) (r : RecoverableFiles) : Type 0 where
+pub record RecoverableSet (rules : Code → ℕ → ℕ → ℕ) (s : Inventory) (r : RecoverableFiles) : Type 0 where
   -- "Every call refuses with 10, first of all, a sheet that opening and accepted calls could not have given"
   pub first : isInventory s ≡ false → r ≡ record { files = replicate 4 0; number = 10 }
   pub accepted : isInventory s ≡ true → r .number ≡ 0
   -- of all sizes that the inventory can stand for
   pub exactly : isInventory s ≡ true → (size : ℕ → ℕ) → Matches s size
-      → (f : ℕ) → (member (r .files) f ≡ true) ↔ RecoverableNow rule (stateOf s size) f
+      → (f : ℕ) → (member (r .files) f ≡ true) ↔ RecoverableNow (rules (s .code)) (stateOf s size) f
   -- so these words have no other bit
   pub words : Words (r .files)

@@ -1,4 +1,5 @@
-// What of a set of files and parity volumes is present, and which missing files come back (document 01, "The sheet"; document 02, 2026-10).
+// What of a set of files and parity volumes is present, and which missing files come back (document 01, "The sheet"; document 02, 2026-10,
+// 2026-13).
 ghost use mathlib.Core.Path.{_≡_};
 ghost use mathlib.Core.Bool.{_||_};
 ghost use Rattle.inventory.specs.Model.{addFile, removeFile, addVolume, removeVolume, quarantine, release};
@@ -9,6 +10,8 @@ mod query;
 mod ranges;
 mod recoverable;
 
+use codes::Code;
+use codes::same;
 use number_sets::has;
 use number_sets::insert;
 use number_sets::remove;
@@ -20,18 +23,20 @@ pub use recoverable::RecoverableFiles;
 use refusals::ALREADY;
 use refusals::MAX_FILE_SIZE;
 use refusals::MAX_FILES;
+use refusals::OTHER_CODE;
 use refusals::OUT_OF_RANGE;
 use refusals::QUARANTINED;
 use refusals::SIZE;
 
 // The number of files, and four sets of numbers, one bit each: the files present, the volumes present, the files of size 1 or
-// more, and the volumes in quarantine, which are not present. Number k is bit k mod 64 of word k div 64.
+// more, and the volumes in quarantine, which are not present. Number k is bit k mod 64 of word k div 64. Last the code of the volumes.
 pub struct Inventory {
     pub n: u64,
     pub files: [u64; 4],
     pub volumes: [u64; 4],
     pub nonempty: [u64; 4],
     pub quarantined: [u64; 4],
+    pub code: Code,
 }
 
 // The next inventory, and 0 or the number of the refusal.
@@ -56,10 +61,10 @@ pub enum Answer {
 
 // Every call but `open` refuses with 10, first of all, an inventory that no calls give.
 impl Inventory {
-    // An inventory of n files of these sizes, nothing present: 10 unless n is 1 to 254 and there are n sizes, then 1 for a
-    // size above the limit.
-    pub fn open(n: u64, sizes: &[u64]) -> Outcome
-        ensures { λ r. ⌜ r ≡ openStep n (now (sizes .entry)) ⌝ }
+    // An inventory of n files of these sizes, nothing present, for volumes of this code: 10 unless n is 1 to 254 and there are n
+    // sizes, then 1 for a size above the limit.
+    pub fn open(code: Code, n: u64, sizes: &[u64]) -> Outcome
+        ensures { λ r. ⌜ r ≡ openStep code n (now (sizes .entry)) ⌝ }
     {
         if !one_to(MAX_FILES, n) {
             return refused_opening(OUT_OF_RANGE);
@@ -86,6 +91,7 @@ impl Inventory {
                 volumes: [0u64; 4],
                 nonempty,
                 quarantined: [0u64; 4],
+                code,
             },
             number: 0,
         }
@@ -96,7 +102,7 @@ impl Inventory {
         ensures { λ r. ⌜ r ≡ changeStep addFile self file ⌝ }
     {
         let files = self.files;
-        let number = change_number(self, one_to(self.n, file), false, has(files, file));
+        let number = change_number(self, one_to(self.n, file), false, false, has(files, file));
         let now = unless_refused(number, insert(files, file), files);
         self.files = now;
         Outcome { next: self, number }
@@ -107,20 +113,24 @@ impl Inventory {
         ensures { λ r. ⌜ r ≡ changeStep removeFile self file ⌝ }
     {
         let files = self.files;
-        let number = change_number(self, one_to(self.n, file), false, !has(files, file));
+        let number = change_number(self, one_to(self.n, file), false, false, !has(files, file));
         let now = unless_refused(number, remove(files, file), files);
         self.files = now;
         Outcome { next: self, number }
     }
 
-    // The inventory with a volume present: 10 for a number out of range, 27 for one in quarantine, 11 for one that is present.
-    pub fn add_volume(mut self, volume: u64) -> Outcome
-        ensures { λ r. ⌜ r ≡ changeStep addVolume self volume ⌝ }
+    // The inventory with a volume of this code present: 10 for a number out of range, 29 for the other code, 27 for one in quarantine,
+    // 11 for one that is present.
+    pub fn add_volume(mut self, code: Code, volume: u64) -> Outcome
+        ensures { λ r. ⌜ r ≡ changeStep (addVolume code) self volume ⌝ }
     {
         let volumes = self.volumes;
         let quarantined = self.quarantined;
+        let own = self.code;
         let ranged = is_volume(self.n, volume);
-        let number = change_number(self, ranged, has(quarantined, volume), has(volumes, volume));
+        let other = !same(code, own);
+        let aside = has(quarantined, volume);
+        let number = change_number(self, ranged, other, aside, has(volumes, volume));
         let now = unless_refused(number, insert(volumes, volume), volumes);
         self.volumes = now;
         Outcome { next: self, number }
@@ -134,7 +144,7 @@ impl Inventory {
         let quarantined = self.quarantined;
         let ranged = is_volume(self.n, volume);
         let held = either(has(volumes, volume), has(quarantined, volume));
-        let number = change_number(self, ranged, false, !held);
+        let number = change_number(self, ranged, false, false, !held);
         let now = unless_refused(number, remove(volumes, volume), volumes);
         let rest = unless_refused(number, remove(quarantined, volume), quarantined);
         self.volumes = now;
@@ -149,7 +159,7 @@ impl Inventory {
         let volumes = self.volumes;
         let quarantined = self.quarantined;
         let ranged = is_volume(self.n, volume);
-        let number = change_number(self, ranged, false, !has(volumes, volume));
+        let number = change_number(self, ranged, false, false, !has(volumes, volume));
         let present = unless_refused(number, remove(volumes, volume), volumes);
         let aside = unless_refused(number, insert(quarantined, volume), quarantined);
         self.volumes = present;
@@ -164,7 +174,7 @@ impl Inventory {
         let volumes = self.volumes;
         let quarantined = self.quarantined;
         let ranged = is_volume(self.n, volume);
-        let number = change_number(self, ranged, false, !has(quarantined, volume));
+        let number = change_number(self, ranged, false, false, !has(quarantined, volume));
         let present = unless_refused(number, insert(volumes, volume), volumes);
         let aside = unless_refused(number, remove(quarantined, volume), quarantined);
         self.volumes = present;
@@ -196,6 +206,7 @@ pub fn zeros() -> Inventory
         volumes: [0u64; 4],
         nonempty: [0u64; 4],
         quarantined: [0u64; 4],
+        code: Code::Powers,
     }
 }
 
@@ -207,15 +218,19 @@ pub fn refused_opening(number: u32) -> Outcome
     Outcome { next, number }
 }
 
-// The number of a change of the inventory s: 10, then 27 where a volume in quarantine is to be added, then 11 where there is nothing to do.
-fn change_number(s: Inventory, in_range: bool, aside: bool, already: bool) -> u32
-    ensures { λ r. ⌜ r ≡ ifInventory s (changeNumber in_range aside already) ⌝ }
+// The number of a change of the inventory s: 10, then 29 where a volume of the other code is to be added, 27 where one in quarantine is, then 11
+// where there is nothing to do.
+fn change_number(s: Inventory, in_range: bool, other: bool, aside: bool, already: bool) -> u32
+    ensures { λ r. ⌜ r ≡ ifInventory s (changeNumber in_range other aside already) ⌝ }
 {
     if !is_inventory(s) {
         return OUT_OF_RANGE;
     }
     if !in_range {
         return OUT_OF_RANGE;
+    }
+    if other {
+        return OTHER_CODE;
     }
     if aside {
         return QUARANTINED;

@@ -3,13 +3,14 @@ ghost use mathlib.Core.Path.{_≡_};
 ghost use mathlib.Core.Bool.{true};
 ghost use Prim.Native.Nat.{_≤_};
 ghost use lib.ListN.{length};
-ghost use Rattle.parity.specs.Coefficient.{coefficient};
+ghost use Rattle.parity.specs.Coefficient.{ruleOf};
 ghost use Rattle.parity.specs.Parity.{isFile};
 ghost use Rattle.inventory.specs.Query.{Queried, Found, Written};
 use crate::Answer;
 use crate::Inventory;
 use crate::ranges::is_inventory;
 use crate::ranges::one_to;
+use codes::Code;
 use number_sets::has;
 use refusals::NO_ROOM;
 use refusals::OUT_OF_RANGE;
@@ -23,7 +24,7 @@ impl Inventory {
     // What is known of a file, tested in the order 10, 13, 12, 14. Where it is recoverable, its weights become the first 255 lent bytes.
     // The matrix of its elimination takes 65,536 bytes of stack.
     pub fn query(self, file: u64, out: &mut [u8]) -> Answer
-        ensures { λ r. ⌜ Queried coefficient self file (now (out .entry)) r (now (out .exit)) ⌝ }
+        ensures { λ r. ⌜ Queried ruleOf self file (now (out .entry)) r (now (out .exit)) ⌝ }
     {
         if !is_inventory(self) {
             return Answer::Refused(OUT_OF_RANGE);
@@ -34,10 +35,11 @@ impl Inventory {
         let files = self.files;
         let volumes = self.volumes;
         let nonempty = self.nonempty;
+        let code = self.code;
         if has(files, file) {
             return Answer::Present;
         }
-        let solution = solve(self.n, files, volumes, nonempty, file);
+        let solution = solve(code, self.n, files, volumes, nonempty, file);
         let found = solution.found;
         let room = out.len();
         if !found {
@@ -47,15 +49,22 @@ impl Inventory {
             return Answer::Refused(NO_ROOM);
         }
         let weights = solution.weights;
-        write(self.n, files, &weights, out);
+        write(code, self.n, files, &weights, out);
         Answer::Recoverable
     }
 }
 
 // Weights of the volumes present that bring a missing file back. An empty file needs none.
-fn solve(n: u64, files: [u64; 4], volumes: [u64; 4], nonempty: [u64; 4], file: u64) -> Solution
+fn solve(
+    code: Code,
+    n: u64,
+    files: [u64; 4],
+    volumes: [u64; 4],
+    nonempty: [u64; 4],
+    file: u64,
+) -> Solution
     requires { ⌜ (n ≤ 254) × (isFile n file ≡ true) ⌝ }
-    ensures { λ r. ⌜ Found coefficient n files volumes nonempty file (r .found) (r .weights) ⌝ }
+    ensures { λ r. ⌜ Found (ruleOf code) n files volumes nonempty file (r .found) (r .weights) ⌝ }
 {
     if !has(nonempty, file) {
         return Solution {
@@ -63,15 +72,22 @@ fn solve(n: u64, files: [u64; 4], volumes: [u64; 4], nonempty: [u64; 4], file: u
             weights: [0u8; 256],
         };
     }
-    volume_weights::solve(nonempty, files, volumes, (255 - n) as u8, (file - 1) as u8)
+    volume_weights::solve(
+        code,
+        nonempty,
+        files,
+        volumes,
+        (255 - n) as u8,
+        (file - 1) as u8,
+    )
 }
 
 // Writes the weights of the files, then those of the volumes.
-fn write(n: u64, files: [u64; 4], weights: &[u8; 256], out: &mut [u8])
+fn write(code: Code, n: u64, files: [u64; 4], weights: &[u8; 256], out: &mut [u8])
     requires { ⌜ (n ≤ 254) × (255 ≤ length (now out)) ⌝ }
-    ensures { λ _. ⌜ Written coefficient n files (now (weights .entry)) (now (out .entry)) (now (out .exit)) 255 ⌝ }
+    ensures { λ _. ⌜ Written (ruleOf code) n files (now (weights .entry)) (now (out .entry)) (now (out .exit)) 255 ⌝ }
 {
-    let sums = file_weights(files, (255 - n) as u8, weights);
+    let sums = file_weights(code, files, (255 - n) as u8, weights);
     let n = n as usize;
     let mut p: usize = 0;
     while p < 255 {

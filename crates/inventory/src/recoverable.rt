@@ -3,7 +3,7 @@ ghost use mathlib.Core.Path.{_≡_};
 ghost use mathlib.Core.Bool.{not, _&&_};
 ghost use Prim.Native.Nat.{suc};
 ghost use Rattle.number_sets.specs.Sets.{member, gathered};
-ghost use Rattle.parity.specs.Coefficient.{coefficient};
+ghost use Rattle.parity.specs.Coefficient.{ruleOf};
 ghost use Rattle.inventory.specs.RecoverableFiles.{RecoverableSet};
 use crate::Inventory;
 use crate::ranges::is_inventory;
@@ -22,7 +22,7 @@ impl Inventory {
     // The missing files that are recoverable, empty ones too; 10 for an inventory that no calls give.
     // The matrix of the elimination takes 65,536 bytes of stack.
     pub fn recoverable_files(self) -> RecoverableFiles
-        ensures { λ r. ⌜ RecoverableSet coefficient self r ⌝ }
+        ensures { λ r. ⌜ RecoverableSet ruleOf self r ⌝ }
     {
         if !is_inventory(self) {
             return RecoverableFiles {
@@ -33,7 +33,8 @@ impl Inventory {
         let files = self.files;
         let volumes = self.volumes;
         let nonempty = self.nonempty;
-        let solved = solved_columns(nonempty, files, volumes, (255 - self.n) as u8);
+        let code = self.code;
+        let solved = solved_columns(code, nonempty, files, volumes, (255 - self.n) as u8);
         let all = with_empty(self.n, files, nonempty, solved);
         RecoverableFiles {
             files: all,

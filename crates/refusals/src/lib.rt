@@ -100,7 +100,7 @@ pub const QUARANTINED: u32 = 27;
 pub const EVENT: u32 = 28;
 
 // The volume that is added is of the other code.
-pub const CODE: u32 = 29;
+pub const OTHER_CODE: u32 = 29;
 
 // No list and volumes give the bytes of a catalog, hashes apart; or they end early.
 pub const CATALOG: u32 = 30;

@@ -33,7 +33,13 @@ returns-4 c = simp (valid (c .before .before .before), ranged (c .before .before
 
 returns-5 : tie.Need-returns-5
 unfolding ifInventory changeNumber
-returns-5 c = simp (valid (c .before .before .before), ranged (c .before .before), c .before .if3 .left, c .if4 .left)
+returns-5 c =
+    simp (valid (c .before .before .before .before), ranged (c .before .before .before), c .before .before .if3 .left, c .before .if4 .left, c .if5 .taken)
+
+returns-6 : tie.Need-returns-6
+unfolding ifInventory changeNumber
+returns-6 c =
+    simp (valid (c .before .before .before .before), ranged (c .before .before .before), c .before .before .if3 .left, c .before .if4 .left, c .if5 .left)
 
 pub change-number-spec : {M : Type 1} → statement M
-change-number-spec = tie.close (tie.spec (λ c κs. search needs) returns returns-2 returns-3 returns-4 returns-5)
+change-number-spec = tie.close (tie.spec (λ c κs. search needs) returns returns-2 returns-3 returns-4 returns-5 returns-6)

@@ -16,22 +16,22 @@ use Rattle.inventory.proofs.Inventory.open.Statement.{statement}
 use Rattle.inventory.proofs.Inventory.open.Tie as tie
 
 abbrev Inv-loop : tie.InvT-loop
-Inv-loop n sizes nonempty₀ k₀ nonempty k =
+Inv-loop code n sizes nonempty₀ k₀ nonempty k =
     (k ≤ length sizes) × (nonempty ≡ nonemptyOf sizes k) × ((j : ℕ) → j < k → getD sizes j 0 ≤ 16777216)
 
 abbrev μ-loop : tie.MeasureT-loop
-μ-loop n sizes nonempty₀ k₀ nonempty k = length sizes - k
+μ-loop code n sizes nonempty₀ k₀ nonempty k = length sizes - k
 
 returns : tie.Need-returns Inv-loop μ-loop
 returns c =
     let a = c .before .before .before .before .args in
     c .refused-opening .ensures
-    ∙ open-out-of-range (a .n) (a .sizes .now) (sym (c .before .before .one-to .ensures) ∙ not-true (c .before .before .one-to .result) (c .before .if1 .taken))
+    ∙ open-out-of-range (a .code) (a .n) (a .sizes .now) (sym (c .before .before .one-to .ensures) ∙ not-true (c .before .before .one-to .result) (c .before .if1 .taken))
 
 returns-2 : tie.Need-returns-2 Inv-loop μ-loop
 returns-2 c =
     let a = c .before .before .before .before .before .args in
-    c .refused-opening2 .ensures ∙ open-miscounted (a .n) (a .sizes .now) (c .before .if2 .taken)
+    c .refused-opening2 .ensures ∙ open-miscounted (a .code) (a .n) (a .sizes .now) (c .before .if2 .taken)
 
 loop-holds : tie.Need-loop-holds Inv-loop μ-loop
 unfolding nonemptyOf
@@ -44,7 +44,7 @@ returns-3 c =
     let a = ranged .before .before .before .args in
     let in-range = sym (ranged .before .one-to .ensures) ∙ not-false (ranged .before .one-to .result) (ranged .if1 .left) in
     let counted : length (a .sizes .now) ≡ a .n = c .before .before .before .before .before .if2 .left in
-    c .refused-opening3 .ensures ∙ open-too-large (a .n) (a .sizes .now) in-range counted (l .k) (omega arith) (c .before .if3 .taken)
+    c .refused-opening3 .ensures ∙ open-too-large (a .code) (a .n) (a .sizes .now) in-range counted (l .k) (omega arith) (c .before .if3 .taken)
 
 loop-again : tie.Need-loop-again Inv-loop μ-loop
 loop-again c =
@@ -66,9 +66,9 @@ returns-4 c =
     let counted : length (a .sizes .now) ≡ a .n = c .before .before .if2 .left in
     let e : l .k ≡ a .n = omega arith in
     ap (λ (ws : List ℕ).
-    outcome (record { n = a .n; files = replicate 4 0; volumes = replicate 4 0; nonempty = ws; quarantined = replicate 4 0 }) 0)
+    outcome (record { n = a .n; files = replicate 4 0; volumes = replicate 4 0; nonempty = ws; quarantined = replicate 4 0; code = a .code }) 0)
     (l .inv .1 ∙ ap (nonemptyOf (a .sizes .now)) e)
-    ∙ open-accepted (a .n) (a .sizes .now) in-range counted (rw e at (l .inv .2))
+    ∙ open-accepted (a .code) (a .n) (a .sizes .now) in-range counted (rw e at (l .inv .2))
 
 pub open-spec : {M : Type 1} → statement M
 open-spec =

@@ -3,9 +3,9 @@
 use mathlib.Core.Path.{_≡_, sym, _∙_}
 use mathlib.Core.Bool.{true, false}
 use native.Mathlib.Omega.{arith}
-use Rattle.parity.specs.Coefficient.{coefficient}
+use Rattle.parity.specs.Coefficient.{ruleOf}
 use Rattle.parity.specs.Parity.{isFile}
-use Rattle.parity.proofs.Coefficients.{coefficient-byte}
+use Rattle.parity.proofs.Coefficients.{rule-byte}
 use Rattle.number_sets.specs.Sets.{member}
 use Rattle.inventory.specs.Steps.{isInventory}
 use Rattle.inventory.proofs.ValidInventories.{few-files}
@@ -28,18 +28,18 @@ missing c = sym (c .before .has .ensures) ∙ c .if3 .left
 
 returns : tie.Need-returns
 returns c =
-    query-no-inventory coefficient _ _ _
+    query-no-inventory ruleOf _ _ _
     (sym (c .before .is-inventory .ensures) ∙ not-true (c .before .is-inventory .result) (c .if1 .taken))
 
 returns-2 : tie.Need-returns-2
 returns-2 c =
-    query-out-of-range coefficient _ (valid (c .before .before)) _ _
+    query-out-of-range ruleOf _ (valid (c .before .before)) _ _
     (sym (c .before .one-to .ensures) ∙ not-true (c .before .one-to .result) (c .if2 .taken))
 
 returns-3 : tie.Need-returns-3
 returns-3 c =
     let asked = c .before .before .before .before .before in
-    query-present coefficient _ (valid (asked .before .before)) _ _ (ranged asked) (sym (c .before .has .ensures) ∙ c .if3 .taken)
+    query-present ruleOf _ (valid (asked .before .before)) _ _ (ranged asked) (sym (c .before .has .ensures) ∙ c .if3 .taken)
 
 solve-requires : tie.Need-solve-requires
 solve-requires c κs =
@@ -51,7 +51,7 @@ returns-4 c =
     let there = c .before .before in
     let asked = there .before .before .before .before .before in
     let s = c .before .solve in
-    query-undetermined coefficient coefficient-byte _ (valid (asked .before .before)) _ (ranged asked) (missing there) _
+    query-undetermined ruleOf rule-byte _ (valid (asked .before .before)) _ (ranged asked) (missing there) _
     (s .result .weights) (s .result .found) (s .ensures) (not-true (s .result .found) (c .if4 .taken))
 
 returns-5 : tie.Need-returns-5
@@ -59,7 +59,7 @@ returns-5 c =
     let there = c .before .before .before in
     let asked = there .before .before .before .before .before in
     let s = c .before .before .solve in
-    query-no-room coefficient coefficient-byte _ (valid (asked .before .before)) _ (ranged asked) (missing there) _
+    query-no-room ruleOf rule-byte _ (valid (asked .before .before)) _ (ranged asked) (missing there) _
     (s .result .weights) (s .result .found) (s .ensures) (not-false (s .result .found) (c .before .if4 .left)) (c .if5 .taken)
 
 write-requires : tie.Need-write-requires
@@ -74,8 +74,8 @@ returns-6 c =
     let asked = there .before .before .before .before .before in
     let s = roomy .before .before .solve in
     let w = c .before .before .write in
-    query-recoverable coefficient coefficient-byte _ (valid (asked .before .before)) _ (ranged asked) (missing there) _
-    (s .result .weights) (w .last .1 .1 .1 .0) (roomy .if5 .left) (w .ensures) (λ p l. omega (arith, c .slice-known2 .given p))
+    query-recoverable ruleOf rule-byte _ (valid (asked .before .before)) _ (ranged asked) (missing there) _
+    (s .result .weights) (w .last .1 .1 .1 .1 .0) (roomy .if5 .left) (w .ensures) (λ p l. omega (arith, c .slice-known2 .given p))
     (s .result .found) (s .ensures) (not-false (s .result .found) (roomy .before .if4 .left))
 
 pub query-spec : {M : Type 1} → statement M

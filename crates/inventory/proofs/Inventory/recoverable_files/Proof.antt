@@ -5,8 +5,8 @@ use mathlib.Core.Bool.{true}
 use native.Mathlib.Omega.{arith}
 use borrow.Author.Needs.{needs}
 use borrow.Author.Tests.{not-true, not-false}
-use Rattle.parity.specs.Coefficient.{coefficient}
-use Rattle.parity.proofs.Coefficients.{coefficient-byte}
+use Rattle.parity.specs.Coefficient.{ruleOf}
+use Rattle.parity.proofs.Coefficients.{rule-byte}
 use Rattle.inventory.specs.Steps.{isInventory}
 use Rattle.inventory.proofs.ValidInventories.{few-files}
 use Rattle.inventory.proofs.RecoverableFiles.{set-refused, set-gathered}
@@ -18,14 +18,14 @@ valid c = sym (c .before .is-inventory .ensures) ∙ not-false (c .before .is-in
 
 returns : tie.Need-returns
 returns c =
-    set-refused coefficient _ (sym (c .before .is-inventory .ensures) ∙ not-true (c .before .is-inventory .result) (c .if1 .taken))
+    set-refused ruleOf _ (sym (c .before .is-inventory .ensures) ∙ not-true (c .before .is-inventory .result) (c .if1 .taken))
 
 sub-solved-columns : tie.Need-sub-solved-columns
 sub-solved-columns c = omega (arith, few-files _ (valid (c .before .before .before .before)))
 
 returns-2 : tie.Need-returns-2
 returns-2 c =
-    set-gathered coefficient coefficient-byte _ (valid (c .before .before .before .before .before .before)) _ (c .before .solved-columns .ensures) _ (c .with-empty .ensures)
+    set-gathered ruleOf rule-byte _ (valid (c .before .before .before .before .before .before)) _ (c .before .solved-columns .ensures) _ (c .with-empty .ensures)
 
 pub recoverable-files-spec : {M : Type 1} → statement M
 recoverable-files-spec =

@@ -2,7 +2,7 @@
 -- Assumes nothing.
 use mathlib.Core.Path.{refl, ap, ap₂, _∙_}
 use mathlib.Core.Bool.{not, _||_}
-use Rattle.inventory.specs.Steps.{inRange, whileQuarantined, already}
+use Rattle.inventory.specs.Steps.{inRange, ofOtherCode, whileQuarantined, already}
 use Rattle.inventory.specs.Steps.{afterChange, changeStep}
 use Rattle.inventory.proofs.Outcomes.{both-changed, number-same}
 use borrow.Author.Needs.{needs}
@@ -10,7 +10,7 @@ use Rattle.inventory.proofs.Inventory.remove_volume.Statement.{statemen
 use Rattle.inventory.proofs.Inventory.remove_volume.Tie as tie
 
 returns : tie.Need-returns
-unfolding changeStep inRange whileQuarantined already afterChange
+unfolding changeStep inRange ofOtherCode whileQuarantined already afterChange
 returns c =
     let volumes = c .before .before in
     let called = volumes .before .before in
@@ -18,7 +18,7 @@ returns c =
     let tests = either .before in
     let held = either .either .ensures ∙ ap₂ _||_ (tests .before .has .ensures) (tests .has2 .ensures) in
     both-changed _ _ _ _ _ _ (volumes .before .remove .ensures)
-    (called .change-number .ensures ∙ number-same _ (tests .before .before .is-volume .ensures) refl (ap not held))
+    (called .change-number .ensures ∙ number-same _ (tests .before .before .is-volume .ensures) refl refl (ap not held))
     (c .before .remove2 .ensures) (volumes .unless-refused .ensures) (c .unless-refused2 .ensures)
 
 pub remove-volume-spec : {M : Type 1} → statement M

@@ -8,7 +8,8 @@ use lib.ListN.{length, getD, length-set}
 use Rattle.inventory.proofs.QuerySteps.{written-none, written-file, written-volume}
 use Rattle.inventory.specs.Query.{Written}
 use Rattle.computed_tests.proofs.Lists.{listBelow-at}
-use Rattle.parity.specs.Coefficient.{coefficient}
+use Rattle.codes.specs.declared.Code.{Code}
+use Rattle.parity.specs.Coefficient.{ruleOf}
 use Rattle.volume_weights.specs.Weights.{fileWeight}
 use mathlib.Core.List.{List}
 use borrow.Author.Needs.{needs}
@@ -18,8 +19,8 @@ use Rattle.inventory.proofs.query.write.Tie as tie
 abbrev Inv-loop : tie.InvT-loop
 Inv-loop n₀ weights out₀ sums n p₀ out p =
     (p ≤ 255) × (length out ≡ length out₀)
-    × ((files : List ℕ) → ((i : ℕ) → i < 255 → getD sums i 0 ≡ fileWeight coefficient files weights (255 - n) i)
-    → Written coefficient n files weights out₀ out p)
+    × ((code : Code) (files : List ℕ) → ((i : ℕ) → i < 255 → getD sums i 0 ≡ fileWeight (ruleOf code) files weights (255 - n) i)
+    → Written (ruleOf code) n files weights out₀ out p)
 
 abbrev μ-loop : tie.MeasureT-loop
 μ-loop n₀ weights out₀ sums n p₀ out p = 255 - p
@@ -31,7 +32,7 @@ cast-file-weights : tie.Need-cast-file-weights Inv-loop μ-loop
 cast-file-weights c = omega (arith, c .before .pre .0)
 
 loop-holds : tie.Need-loop-holds Inv-loop μ-loop
-loop-holds c = (omega arith, refl, λ files h. written-none coefficient _ files _ _)
+loop-holds c = (omega arith, refl, λ code files h. written-none (ruleOf code) _ files _ _)
 
 loop-again : tie.Need-loop-again Inv-loop μ-loop
 loop-again c =
@@ -40,13 +41,13 @@ loop-again c =
     let inside : l .p < length (a .out .now) = omega arith in (
       omega arith,
       ⊎-elim (λ w. ap length (w .1) ∙ simp length-set (l .inv .1)) (λ w. ap length (w .2) ∙ simp length-set (l .inv .1)) (c .if1 .came),
-      λ files h.
+      λ code files h.
           ⊎-elim
-          (λ w. subst (λ (o : List ℕ). Written coefficient (a .n) files (a .weights .now) (a .out .now) o (l .p + 1)) (sym (w .1))
-          (written-file coefficient (a .n) files (a .weights .now) (a .out .now) (l .out) (l .p) _ inside (l .inv .2 files h) (w .0 .taken)
+          (λ w. subst (λ (o : List ℕ). Written (ruleOf code) (a .n) files (a .weights .now) (a .out .now) o (l .p + 1)) (sym (w .1))
+          (written-file (ruleOf code) (a .n) files (a .weights .now) (a .out .now) (l .out) (l .p) _ inside (l .inv .2 code files h) (w .0 .taken)
           (h (l .p) (omega arith))))
-          (λ w. subst (λ (o : List ℕ). Written coefficient (a .n) files (a .weights .now) (a .out .now) o (l .p + 1)) (sym (w .2))
-          (written-volume coefficient (a .n) files (a .weights .now) (a .out .now) (l .out) (l .p) _ inside (l .inv .2 files h) (w .0 .left) refl))
+          (λ w. subst (λ (o : List ℕ). Written (ruleOf code) (a .n) files (a .weights .now) (a .out .now) o (l .p + 1)) (sym (w .2))
+          (written-volume (ruleOf code) (a .n) files (a .weights .now) (a .out .now) (l .out) (l .p) _ inside (l .inv .2 code files h) (w .0 .left) refl))
           (c .if1 .came),
     )
 
@@ -55,8 +56,8 @@ returns c =
     let l = c .before .loop in
     let a = c .before .before .before .before .args in
     let e : l .p ≡ 255 = omega arith in
-    subst (Written coefficient (a .n) (a .files) (a .weights .now) (a .out .now) (l .out)) e
-    (l .inv .2 (a .files) (λ i b. ap (λ (zs : List ℕ). getD zs i 0) (c .before .before .file-weights .ensures) ∙ listBelow-at 255 _ i b))
+    subst (Written (ruleOf (a .code)) (a .n) (a .files) (a .weights .now) (a .out .now) (l .out)) e
+    (l .inv .2 (a .code) (a .files) (λ i b. ap (λ (zs : List ℕ). getD zs i 0) (c .before .before .file-weights .ensures) ∙ listBelow-at 255 _ i b))
 
 pub write-spec : {M : Type 1} → statement M
 write-spec =
