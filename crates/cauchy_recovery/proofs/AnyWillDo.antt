@@ -9,6 +9,8 @@ use native.Mathlib.Omega.{arith}
 use native.Mathlib.Decide.{decLt}
 use borrow.Author.Tests.{le-leb}
 use Rattle.computed_tests.proofs.Tests.{oneTo-inside}
+use Rattle.codes.specs.declared.Code.{Code}
+use Rattle.parity.specs.Coefficient.{ruleOf}
 use Rattle.parity.specs.Parity.{isFile}
 use Rattle.cauchy.specs.Cauchy.{cauchy}
 use Rattle.cauchy.proofs.Coefficients.{cauchy-byte}
@@ -47,6 +49,8 @@ module _ (t : State) (fits : t .n ≤ 254) (f : ℕ) (is-file : isFile (t .n) f 
 
 pub any-will-do : AnyWillDo
 any-will-do = record {
-  enough = λ t fits h f is-file missing. recovered t fits f is-file missing h;
-  tooFew = λ t fits h f is-file missing. unrecovered t fits f is-file missing h;
+  enough = λ t code fits h f is-file missing.
+      subst (λ (c : Code). Recoverable (ruleOf c) t f) (sym code) (recovered t fits f is-file missing h);
+  tooFew = λ t code fits h f is-file missing full back.
+      unrecovered t fits f is-file missing h full (subst (λ (c : Code). Recoverable (ruleOf c) t f) code back);
 }

@@ -13,6 +13,7 @@ use Rattle.gf256.specs.Polynomial.{sumBelow}
 use Rattle.gf256.specs.Field.{product}
 use Rattle.gf256.proofs.Polynomials.{sumBelow-same}
 use Rattle.gf256.proofs.Products.{product-zero-r}
+use Rattle.codes.specs.declared.Code.the-variants.{Cauchy}
 use Rattle.parity.specs.Parity.{isFile}
 use Rattle.number_sets.specs.Sets.{sizeBelow}
 use Rattle.elimination.specs.Field.{Field}
@@ -44,7 +45,7 @@ byVolume-byte w (suc s) = w s .1
 module _ (n : ℕ) (fits : n ≤ 254) (files volumes : ℕ → Bool)
     (enough : sizeBelow 256 (λ f. isFile n f && files f) ≤ sizeBelow 256 (λ v. isVolume n v && volumes v)) where
   abbrev t : State
-  t = record { n = n; size = λ f. 1; files = λ f. not (files f); volumes = volumes; quarantined = λ v. false }
+  t = record { n = n; size = λ f. 1; files = λ f. not (files f); volumes = volumes; quarantined = λ v. false; code = Cauchy }
 
   is-column : (g : ℕ) → column t g ≡ files g
   is-column g = go (files g)

@@ -18,6 +18,7 @@ use Rattle.computed_tests.specs.Numbers.{allBelow}
 use Rattle.computed_tests.proofs.Tests.{and-both, all-at, oneTo-inside}
 use Rattle.gf256.specs.Polynomial.{sumBelow}
 use Rattle.gf256.specs.Field.{product}
+use Rattle.codes.specs.declared.Code.the-variants.{Powers}
 use Rattle.parity.specs.Coefficient.{coefficient}
 use Rattle.parity.specs.Parity.{isFile}
 use Rattle.parity.proofs.Coefficients.{coefficient-byte}
@@ -58,7 +59,7 @@ cancels n missing volumes (suc f) l =
 module _ (n : ℕ) (fits : n ≤ 254) (missing volumes : List ℕ) (files : allListed (isFile n) missing ≡ true) (size : ℕ → ℕ)
     (full : NoneEmpty n size) where
   abbrev t : State
-  t = stateOf n size missing volumes
+  t = stateOf Powers n size missing volumes
 
   is-column : (g : ℕ) → listed g missing ≡ true → column t g ≡ true
   is-column g e =
@@ -126,7 +127,7 @@ module _ (n : ℕ) (fits : n ≤ 254) (missing volumes : List ℕ) (files : allL
 
 module _ (n : ℕ) (missing volumes : List ℕ) where
   pub recoverable-by : (f : ℕ) (c : List ℕ) → solves n missing volumes f c ≡ true → (size : ℕ → ℕ) → NoneEmpty n size
-      → Recoverable coefficient (stateOf n size missing volumes) f
+      → Recoverable coefficient (stateOf Powers n size missing volumes) f
   unfolding solves
   recoverable-by zero c h size full = absurd (false≢true h)
   recoverable-by (suc f) c h size full =
@@ -135,7 +136,7 @@ module _ (n : ℕ) (missing volumes : List ℕ) where
       (at 5)
 
   pub undetermined-by : (f : ℕ) (l : List ℕ) → cancels n missing volumes f l ≡ true → (size : ℕ → ℕ) → NoneEmpty n size
-      → ¬ Recoverable coefficient (stateOf n size missing volumes) f
+      → ¬ Recoverable coefficient (stateOf Powers n size missing volumes) f
   unfolding cancels
   undetermined-by zero l h size full = absurd (false≢true h)
   undetermined-by (suc f) l h size full =

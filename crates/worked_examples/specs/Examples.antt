@@ -3,8 +3,8 @@
 --   contentsOf files   the contents that a list of files gives
 --   volumeOf files v   the data of volume v of these files
 --   listed k l         whether k is in the list l
---   stateOf n size missing volumes     n files of these sizes, with the files listed missing and the volumes listed present
---   twoFiles missing volumes           such a state of two files
+--   stateOf c n size missing volumes   n files of these sizes, with the files listed missing and the volumes listed present, of code c
+--   twoFiles missing volumes           such a state of two files, of Par 1.0's code
 --   Example            a row: what the document says
 --   NoneEmpty n size   none of n files of these sizes is empty
 --   Holds e            what a row claims of the definitions
@@ -19,6 +19,8 @@ use Prim.Native.Nat.{ℕ, _≤_, _-_}
 use lib.Dec.{eqb}
 use lib.ListN.{length, getD, replicate}
 use Rattle.gf256.specs.Field.{product, power}
+use Rattle.codes.specs.declared.Code.{Code}
+use Rattle.codes.specs.declared.Code.the-variants.{Powers}
 use Rattle.parity.specs.Coefficient.{coefficient}
 use Rattle.parity.specs.Parity.{Contents, isFile, greatest, parity}
 use Rattle.inventory.specs.Recoverable.{State, Recoverable, IsWeights}
@@ -36,18 +38,19 @@ abbrev pub listed : ℕ → List ℕ → Bool
 listed k [] = false
 listed k (j ∷ l) = eqb k j || listed k l
 
-abbrev pub stateOf : ℕ → (ℕ → ℕ) → List ℕ → List ℕ → State
-stateOf n size missing volumes = record {
+abbrev pub stateOf : Code → ℕ → (ℕ → ℕ) → List ℕ → List ℕ → State
+stateOf c n size missing volumes = record {
   n = n;
   size = size;
   files = λ f. not (listed f missing);
   volumes = λ v. listed v volumes;
   quarantined = λ v. false;
+  code = c;
 }
 
 -- n = 2, sizes 2 and 1
 abbrev pub twoFiles : List ℕ → List ℕ → State
-twoFiles = stateOf 2 (λ f. getD (2 ∷ 1 ∷ []) (f - 1) 0)
+twoFiles = stateOf Powers 2 (λ f. getD (2 ∷ 1 ∷ []) (f - 1) 0)
 
 pub data Example : Type 0 where
   -- the numbers that the definitions give are those stated
@@ -65,9 +68,9 @@ abbrev pub Holds : Example → Type 0
 Holds (numbers computed stated) = computed ≡ stated
 Holds (weights t f start) = IsWeights coefficient t f (start ++ replicate (255 - length start) 0)
 Holds (recoverable n missing volumes f) =
-    (size : ℕ → ℕ) → NoneEmpty n size → Recoverable coefficient (stateOf n size missing volumes) f
+    (size : ℕ → ℕ) → NoneEmpty n size → Recoverable coefficient (stateOf Powers n size missing volumes) f
 Holds (undetermined n missing volumes f) =
-    (size : ℕ → ℕ) → NoneEmpty n size → ¬ Recoverable coefficient (stateOf n size missing volumes) f
+    (size : ℕ → ℕ) → NoneEmpty n size → ¬ Recoverable coefficient (stateOf Powers n size missing volumes) f
 
 abbrev pub examples : List Example
 examples =
