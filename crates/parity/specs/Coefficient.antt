@@ -32,7 +32,7 @@ unfoldable pub coefficientBy : Code → List ℕ → List ℕ → ℕ → ℕ �
 coefficientBy Powers ps es f v = powerBy ps es f (v - 1)
 coefficientBy Cauchy ps es f v = cauchyBy ps es f v
 
--- "Asking for a factor refuses with 10 if f or v is 0 or f + v is above 255"; document 02, 2026-13: "asking for a factor [is] told the
--- code"
+-- "Asking for a factor refuses with 10 if f or v is 0 or f + v is above 255"; document 02, 2026-13: "writing and
+-- asking for a factor are told the code"
 unfoldable pub coefficientAnswer : Code → ℕ → ℕ → ByteAnswer
 coefficientAnswer c f v = cond (eqb f 0 || (eqb v 0 || ltb 255 (f + v))) (Refused 10) (Byte (ruleOf c f v))
