@@ -1,41 +1,60 @@
 -- Inventories in lent bytes, there and back.
 --
---   inventory-of, inventory-none     136 bytes are the inventory in their numbers, others zeros
---   length-inventory     the bytes of an inventory are 136
+--   inventory-of     144 bytes whose code is one are the inventory in their numbers
+--   other-length, other-number, other-bytes     others are zeros
+--   length-inventory     the bytes of an inventory are 144
 --   loaded-back    the bytes of an inventory are that inventory
---   stored-back    136 bytes are the bytes of the inventory that they are
+--   stored-back    144 bytes whose code is one are the bytes of the inventory that they are
 -- Assumes nothing.
 use mathlib.Core.Path.{_≡_, refl, sym, ap, ap₂, _∙_}
+use mathlib.Core.Logic.{inl, inr, _≢_}
+use mathlib.Core.Bool.{Bool, true, false, cond, _&&_, and-false}
 use mathlib.Core.List.{List, [], _∷_, _++_, append-nil, append-assoc}
-use Prim.Native.Nat.{ℕ, zero, suc, _*_, _^_, _<_}
+use Prim.Native.Nat.{ℕ, zero, suc, _*_, _^_, _<_, _≤_}
 use native.Mathlib.Nat.{zero-lt-suc}
 use native.Mathlib.Omega.{arith}
 use lib.ListN.{length, getD, length-append}
 use lib.Seq.{take-all}
-use borrow.Author.Tests.{eq-eqb, ne-eqb}
+use lib.Dec.{eqb}
+use borrow.Author.Tests.{eq-eqb, ne-eqb, leb-true}
+use Rattle.codes.specs.Codes.{isCode, codeOf, codeNumber}
+use Rattle.codes.specs.declared.Code.{Code}
+use Rattle.codes.specs.declared.Code.the-variants.{Powers, Cauchy}
+use Rattle.codes.proofs.CodeLaws.{back}
 use Rattle.inventory.specs.Steps.{zeros}
 use Rattle.inventory.specs.declared.Inventory.{Inventory}
-use Rattle.little_endian.specs.Bytes.{numbers, numbersAt}
+use Rattle.little_endian.specs.Bytes.{leAt, numbers, numbersAt}
 use Rattle.little_endian.proofs.NumberLists.{length-numbers, numbers-append, numbers-back, numbers-read}
-use Rattle.inventory_bytes.specs.Inventories.{inventoryIn, inventoryOf, inventoryBytes}
-use Rattle.inventory_bytes.specs.Claim.{Held, LoadedBack, StoredBack}
+use Rattle.inventory_bytes.specs.Inventories.{codeIn, inventoryIn, inventoryOf, inventoryBytes}
+use Rattle.inventory_bytes.specs.Claim.{Held, LoadedBack, StoredBack, OtherBytes}
 
--- ---- the length
+-- ---- the length and the code
 
-pub inventory-of : (b : List ℕ) → length b ≡ 136 → inventoryOf b ≡ inventoryIn b
+pub inventory-of : (b : List ℕ) → length b ≡ 144 → isCode (codeIn b) ≡ true → inventoryOf b ≡ inventoryIn b
 unfolding inventoryOf
-inventory-of b h = simp (eq-eqb (length b) 136 h)
+inventory-of b h k = simp (eq-eqb (length b) 144 h, k)
 
-pub inventory-none : (b : List ℕ) → (length b ≡ 136 → ⊥) → inventoryOf b ≡ zeros
+pub other-length : (b : List ℕ) → length b ≢ 144 → inventoryOf b ≡ zeros
 unfolding inventoryOf
-inventory-none b h = simp (ne-eqb (length b) 136 h)
+other-length b h = simp (ne-eqb (length b) 144 h)
 
-pub length-inventory : (s : Inventory) → Held s → length (inventoryBytes s) ≡ 136
+pub other-number : (b : List ℕ) → isCode (codeIn b) ≡ false → inventoryOf b ≡ zeros
+unfolding inventoryOf
+other-number b h = ap (λ (k : Bool). cond (eqb (length b) 144 && k) (inventoryIn b) zeros) h ∙ simp and-false
+
+pub other-bytes : OtherBytes
+other-bytes b (inl h) = other-length b h
+other-bytes b (inr h) = other-number b h
+
+-- the numbers of an inventory
+abbrev all : Inventory → List ℕ
+all s = s .n ∷ s .files ++ s .volumes ++ s .nonempty ++ s .quarantined ++ (codeNumber (s .code) ∷ [])
+
+pub length-inventory : (s : Inventory) → Held s → length (inventoryBytes s) ≡ 144
 unfolding inventoryBytes
 length-inventory s h =
-    let all : length (s .n ∷ s .files ++ s .volumes ++ s .nonempty ++ s .quarantined) ≡ 17 =
-    simp (length-append, h .files .four, h .volumes .four, h .nonempty .four, h .quarantined .four) in
-    length-numbers (s .n ∷ s .files ++ s .volumes ++ s .nonempty ++ s .quarantined) ∙ omega arith
+    let many : length (all s) ≡ 18 = simp (length-append, h .files .four, h .volumes .four, h .nonempty .four, h .quarantined .four) in
+    length-numbers (all s) ∙ omega arith
 
 -- the numbers ms, with others before and after them
 part-back : (i k : ℕ) (ks ms ls : List ℕ) {l : List ℕ} → l ≡ (ks ++ ms) ++ ls → 8 * length ks ≡ i → length ms ≡ k
@@ -49,36 +68,65 @@ part-back i k ks ms ls e at size h =
     ∙ ap (λ (m : ℕ). numbersAt m (numbers ks ++ (numbers ms ++ numbers ls)) (length (numbers ks))) (sym size)
     ∙ numbers-back (numbers ks) ms (numbers ls) h
 
+-- a list before three and before four others
+before-three : (a b c d : List ℕ) → a ++ b ++ c ++ d ≡ a ++ (b ++ c ++ d)
+before-three a b c d = simp append-assoc
+
+before-four : (a b c d e : List ℕ) → a ++ b ++ c ++ d ++ e ≡ a ++ (b ++ c ++ d ++ e)
+before-four a b c d e = simp append-assoc
+
 one-number : (n : ℕ) → n < 2 ^ 64 → (j : ℕ) → getD (n ∷ []) j 0 < 2 ^ 64
 one-number n h zero = h
 one-number n h (suc j) = zero-lt-suc 18446744073709551615
 
-same-parts : {n m : ℕ} {a b c d e f g h : List ℕ} → n ≡ m → a ≡ b → c ≡ d → e ≡ f → g ≡ h
-    → _≡_ {A = Inventory} (record { n = n; files = a; volumes = c; nonempty = e; quarantined = g })
-    (record { n = m; files = b; volumes = d; nonempty = f; quarantined = h })
-same-parts p q r t u = cc
+-- the number of a code, there and back
+code-small : (c : Code) → (codeNumber c < 2 ^ 64) × (isCode (codeNumber c) ≡ true)
+code-small Powers = (zero-lt-suc 18446744073709551615, refl)
+code-small Cauchy = (omega arith, refl)
+
+number-back : (k : ℕ) → isCode k ≡ true → codeNumber (codeOf k) ≡ k
+number-back zero h = refl
+number-back (suc k) h = let l : suc k ≤ 1 = leb-true (suc k) 1 h in omega arith
+
+same-parts : {n m : ℕ} {a b c d e f g h : List ℕ} {i j : Code} → n ≡ m → a ≡ b → c ≡ d → e ≡ f → g ≡ h → i ≡ j
+    → _≡_ {A = Inventory} (record { n = n; files = a; volumes = c; nonempty = e; quarantined = g; code = i })
+    (record { n = m; files = b; volumes = d; nonempty = f; quarantined = h; code = j })
+same-parts p q r t u v = cc
 
 pub loaded-back : LoadedBack
 unfolding inventoryBytes numbersAt
 loaded-back s h =
     let n : List ℕ = s .n ∷ [] in
-    let all : List ℕ = s .n ∷ s .files ++ s .volumes ++ s .nonempty ++ s .quarantined in
-    let ns = part-back 0 1 [] n (s .files ++ s .volumes ++ s .nonempty ++ s .quarantined) refl refl refl (one-number (s .n) (h .small)) in
+    let k : List ℕ = codeNumber (s .code) ∷ [] in
+    let ns = part-back 0 1 [] n (s .files ++ s .volumes ++ s .nonempty ++ s .quarantined ++ k) refl refl refl (one-number (s .n) (h .small)) in
     let fs =
-    part-back 8 4 n (s .files) (s .volumes ++ s .nonempty ++ s .quarantined) {l = all} (simp append-assoc) refl (h .files .four) (h .files .fits) in
+    part-back 8 4 n (s .files) (s .volumes ++ s .nonempty ++ s .quarantined ++ k)
+    (before-four (n ++ s .files) (s .volumes) (s .nonempty) (s .quarantined) k) refl (h .files .four) (h .files .fits) in
     let vs =
-    part-back 40 4 (n ++ s .files) (s .volumes) (s .nonempty ++ s .quarantined) {l = all} (simp append-assoc) (simp (h .files .four)) (h .volumes .four)
-    (h .volumes .fits) in
+    part-back 40 4 (n ++ s .files) (s .volumes) (s .nonempty ++ s .quarantined ++ k)
+    (before-three (n ++ s .files ++ s .volumes) (s .nonempty) (s .quarantined) k) (simp (h .files .four))
+    (h .volumes .four) (h .volumes .fits) in
     let es =
-    part-back 72 4 (n ++ s .files ++ s .volumes) (s .nonempty) (s .quarantined) {l = all} (simp append-assoc)
+    part-back 72 4 (n ++ s .files ++ s .volumes) (s .nonempty) (s .quarantined ++ k)
+    (append-assoc (n ++ s .files ++ s .volumes ++ s .nonempty) (s .quarantined) k)
     (simp (length-append, h .files .four, h .volumes .four)) (h .nonempty .four) (h .nonempty .fits) in
     let qs =
-    part-back 104 4 (n ++ s .files ++ s .volumes ++ s .nonempty) (s .quarantined) []
-    (sym (append-nil (n ++ s .files ++ s .volumes ++ s .nonempty ++ s .quarantined)))
+    part-back 104 4 (n ++ s .files ++ s .volumes ++ s .nonempty) (s .quarantined) k
+    refl
     (simp (length-append, h .files .four, h .volumes .four, h .nonempty .four)) (h .quarantined .four) (h .quarantined .fits) in
-    inventory-of (inventoryBytes s) (length-inventory s h) ∙ same-parts (ap (λ (l : List ℕ). getD l 0 0) ns) fs vs es qs
+    let ks =
+    part-back 136 1 (n ++ s .files ++ s .volumes ++ s .nonempty ++ s .quarantined) k []
+    (sym (append-nil (all s)))
+    (simp (length-append, h .files .four, h .volumes .four, h .nonempty .four, h .quarantined .four)) refl
+    (one-number (codeNumber (s .code)) (code-small (s .code) .0)) in
+    let number : codeIn (inventoryBytes s) ≡ codeNumber (s .code) = ap (λ (l : List ℕ). getD l 0 0) ks in
+    inventory-of (inventoryBytes s) (length-inventory s h) (ap isCode number ∙ code-small (s .code) .1)
+    ∙ same-parts (ap (λ (l : List ℕ). getD l 0 0) ns) fs vs es qs (ap codeOf number ∙ back (s .code))
 
--- the 17 numbers of an inventory are those of all its bytes
+-- the 18 numbers of an inventory are those of all its bytes
 pub stored-back : StoredBack
 unfolding inventoryBytes numbersAt
-stored-back b bytes size = ap inventoryBytes (inventory-of b size) ∙ numbers-read 17 b 0 bytes (omega arith) ∙ take-all 136 b (omega arith)
+stored-back b bytes size code =
+    ap inventoryBytes (inventory-of b size code)
+    ∙ ap (λ (k : ℕ). numbers (leAt 8 b 0 ∷ numbersAt 4 b 8 ++ numbersAt 4 b 40 ++ numbersAt 4 b 72 ++ numbersAt 4 b 104 ++ (k ∷ []))) (number-back (codeIn b) code)
+    ∙ numbers-read 18 b 0 bytes (omega arith) ∙ take-all 144 b (omega arith)

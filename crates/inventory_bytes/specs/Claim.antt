@@ -2,16 +2,21 @@
 --
 --   Held s        bytes can hold the inventory s: n is a u64, and each set is four words
 --   LoadedBack    the bytes of an inventory are that inventory
---   StoredBack    136 bytes are the bytes of the inventory that they are
+--   StoredBack    144 bytes whose code is one are the bytes of the inventory that they are
+--   OtherBytes    all other bytes are zeros, which no calls give: every call refuses it with 10
 -- Assumes nothing.
 use mathlib.Core.Path.{_≡_}
+use mathlib.Core.Logic.{_⊎_, _≢_}
 use mathlib.Core.List.{List}
 use Prim.Native.Nat.{ℕ, _^_, _<_}
+use mathlib.Core.Bool.{true, false}
+use Rattle.codes.specs.Codes.{isCode}
+use Rattle.inventory.specs.Steps.{zeros}
 use lib.ListN.{length}
 use Rattle.inventory.specs.declared.Inventory.{Inventory}
 use Rattle.little_endian.specs.Bytes.{Bytes}
 use Rattle.number_sets.specs.Sets.{Words}
-use Rattle.inventory_bytes.specs.Inventories.{inventoryOf, inventoryBytes}
+use Rattle.inventory_bytes.specs.Inventories.{codeIn, inventoryOf, inventoryBytes}
 
 pub record Held (s : Inventory) : Type 0 where
   pub small : s .n < 2 ^ 64
@@ -26,4 +31,9 @@ LoadedBack = (s : Inventory) → Held s → inventoryOf (inventoryBytes s) ≡ s
 
 -- proved: proofs/BackLaws.antt, `stored-back`
 abbrev pub StoredBack : Type 0
-StoredBack = (b : List ℕ) → Bytes b → length b ≡ 136 → inventoryBytes (inventoryOf b) ≡ b
+StoredBack = (b : List ℕ) → Bytes b → length b ≡ 144 → isCode (codeIn b) ≡ true → inventoryBytes (inventoryOf b) ≡ b
+
+-- of another length, or whose last number is that of no code
+-- proved: proofs/BackLaws.antt, `other-bytes`
+abbrev pub OtherBytes : Type 0
+OtherBytes = (b : List ℕ) → (length b ≢ 144) ⊎ (isCode (codeIn b) ≡ false) → inventoryOf b ≡ zeros

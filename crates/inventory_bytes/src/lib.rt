@@ -1,10 +1,14 @@
-// Inventories in lent bytes: 17 numbers of 64 bits.
+// Inventories in lent bytes: 18 numbers of 64 bits.
 ghost use mathlib.Core.Path.{_≡_};
 ghost use mathlib.Core.List.{[], _∷_};
 ghost use lib.ListN.{length};
 ghost use Rattle.inventory.specs.Steps.{openStep, countReply, answerNumber};
 ghost use Rattle.little_endian.specs.Bytes.{numbers as numbersOf, numbersAt};
 ghost use Rattle.inventory_bytes.specs.Inventories.{inventoryOf, inventoryBytes, openedBy, storedBy, countedInto};
+use codes::Code;
+use codes::code_number;
+use codes::code_of;
+use codes::is_code;
 use inventory::Answer;
 use inventory::Counted;
 use inventory::Inventory;
@@ -20,7 +24,7 @@ use refusals::PRESENT;
 use refusals::UNDETERMINED;
 
 // The length of an inventory, in bytes.
-pub const LENGTH: usize = 136;
+pub const LENGTH: usize = 144;
 
 // The length of a count, in bytes.
 const COUNT_LENGTH: usize = 24;
@@ -28,9 +32,9 @@ const COUNT_LENGTH: usize = 24;
 // The greatest number of files.
 const MAX_FILES: usize = 254;
 
-// Opens an inventory of n files with the sizes in these bytes.
-pub fn opened(n: u64, sizes: &[u8]) -> Outcome
-    ensures { λ r. ⌜ r ≡ openedBy n (now (sizes .entry)) ⌝ }
+// Opens an inventory for volumes of this code, of n files with the sizes in these bytes.
+pub fn opened(code: Code, n: u64, sizes: &[u8]) -> Outcome
+    ensures { λ r. ⌜ r ≡ openedBy code n (now (sizes .entry)) ⌝ }
 {
     let count = n as usize;
     if MAX_FILES < count {
@@ -40,24 +44,29 @@ pub fn opened(n: u64, sizes: &[u8]) -> Outcome
         return refused_opening(OUT_OF_RANGE);
     }
     let mut numbers = [0u64; MAX_FILES];
-    opened_by(n, sizes, &mut numbers[..count])
+    opened_by(code, n, sizes, &mut numbers[..count])
 }
 
 // Opens an inventory of n files with as many sizes as are to be read into `numbers`.
-fn opened_by<'a, 'b>(n: u64, sizes: &'a [u8], numbers: &'b mut [u64]) -> Outcome
-    ensures { λ r. ⌜ r ≡ openStep n (numbersAt (length (now (numbers .entry))) (now (sizes .entry)) 0) ⌝ }
+fn opened_by<'a, 'b>(code: Code, n: u64, sizes: &'a [u8], numbers: &'b mut [u64]) -> Outcome
+    ensures { λ r. ⌜ r ≡ openStep code n (numbersAt (length (now (numbers .entry))) (now (sizes .entry)) 0) ⌝ }
 {
     read_numbers(sizes, 0, numbers);
-    Inventory::open(n, numbers)
+    Inventory::open(code, n, numbers)
 }
 
-// The inventory that the bytes are; zeros where they are not 136.
+// The inventory that the bytes are; zeros where they are not 144, or their code is none.
 pub fn loaded(bytes: &[u8]) -> Inventory
     ensures { λ r. ⌜ r ≡ inventoryOf (now (bytes .entry)) ⌝ }
 {
     if bytes.len() != LENGTH {
         return zeros();
     }
+    let number = read64(bytes, 136);
+    if !is_code(number) {
+        return zeros();
+    }
+    let code = code_of(number);
     let files = four_at(bytes, 8);
     let volumes = four_at(bytes, 40);
     let nonempty = four_at(bytes, 72);
@@ -68,6 +77,7 @@ pub fn loaded(bytes: &[u8]) -> Inventory
         volumes,
         nonempty,
         quarantined,
+        code,
     }
 }
 
@@ -92,7 +102,7 @@ pub fn store(outcome: Outcome, out: &mut [u8]) -> u32
     write(out, &bytes)
 }
 
-// The inventory's 17 numbers.
+// The inventory's 18 numbers.
 fn bytes_of(inventory: Inventory) -> [u8; LENGTH]
     ensures { λ r. ⌜ r ≡ inventoryBytes inventory ⌝ }
 {
@@ -101,12 +111,15 @@ fn bytes_of(inventory: Inventory) -> [u8; LENGTH]
     let volumes = inventory.volumes;
     let nonempty = inventory.nonempty;
     let quarantined = inventory.quarantined;
+    let code = inventory.code;
+    let number = [code_number(code)];
     let mut bytes = [0u8; LENGTH];
     write_numbers(&mut bytes, 0, &n);
     write_numbers(&mut bytes, 8, &files);
     write_numbers(&mut bytes, 40, &volumes);
     write_numbers(&mut bytes, 72, &nonempty);
     write_numbers(&mut bytes, 104, &quarantined);
+    write_numbers(&mut bytes, 136, &number);
     bytes
 }
 

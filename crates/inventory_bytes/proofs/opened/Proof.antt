@@ -31,7 +31,7 @@ returns-3 c =
     let a = b .before .before .before .args in
     let many : length (take (a .n) (replicate {A = ℕ} 254 0)) ≡ a .n = simp length-take (omega arith) in
     simp (le-leb _ _ (b .before .if1 .left), eq-eqb _ _ (b .if2 .left))
-    (c .before .opened-by .ensures ∙ ap (λ (k : ℕ). openStep (a .n) (numbersAt k (now (a .sizes)) 0)) many)
+    (c .before .opened-by .ensures ∙ ap (λ (k : ℕ). openStep (a .code) (a .n) (numbersAt k (now (a .sizes)) 0)) many)
 
 pub opened-spec : {M : Type 1} → statement M
 opened-spec =

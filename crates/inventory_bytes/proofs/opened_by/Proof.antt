@@ -9,7 +9,7 @@ use Rattle.inventory_bytes.proofs.opened_by.Tie as tie
 returns : tie.Need-returns
 returns c =
     let r = c .before .before .before .before in
-    c .«open» .ensures ∙ ap (openStep (r .before .before .before .before .args .n)) (r .read-numbers .ensures)
+    c .«open» .ensures ∙ ap (openStep (r .before .before .before .before .args .code) (r .before .before .before .before .args .n)) (r .read-numbers .ensures)
 
 pub opened-by-spec : {M : Type 1} → statement M
 opened-by-spec = tie.close (tie.spec (λ c κs. search needs) (λ c κs. search needs) (λ c. search needs) returns)
