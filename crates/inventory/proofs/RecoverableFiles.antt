@@ -121,10 +121,12 @@ module _ (rules : Code → ℕ → ℕ → ℕ) (small : (c : Code) (f v : ℕ) 
     words = subst Words (sym z) (gathered-words solved suc isEmpty (S .words) (s .n));
   }
 
-pub set-there : (rule : ℕ → ℕ → ℕ) → ((f v : ℕ) → f < 256 → rule f v < 256) → (s : Inventory) → (r : RecoverableFiles) × RecoverableSet rule s r
-set-there rule small s = go (isInventory s) refl
+pub set-there : (rules : Code → ℕ → ℕ → ℕ) → ((c : Code) (f v : ℕ) → f < 256 → rules c f v < 256) → (s : Inventory)
+    → (r : RecoverableFiles) × RecoverableSet rules s r
+set-there rules small s = go (isInventory s) refl
   where
-    go : (v : Bool) → isInventory s ≡ v → (r : RecoverableFiles) × RecoverableSet rule s r
+    go : (v : Bool) → isInventory s ≡ v → (r : RecoverableFiles) × RecoverableSet rules s r
     go true v =
-        let (solved, S) = columns-there rule (s .nonempty) (s .files) (s .volumes) (255 - s .n) in (_, set-gathered rule small s v solved S _ refl)
-    go false v = (_, set-refused rule s v)
+        let (solved, S) = columns-there (rules (s .code)) (s .nonempty) (s .files) (s .volumes) (255 - s .n) in
+        (_, set-gathered rules small s v solved S _ refl)
+    go false v = (_, set-refused rules s v)
