@@ -17,6 +17,7 @@ use borrow.Author.Tests.{leb-true}
 use Rattle.computed_tests.specs.Numbers.{oneTo, allBelow}
 use Rattle.computed_tests.proofs.Tests.{oneTo-outside, oneTo-inside, all-at}
 use Rattle.text.specs.Buffer.{usizeMax}
+use Rattle.codes.specs.declared.Code.the-variants.{Powers}
 use Rattle.inventory.specs.Model.{Change, addFile, removeFile, addVolume, removeVolume, quarantine, release}
 use Rattle.inventory.specs.Steps.{isInventory, ifInventory, inRange, changeNumber, changeStep, outcome, refusedOpening, openStep, fresh}
 use Rattle.inventory.specs.declared.Inventory.{Inventory}
@@ -30,7 +31,7 @@ far : (c : Change) (n k : ℕ) → n ≤ 254 → 255 < k → inRange c n k ≡ f
 unfolding inRange
 far addFile n k l h = oneTo-outside n k (λ a b. omega arith)
 far removeFile n k l h = oneTo-outside n k (λ a b. omega arith)
-far addVolume n k l h = oneTo-outside (255 - n) k (λ a b. omega arith)
+far (addVolume c) n k l h = oneTo-outside (255 - n) k (λ a b. omega arith)
 far removeVolume n k l h = oneTo-outside (255 - n) k (λ a b. omega arith)
 far quarantine n k l h = oneTo-outside (255 - n) k (λ a b. omega arith)
 far release n k l h = oneTo-outside (255 - n) k (λ a b. omega arith)
@@ -52,12 +53,12 @@ change-cut c s k =
 
 -- ---- openings
 
-pub open-many : (n : ℕ) (sizes : List ℕ) → 254 < length sizes → refusedOpening 10 ≡ openStep n sizes
+pub open-many : (n : ℕ) (sizes : List ℕ) → 254 < length sizes → refusedOpening 10 ≡ openStep Powers n sizes
 open-many n sizes l = go (oneTo 254 n) refl
   where
-    go : (b : Bool) → oneTo 254 n ≡ b → refusedOpening 10 ≡ openStep n sizes
-    go true e = let i = oneTo-inside 254 n e in open-miscounted n sizes (λ z. omega arith)
-    go false e = open-out-of-range n sizes e
+    go : (b : Bool) → oneTo 254 n ≡ b → refusedOpening 10 ≡ openStep Powers n sizes
+    go true e = let i = oneTo-inside 254 n e in open-miscounted Powers n sizes (λ z. omega arith)
+    go false e = open-out-of-range Powers n sizes e
 
 module _ (n n′ : ℕ) (sizes sizes′ : List ℕ) (first : n′ ≡ min n usizeMax) (counted : length sizes′ ≡ length sizes)
     (each : (i : ℕ) → i < length sizes → getD sizes′ i 0 ≡ min (getD sizes i 0) usizeMax) where
@@ -65,37 +66,37 @@ module _ (n n′ : ℕ) (sizes sizes′ : List ℕ) (first : n′ ≡ min n usiz
   fits ss i = leb (getD ss i 0) 16777216
 
   -- sizes within the limit are not cut
-  whole : length sizes ≡ n → n′ ≡ n → ((i : ℕ) → i < n → min (getD sizes i 0) usizeMax ≤ 16777216) → openStep n′ sizes′ ≡ openStep n sizes
+  whole : length sizes ≡ n → n′ ≡ n → ((i : ℕ) → i < n → min (getD sizes i 0) usizeMax ≤ 16777216) → openStep Powers n′ sizes′ ≡ openStep Powers n sizes
   whole c e small =
-      ap₂ openStep e
+      ap₂ (openStep Powers) e
       (ext-getD 0 sizes′ sizes counted
       (λ i l. let s = small i (omega arith) in each i (omega arith) ∙ (let z : min (getD sizes i 0) usizeMax ≡ getD sizes i 0 = omega arith in z)))
 
-  refused-both : length sizes ≡ n → n′ ≡ n → allBelow n (fits sizes) ≡ false → allBelow n (fits sizes′) ≡ false → openStep n′ sizes′ ≡ openStep n sizes
+  refused-both : length sizes ≡ n → n′ ≡ n → allBelow n (fits sizes) ≡ false → allBelow n (fits sizes′) ≡ false → openStep Powers n′ sizes′ ≡ openStep Powers n sizes
   unfolding openStep
   refused-both c e a a′ =
-      ap (λ (k : ℕ). openStep k sizes′) e
-      ∙ ap₂ (λ (k : ℕ) (b : Bool). cond (oneTo 254 n && eqb k n) (cond b (outcome (fresh n sizes′) 0) (refusedOpening 1)) (refusedOpening 10)) counted a′
-      ∙ sym (ap (λ (b : Bool). cond (oneTo 254 n && eqb (length sizes) n) (cond b (outcome (fresh n sizes) 0) (refusedOpening 1)) (refusedOpening 10)) a)
+      ap (λ (k : ℕ). openStep Powers k sizes′) e
+      ∙ ap₂ (λ (k : ℕ) (b : Bool). cond (oneTo 254 n && eqb k n) (cond b (outcome (fresh Powers n sizes′) 0) (refusedOpening 1)) (refusedOpening 10)) counted a′
+      ∙ sym (ap (λ (b : Bool). cond (oneTo 254 n && eqb (length sizes) n) (cond b (outcome (fresh Powers n sizes) 0) (refusedOpening 1)) (refusedOpening 10)) a)
 
-  by-sizes : length sizes ≡ n → n′ ≡ n → (b b′ : Bool) → allBelow n (fits sizes) ≡ b → allBelow n (fits sizes′) ≡ b′ → openStep n′ sizes′ ≡ openStep n sizes
+  by-sizes : length sizes ≡ n → n′ ≡ n → (b b′ : Bool) → allBelow n (fits sizes) ≡ b → allBelow n (fits sizes′) ≡ b′ → openStep Powers n′ sizes′ ≡ openStep Powers n sizes
   by-sizes c e true b′ a a′ = whole c e (λ i l. let s = leb-true (getD sizes i 0) 16777216 (all-at n (fits sizes) a i l) in omega arith)
   by-sizes c e false true a a′ =
       whole c e (λ i l. let s = leb-true (getD sizes′ i 0) 16777216 (all-at n (fits sizes′) a′ i l) in omega (arith, each i (omega arith)))
   by-sizes c e false false a a′ = refused-both c e a a′
 
-  pub open-cut : openStep n′ sizes′ ≡ openStep n sizes
+  pub open-cut : openStep Powers n′ sizes′ ≡ openStep Powers n sizes
   open-cut = go (oneTo 254 n) refl
     where
-      go : (b : Bool) → oneTo 254 n ≡ b → openStep n′ sizes′ ≡ openStep n sizes
+      go : (b : Bool) → oneTo 254 n ≡ b → openStep Powers n′ sizes′ ≡ openStep Powers n sizes
       go true e =
           let i = oneTo-inside 254 n e in
           let z : n′ ≡ n = omega (arith, first) in
           elim (ℕ-discrete (length sizes) n) [
             | yes c ↦ by-sizes c z (allBelow n (fits sizes)) (allBelow n (fits sizes′)) refl refl
-            | no q ↦ sym (open-miscounted n′ sizes′ (λ h. q (omega (arith, counted)))) ∙ open-miscounted n sizes q
+            | no q ↦ sym (open-miscounted Powers n′ sizes′ (λ h. q (omega (arith, counted)))) ∙ open-miscounted Powers n sizes q
           ]
-      go false e = sym (open-out-of-range n′ sizes′ outside) ∙ open-out-of-range n sizes e
+      go false e = sym (open-out-of-range Powers n′ sizes′ outside) ∙ open-out-of-range Powers n sizes e
         where
           outside : oneTo 254 n′ ≡ false
           outside =

@@ -19,6 +19,7 @@ use lib.ListN.{length, getD, take, drop}
 use lib.Seq.{length-take-le}
 use borrow.Author.Tests.{le-leb, lt-leb, ne-eqb, eq-eqb}
 use Rattle.lent_bytes.proofs.PartLaws.{part-take}
+use Rattle.codes.specs.declared.Code.the-variants.{Powers}
 use Rattle.inventory.specs.Model.{removeVolume}
 use Rattle.inventory.specs.Steps.{openStep, changeStep}
 use Rattle.inventory.specs.declared.Inventory.{Inventory}
@@ -83,7 +84,7 @@ module _ (log : List ℕ) where
   first = bodyOf (take (lineLength log) log)
 
   abbrev firstOpens : Event
-  firstOpens = openedBy (lineLength log) (openStep (getD (numbersOf first) 0 0) (drop 1 (numbersOf first)))
+  firstOpens = openedBy (lineLength log) (openStep Powers (getD (numbersOf first) 0 0) (drop 1 (numbersOf first)))
 
   pub opening-long : 65536 < length log → ended 1 ≡ opening log
   unfolding opening

@@ -22,6 +22,7 @@ use Rattle.gf256.proofs.Xor.{xor-twice}
 use Rattle.gf256.proofs.Products.{product-assoc, product-one-l}
 use Rattle.parity.specs.Coefficient.{coefficient}
 use Rattle.parity.specs.Parity.{Contents, isFile, greatest, parityByte}
+use Rattle.codes.specs.declared.Code.the-variants.{Powers}
 use Rattle.inventory.specs.Recoverable.{State, IsContents, Alike, Recoverable}
 use Rattle.inventory.specs.Model.{addFile, addVolume, change, opened, insert, numberOf, changed, next}
 use Rattle.inventory.specs.Steps.{openStep}
@@ -41,10 +42,10 @@ size = sizeIn (2 ∷ 1 ∷ [])
 
 -- volume 2 present, and file 1 too
 abbrev t₁ : State
-t₁ = record { n = 2; size = size; files = λ f. false; volumes = insert 2 (λ v. false); quarantined = λ v. false }
+t₁ = record { n = 2; size = size; files = λ f. false; volumes = insert 2 (λ v. false); quarantined = λ v. false; code = Powers }
 
 abbrev t₂ : State
-t₂ = record { n = 2; size = size; files = insert 1 (λ f. false); volumes = insert 2 (λ v. false); quarantined = λ v. false }
+t₂ = record { n = 2; size = size; files = insert 1 (λ f. false); volumes = insert 2 (λ v. false); quarantined = λ v. false; code = Powers }
 
 -- what holds of the two files holds of each
 each-file : (P : ℕ → Type 0) → P 1 → P 2 → (f : ℕ) → isFile 2 f ≡ true → P f
@@ -145,7 +146,7 @@ second-back X Y hX hY a =
 
 -- ---- the text
 
-first-next : next (opened 2 size) (change addVolume 2) ≡ t₁
+first-next : next (opened Powers 2 size) (change (addVolume Powers) 2) ≡ t₁
 unfolding next numberOf changed
 first-next = refl
 
@@ -171,7 +172,7 @@ module _ (d : State → ℕ → Bool) (D : Decides coefficient d) where
   second-now : d t₂ 2 ≡ true
   second-now = D t₂ (omega arith) 2 .1 (refl, refl, second-back)
 
-  first-line : eventLine d (opened 2 size) addVolume 2 ≡ ascii "none\n"
+  first-line : eventLine d (opened Powers 2 size) (addVolume Powers) 2 ≡ ascii "none\n"
   unfolding eventLine next numberOf changed filesOf
   first-line =
       ap₂ (λ (a b : Bool). numbersLine (([] ++ cond a (1 ∷ []) []) ++ cond b (2 ∷ []) [])) (none-yet 1 refl) (none-yet 2 refl)
@@ -181,7 +182,7 @@ module _ (d : State → ℕ → Bool) (D : Decides coefficient d) where
   second-line =
       ap₂ (λ (a b : Bool). numbersLine (([] ++ cond a (1 ∷ []) []) ++ cond b (2 ∷ []) [])) present-not second-now
 
-  third-line : eventLine d t₂ addVolume 2 ≡ ascii "refused 11\n"
+  third-line : eventLine d t₂ (addVolume Powers) 2 ≡ ascii "refused 11\n"
   unfolding eventLine numberOf refusedLine decimal decimalIn
   third-line = refl
 
@@ -192,17 +193,17 @@ module _ (d : State → ℕ → Bool) (D : Decides coefficient d) where
   unfolding decimal decimalIn flatten
   the-log = refl
 
-  opens : openStep 2 (2 ∷ 1 ∷ []) .number ≡ 0
+  opens : openStep Powers 2 (2 ∷ 1 ∷ []) .number ≡ 0
   unfolding openStep
   opens = refl
 
-  the-lines : linesOf d (opened 2 size) events ≡ ascii "none\n2\nrefused 11\n"
+  the-lines : linesOf d (opened Powers 2 size) events ≡ ascii "none\n2\nrefused 11\n"
   unfolding linesOf
   the-lines =
       ap₂ (λ (a b : List ℕ). a ++ b) first-line
-      (ap (λ (t : State). eventLine d t addFile 1 ++ (eventLine d (next t (change addFile 1)) addVolume 2 ++ [])) first-next
+      (ap (λ (t : State). eventLine d t addFile 1 ++ (eventLine d (next t (change addFile 1)) (addVolume Powers) 2 ++ [])) first-next
       ∙ ap₂ (λ (a b : List ℕ). a ++ b) second-line
-      (ap (λ (t : State). eventLine d t addVolume 2 ++ []) second-next ∙ ap (λ (l : List ℕ). l ++ []) third-line))
+      (ap (λ (t : State). eventLine d t (addVolume Powers) 2 ++ []) second-next ∙ ap (λ (l : List ℕ). l ++ []) third-line))
 
 pub example-prints : ExamplePrints
 example-prints d D =

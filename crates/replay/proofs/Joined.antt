@@ -12,24 +12,23 @@ use Prim.Native.Nat.{ℕ, zero, suc, _-_, _<_}
 use native.Mathlib.Nat.{not-suc-le-zero}
 use native.Mathlib.Omega.{arith}
 use lib.ListN.{length}
-use Rattle.parity.specs.Coefficient.{coefficient}
+use Rattle.parity.specs.Coefficient.{coefficient, ruleOf}
 use Rattle.inventory.specs.Recoverable.{State}
-use Rattle.inventory.proofs.Representation.{Represents}
 use Rattle.replay.specs.Replay.{Decides, replayOf}
 use Rattle.replay.specs.Events.{opening, nextEvent, Prints, ends, goes-on}
 use Rattle.replay.specs.Claim.{LogPrints, at-once, by-events, LinesThere, LinesJoined}
 use Rattle.replay.specs.declared.events.Event.{Event}
 use Rattle.replay.proofs.EventLines.{line-refused, line-there}
-use Rattle.replay.proofs.ReplayLaws.{linesFrom, opening-starts, Follows, next-follows, next-goes}
+use Rattle.replay.proofs.ReplayLaws.{Stands, linesFrom, opening-starts, Follows, next-follows, next-goes}
 
 -- ---- there are lines
 
 -- as long as an event goes on there is less of the log
 prints-there : (log : List ℕ) (m : ℕ) (e : Event) → (e .over ≡ false → length log - e .from < m)
-    → (lines : List (List ℕ)) × Prints coefficient log e lines
+    → (lines : List (List ℕ)) × Prints ruleOf log e lines
 prints-there log zero e h = by (e .over) refl
   where
-    by : (b : Bool) → e .over ≡ b → (lines : List (List ℕ)) × Prints coefficient log e lines
+    by : (b : Bool) → e .over ≡ b → (lines : List (List ℕ)) × Prints ruleOf log e lines
     by true o = ([], ends o)
     by false o = absurd (not-suc-le-zero (h o))
 prints-there log (suc m) e h = by (e .over) refl (prints-there log m (nextEvent log (e .from) (e .inventory)))
@@ -38,8 +37,8 @@ prints-there log (suc m) e h = by (e .over) refl (prints-there log m (nextEvent 
     next = nextEvent log (e .from) (e .inventory)
 
     by : (b : Bool) → e .over ≡ b
-        → ((next .over ≡ false → length log - next .from < m) → (lines : List (List ℕ)) × Prints coefficient log next lines)
-        → (lines : List (List ℕ)) × Prints coefficient log e lines
+        → ((next .over ≡ false → length log - next .from < m) → (lines : List (List ℕ)) × Prints ruleOf log next lines)
+        → (lines : List (List ℕ)) × Prints ruleOf log e lines
     by true o more = ([], ends o)
     by false o more =
         let (line, E) = line-there next in
@@ -50,19 +49,19 @@ prints-there log (suc m) e h = by (e .over) refl (prints-there log m (nextEvent 
 pub lines-there : LinesThere
 lines-there log = go (opening log .over) refl
   where
-    go : (b : Bool) → opening log .over ≡ b → (lines : List (List ℕ)) × LogPrints coefficient log lines
+    go : (b : Bool) → opening log .over ≡ b → (lines : List (List ℕ)) × LogPrints ruleOf log lines
     go true o = let (line, E) = line-there (opening log) in (line ∷ [], at-once o E)
     go false o = let (lines, P) = prints-there log (suc (length log)) (opening log) (λ _. omega arith) in (lines, by-events o P)
 
 -- ---- they are the text
 
 module _ (d : State → ℕ → Bool) (D : Decides coefficient d) (log : List ℕ) where
-  ended-none : (e : Event) (lines : List (List ℕ)) → Prints coefficient log e lines → e .over ≡ true → lines ≡ []
+  ended-none : (e : Event) (lines : List (List ℕ)) → Prints ruleOf log e lines → e .over ≡ true → lines ≡ []
   ended-none e lines (ends y) o = refl
   ended-none e lines (goes-on y E more) o = absurd (true≢false (sym o ∙ y))
 
-  prints-joined : (size : ℕ → ℕ) (t : State) (e : Event) (lines : List (List ℕ)) → Represents size t (e .inventory) → e .over ≡ false
-      → Prints coefficient log e lines → flatten lines ≡ linesFrom d t log (e .from)
+  prints-joined : (size : ℕ → ℕ) (t : State) (e : Event) (lines : List (List ℕ)) → Stands size t (e .inventory) → e .over ≡ false
+      → Prints ruleOf log e lines → flatten lines ≡ linesFrom d t log (e .from)
   unfolding flatten
   prints-joined size t e lines R o (ends y) = absurd (true≢false (sym y ∙ o))
   prints-joined size t e (line ∷ lines) R o (goes-on y E more) =
@@ -72,8 +71,8 @@ module _ (d : State → ℕ → Bool) (D : Decides coefficient d) (log : List �
       next : Event
       next = nextEvent log (e .from) (e .inventory)
 
-      after : (b : Bool) → next .over ≡ b → Follows size t log (e .from) next line → Prints coefficient log next lines
-          → ((t′ : State) → Represents size t′ (next .inventory) → next .over ≡ false → flatten lines ≡ linesFrom d t′ log (next .from))
+      after : (b : Bool) → next .over ≡ b → Follows size t log (e .from) next line → Prints ruleOf log next lines
+          → ((t′ : State) → Stands size t′ (next .inventory) → next .over ≡ false → flatten lines ≡ linesFrom d t′ log (next .from))
           → line ++ flatten lines ≡ linesFrom d t log (e .from)
       after true v F p rest =
           ap (λ (ls : List (List ℕ)). line ++ flatten ls) (ended-none next lines p v) ∙ append-nil line ∙ sym (F .ends v d D)
@@ -81,7 +80,7 @@ module _ (d : State → ℕ → Bool) (D : Decides coefficient d) (log : List �
           let (t′, R′, h) = F .goes v in
           ap (λ (l : List ℕ). line ++ l) (rest t′ R′ v) ∙ sym (h d D)
 
-  log-joined : (lines : List (List ℕ)) → LogPrints coefficient log lines → flatten lines ≡ replayOf d log
+  log-joined : (lines : List (List ℕ)) → LogPrints ruleOf log lines → flatten lines ≡ replayOf d log
   unfolding flatten
   log-joined lines (at-once {line} o E) =
       let (q, h) = opening-starts log .refusal o in

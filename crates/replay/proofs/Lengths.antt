@@ -18,6 +18,8 @@ use borrow.Author.Tests.{leb-true, eq-eqb, ne-eqb}
 use Rattle.cut_lists.specs.Pieces.{Cut, cut}
 use Rattle.cut_lists.proofs.CutLaws.{cut-count}
 use Rattle.parity.specs.Parity.{isFile}
+use Rattle.codes.specs.Codes.{same}
+use Rattle.codes.specs.declared.Code.the-variants.{Powers}
 use Rattle.inventory.specs.Recoverable.{State, isVolume}
 use Rattle.inventory.specs.Model.{Change, addFile, removeFile, addVolume, removeVolume, quarantine, release, change, opened, numberOf, next}
 use Rattle.computed_tests.specs.Numbers.{oneTo, allBelow}
@@ -89,20 +91,22 @@ number-small : (t : State) (c : Change) (k : ℕ) → numberOf t c k < 1000
 unfolding numberOf
 number-small t addFile f = ranged (isFile (t .n) f) (cond (t .files f) 11 0) (of-cond (t .files f) 11 0 (omega arith) (omega arith))
 number-small t removeFile f = ranged (isFile (t .n) f) (cond (t .files f) 0 11) (of-cond (t .files f) 0 11 (omega arith) (omega arith))
-number-small t addVolume v =
-    ranged (isVolume (t .n) v) (cond (t .quarantined v) 27 (cond (t .volumes v) 11 0))
-    (of-cond (t .quarantined v) 27 (cond (t .volumes v) 11 0) (omega arith) (of-cond (t .volumes v) 11 0 (omega arith) (omega arith)))
+number-small t (addVolume c) v =
+    let own : ℕ = cond (t .quarantined v) 27 (cond (t .volumes v) 11 0) in
+    ranged (isVolume (t .n) v) (cond (same c (t .code)) own 29)
+    (of-cond (same c (t .code)) own 29
+    (of-cond (t .quarantined v) 27 (cond (t .volumes v) 11 0) (omega arith) (of-cond (t .volumes v) 11 0 (omega arith) (omega arith))) (omega arith))
 number-small t removeVolume v =
     let here : Bool = t .volumes v || t .quarantined v in
     ranged (isVolume (t .n) v) (cond here 0 11) (of-cond here 0 11 (omega arith) (omega arith))
 number-small t quarantine v = ranged (isVolume (t .n) v) (cond (t .volumes v) 0 11) (of-cond (t .volumes v) 0 11 (omega arith) (omega arith))
 number-small t release v = ranged (isVolume (t .n) v) (cond (t .quarantined v) 0 11) (of-cond (t .quarantined v) 0 11 (omega arith) (omega arith))
 
-pub opening-small : (n : ℕ) (sizes : List ℕ) → openStep n sizes .number < 1000
+pub opening-small : (n : ℕ) (sizes : List ℕ) → openStep Powers n sizes .number < 1000
 unfolding openStep
 opening-small n sizes = go (oneTo 254 n && eqb (length sizes) n) (allBelow n (λ i. leb (getD sizes i 0) 16777216))
   where
-    go : (a b : Bool) → cond a (cond b (outcome (fresh n sizes) 0) (refusedOpening 1)) (refusedOpening 10) .number < 1000
+    go : (a b : Bool) → cond a (cond b (outcome (fresh Powers n sizes) 0) (refusedOpening 1)) (refusedOpening 10) .number < 1000
     go true true = omega arith
     go true false = omega arith
     go false b = omega arith
@@ -146,13 +150,13 @@ module _ (d : State → ℕ → Bool) where
   opened-short : (n : ℕ) (sizes : List ℕ) (ls : List (List ℕ)) (rest : List ℕ) → length (openedLines d n sizes ls rest) ≤ 1024 * (length ls + 1)
   unfolding openedLines
   opened-short n sizes ls rest =
-      elim (ℕ-discrete (openStep n sizes .number) 0) [
+      elim (ℕ-discrete (openStep Powers n sizes .number) 0) [
         | yes e ↦
-            subst (λ (b : Bool). length (cond b (eventLines d (opened n (sizeIn sizes)) ls rest) (refusedLine (openStep n sizes .number))) ≤ 1024 * (length ls + 1))
-            (sym (eq-eqb (openStep n sizes .number) 0 e)) (lines-short (opened n (sizeIn sizes)) (opened-represents n sizes e .0) ls rest)
+            subst (λ (b : Bool). length (cond b (eventLines d (opened Powers n (sizeIn sizes)) ls rest) (refusedLine (openStep Powers n sizes .number))) ≤ 1024 * (length ls + 1))
+            (sym (eq-eqb (openStep Powers n sizes .number) 0 e)) (lines-short (opened Powers n (sizeIn sizes)) (opened-represents Powers n sizes e .0) ls rest)
         | no q ↦
-            subst (λ (b : Bool). length (cond b (eventLines d (opened n (sizeIn sizes)) ls rest) (refusedLine (openStep n sizes .number))) ≤ 1024 * (length ls + 1))
-            (sym (ne-eqb (openStep n sizes .number) 0 q)) (let r = refused-short (openStep n sizes .number) (opening-small n sizes) in omega arith)
+            subst (λ (b : Bool). length (cond b (eventLines d (opened Powers n (sizeIn sizes)) ls rest) (refusedLine (openStep Powers n sizes .number))) ≤ 1024 * (length ls + 1))
+            (sym (ne-eqb (openStep Powers n sizes .number) 0 q)) (let r = refused-short (openStep Powers n sizes .number) (opening-small n sizes) in omega arith)
       ]
 
   log-short : (ls : List (List ℕ)) (rest : List ℕ) → length (logLines d ls rest) ≤ 1024 * (length ls + 1)

@@ -14,6 +14,7 @@ use native.Mathlib.Nat.{not-suc-le-zero}
 use native.Mathlib.Omega.{arith}
 use native.Mathlib.Decide.{ℕ-discrete, decLe}
 use lib.ListN.{length, take, drop, length-append}
+use Rattle.codes.specs.declared.Code.the-variants.{Powers}
 use Rattle.inventory.specs.Steps.{openStep}
 use Rattle.text.specs.TextLines.{lineLength}
 use Rattle.replay.specs.Log.{bodyOf, isFirstLine, isEventLine}
@@ -86,7 +87,7 @@ each-log log =
       | no q ↦ too-long log (omega arith)
     ]
   where
-    opened : (n : ℕ) (sizes s : List ℕ) → openStep n sizes .number ≡ 0 → length (firstText n sizes ++ s) ≤ 65536 → Events s
+    opened : (n : ℕ) (sizes s : List ℕ) → openStep Powers n sizes .number ≡ 0 → length (firstText n sizes ++ s) ≤ 65536 → Events s
         → LogKind (firstText n sizes ++ s)
     opened n sizes s o l (es, r, z, none) =
         let e : firstText n sizes ++ s ≡ logText n sizes es ++ r =
@@ -98,7 +99,7 @@ each-log log =
     short l (inl (n, sizes, s, z)) =
         let h = subst (λ (x : List ℕ). length x ≤ 65536) z l in
         subst LogKind (sym z)
-        (elim (ℕ-discrete (openStep n sizes .number) 0) [
+        (elim (ℕ-discrete (openStep Powers n sizes .number) 0) [
           | yes o ↦ opened n sizes s o h (events-there (suc (length s)) s (omega arith))
           | no q ↦ not-opened n sizes s q h
         ])

@@ -20,6 +20,7 @@ use lib.Seq.{take-at, drop-at}
 use borrow.Author.Tests.{le-leb, lt-leb, eq-eqb, ne-eqb}
 use Rattle.cut_lists.specs.Pieces.{Cut, none, before, cut}
 use Rattle.cut_lists.proofs.CutLaws.{cut-none, cut-stop, cut-more}
+use Rattle.codes.specs.declared.Code.the-variants.{Powers}
 use Rattle.inventory.specs.Recoverable.{State}
 use Rattle.inventory.specs.Model.{Change, change, opened, next}
 use Rattle.inventory.specs.Steps.{openStep}
@@ -115,8 +116,8 @@ pub opening-refused : OpeningRefused
 unfolding openedLines
 opening-refused d n sizes s q h =
     by-first d n sizes s h
-    ∙ ap (λ (b : Bool). cond b (eventLines d (opened n (sizeIn sizes)) (cut lineLength s .pieces) (cut lineLength s .rest)) (refusedLine (openStep n sizes .number)))
-    (ne-eqb (openStep n sizes .number) 0 q)
+    ∙ ap (λ (b : Bool). cond b (eventLines d (opened Powers n (sizeIn sizes)) (cut lineLength s .pieces) (cut lineLength s .rest)) (refusedLine (openStep Powers n sizes .number)))
+    (ne-eqb (openStep Powers n sizes .number) 0 q)
 
 pub first-refused : FirstRefused
 unfolding logLines
@@ -220,6 +221,6 @@ log-replayed d n sizes es s e none h =
     let rest : List ℕ = flatten (map eventText es) ++ s in
     let z : logText n sizes es ++ s ≡ firstText n sizes ++ rest = append-assoc (firstText n sizes) (flatten (map eventText es)) s in
     ap (replayOf d) z ∙ by-first d n sizes rest (subst (λ (l : List ℕ). length l ≤ 65536) z h)
-    ∙ ap (λ (b : Bool). cond b (eventLines d (opened n (sizeIn sizes)) (cut lineLength rest .pieces) (cut lineLength rest .rest)) (refusedLine (openStep n sizes .number)))
-    (eq-eqb (openStep n sizes .number) 0 e)
-    ∙ events-lines d (opened n (sizeIn sizes)) es s none
+    ∙ ap (λ (b : Bool). cond b (eventLines d (opened Powers n (sizeIn sizes)) (cut lineLength rest .pieces) (cut lineLength rest .rest)) (refusedLine (openStep Powers n sizes .number)))
+    (eq-eqb (openStep Powers n sizes .number) 0 e)
+    ∙ events-lines d (opened Powers n (sizeIn sizes)) es s none

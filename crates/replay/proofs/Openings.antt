@@ -13,6 +13,7 @@ use native.Mathlib.Omega.{arith}
 use lib.Dec.{eqb}
 use lib.ListN.{length, getD, take, drop, length-drop}
 use lib.Seq.{getD-take, getD-drop, length-take-le}
+use Rattle.codes.specs.declared.Code.the-variants.{Powers}
 use Rattle.inventory.specs.Steps.{openStep, refusedOpening}
 use Rattle.text.specs.Buffer.{usizeMax}
 use Rattle.text.specs.Decimal.{valueOf}
@@ -43,11 +44,11 @@ module _ (line : List ℕ) (r : Numbers) (N : NumbersRead line r) (ok : r .shape
   abbrev ns : List ℕ
   ns = numbersOf line
 
-  pub many : 255 < r .count → refusedOpening 10 ≡ openStep (getD ns 0 0) (drop 1 ns)
+  pub many : 255 < r .count → refusedOpening 10 ≡ openStep Powers (getD ns 0 0) (drop 1 ns)
   many l = open-many (getD ns 0 0) (drop 1 ns) (omega (arith, N .counted ok, length-drop 1 ns))
 
   pub opened : r .count ≤ 255
-      → openStep (getD (r .values) 0 0) (take (r .count - 1) (drop 1 (r .values))) ≡ openStep (getD ns 0 0) (drop 1 ns)
+      → openStep Powers (getD (r .values) 0 0) (take (r .count - 1) (drop 1 (r .values))) ≡ openStep Powers (getD ns 0 0) (drop 1 ns)
   opened l =
       let c = N .counted ok in
       let long = N .full in

@@ -11,6 +11,8 @@ use Prim.Native.Nat.{ℕ, _^_, _-_, _<_, _≤_}
 use native.Mathlib.Omega.{arith}
 use Rattle.computed_tests.specs.Numbers.{oneTo}
 use Rattle.computed_tests.proofs.Tests.{oneTo-in, oneTo-outside}
+use Rattle.codes.specs.Codes.{same}
+use Rattle.codes.specs.declared.Code.the-variants.{Powers}
 use Rattle.inventory.specs.Recoverable.{State}
 use Rattle.inventory.specs.Model.{numberOf}
 use Rattle.inventory.specs.Steps.{openStep}
@@ -18,7 +20,7 @@ use Rattle.inventory.specs.declared.Outcome.{Outcome}
 use Rattle.inventory.proofs.Outcomes.{open-out-of-range, open-miscounted, open-too-large, open-accepted}
 use Rattle.replay.specs.Claim.{Arrival, fileAdded, volumeAdded, fileRemoved, volumeRemoved, changeBy, OpeningNumbers, LargeNumbers}
 
-told : (n : ℕ) (sizes : List ℕ) {r : Outcome} → r ≡ openStep n sizes → openStep n sizes .number ≡ r .number
+told : (n : ℕ) (sizes : List ℕ) {r : Outcome} → r ≡ openStep Powers n sizes → openStep Powers n sizes .number ≡ r .number
 told n sizes e = sym (ap (λ (o : Outcome). o .number) e)
 
 outside : (n : ℕ) → (n < 1) ⊎ (254 < n) → oneTo 254 n ≡ false
@@ -27,17 +29,17 @@ outside n (inr h) = oneTo-outside 254 n (λ a b. omega arith)
 
 pub opening-numbers : OpeningNumbers
 opening-numbers = record {
-  out-of-range = λ n sizes h. told n sizes (open-out-of-range n sizes (outside n h));
-  miscounted = λ n sizes q. told n sizes (open-miscounted n sizes q);
-  too-large = λ n sizes a b c i l h. told n sizes (open-too-large n sizes (oneTo-in 254 n a b) c i l h);
-  accepted = λ n sizes a b c h. told n sizes (open-accepted n sizes (oneTo-in 254 n a b) c h);
+  out-of-range = λ n sizes h. told n sizes (open-out-of-range Powers n sizes (outside n h));
+  miscounted = λ n sizes q. told n sizes (open-miscounted Powers n sizes q);
+  too-large = λ n sizes a b c i l h. told n sizes (open-too-large Powers n sizes (oneTo-in 254 n a b) c i l h);
+  accepted = λ n sizes a b c h. told n sizes (open-accepted Powers n sizes (oneTo-in 254 n a b) c h);
 }
 
 large-in-event : (t : State) → t .n ≤ 254 → (a : Arrival) (k : ℕ) → 2 ^ 64 ≤ k → numberOf t (changeBy a) k ≡ 10
 unfolding numberOf
 large-in-event t l fileAdded k h = ap (λ (b : Bool). cond b (cond (t .files k) 11 0) 10) (oneTo-outside (t .n) k (λ a b. omega arith))
 large-in-event t l volumeAdded k h =
-    ap (λ (b : Bool). cond b (cond (t .quarantined k) 27 (cond (t .volumes k) 11 0)) 10) (oneTo-outside (255 - t .n) k (λ a b. omega arith))
+    ap (λ (b : Bool). cond b (cond (same Powers (t .code)) (cond (t .quarantined k) 27 (cond (t .volumes k) 11 0)) 29) 10) (oneTo-outside (255 - t .n) k (λ a b. omega arith))
 large-in-event t l fileRemoved k h = ap (λ (b : Bool). cond b (cond (t .files k) 0 11) 10) (oneTo-outside (t .n) k (λ a b. omega arith))
 large-in-event t l volumeRemoved k h =
     ap (λ (b : Bool). cond b (cond (t .volumes k || t .quarantined k) 0 11) 10) (oneTo-outside (255 - t .n) k (λ a b. omega arith))

@@ -1,13 +1,14 @@
 -- The events on inventories are those of the model, so the lines after them, one after another, are what a replay prints.
 --
 --   linesFrom d t log from      the lines after the events from a position on
+--   Stands size t s             the inventory s stands for the state t, whose code is the replay's
 --   files-line                  the line of the recoverable files of an inventory that stands for a state
 --   Starts, opening-starts      the first line
 --   Follows, next-follows       an event
 --   next-goes                   one that is taken goes on in the log
 -- Assumes nothing.
 use mathlib.Core.Path.{_≡_, refl, sym, ap, ap₂, _∙_, subst, fun-ext}
-use mathlib.Core.Logic.{_≢_}
+use mathlib.Core.Logic.{_↔_, _≢_}
 use mathlib.Core.Bool.{Bool, true, false, cond, true≢false, false≢true}
 use mathlib.Core.List.{List, [], _∷_, _++_}
 use Prim.Native.Nat.{ℕ, _+_, _≤_, _<_}
@@ -21,18 +22,21 @@ use borrow.Author.Tests.{le-leb, lt-leb, eq-eqb, ne-eqb}
 use Rattle.cut_lists.specs.Pieces.{Cut, cut}
 use Rattle.cut_lists.proofs.CutLaws.{cut-none, cut-stop, cut-more}
 use Rattle.number_sets.specs.Sets.{member}
-use Rattle.parity.specs.Coefficient.{coefficient}
+use Rattle.parity.specs.Coefficient.{coefficient, ruleOf}
+use Rattle.codes.specs.declared.Code.{Code}
+use Rattle.codes.specs.declared.Code.the-variants.{Powers}
 use Rattle.inventory.specs.Recoverable.{State}
 use Rattle.inventory.specs.Model.{Change, change, numbered, opened, numberOf, next, Gives}
 use Rattle.inventory.specs.Steps.{isInventory, openStep, changeStep}
 use Rattle.inventory.specs.Claim.{Step, sizeIn}
-use Rattle.inventory.specs.RecoverableFiles.{RecoverableSet}
+use Rattle.inventory.specs.RecoverableFiles.{RecoverableNow, RecoverableSet}
 use Rattle.inventory.specs.declared.Inventory.{Inventory}
 use Rattle.inventory.specs.declared.Outcome.{Outcome}
 use Rattle.inventory.specs.declared.recoverable.RecoverableFiles.{RecoverableFiles}
 use Rattle.inventory.proofs.ValidInventories.{few-files}
 use Rattle.inventory.proofs.Representation.{Represents, meets}
 use Rattle.inventory.proofs.Openings.{opened-represents}
+use Rattle.inventory.proofs.Calls.{next-same}
 use Rattle.inventory.proofs.RecoverableAnswers.{same-test, represented-set}
 use Rattle.text.specs.TextLines.{lineLength}
 use Rattle.text.proofs.ScanLaws.{line-most}
@@ -50,19 +54,28 @@ linesFrom d t log from = let c : Cut = cut lineLength (drop from log) in eventLi
 abbrev Test : Type 0
 Test = State → ℕ → Bool
 
+-- ---- what a replay stands at
+
+-- the inventory s stands for the state t, which has the code of the replay
+pub record Stands (size : ℕ → ℕ) (t : State) (s : Inventory) : Type 0 where
+  pub represents : Represents size t s
+  pub powers : t .code ≡ Powers
+
 -- ---- the recoverable files
 
 few-in : (size : ℕ → ℕ) (t : State) (s : Inventory) → Represents size t s → t .n ≤ 254
 few-in size t s R = let l = few-files s (R .valid) in subst (λ (t : State). t .n ≤ 254) (sym (R .state)) l
 
-pub files-line : (d : Test) → Decides coefficient d → (size : ℕ → ℕ) (t : State) (s : Inventory) → Represents size t s
-    → (r : RecoverableFiles) → RecoverableSet coefficient s r → numbersLine (filesOf (s .n) (member (r .files))) ≡ numbersLine (filesOf (t .n) (d t))
-files-line d D size t s R r F =
-    ap₂ (λ (n : ℕ) (test : ℕ → Bool). numbersLine (filesOf n test)) (sym (ap (λ (t : State). t .n) (R .state)))
+pub files-line : (d : Test) → Decides coefficient d → (size : ℕ → ℕ) (t : State) (s : Inventory) → Stands size t s
+    → (r : RecoverableFiles) → RecoverableSet ruleOf s r → numbersLine (filesOf (s .n) (member (r .files))) ≡ numbersLine (filesOf (t .n) (d t))
+files-line d D size t s S r F =
+    ap₂ (λ (n : ℕ) (test : ℕ → Bool). numbersLine (filesOf n test)) (sym (ap (λ (t : State). t .n) (S .represents .state)))
     (fun-ext
     (λ f.
-    let in-set = represented-set coefficient size t s R r F f in
-    let decided = D t (few-in size t s R) f in
+    let in-set =
+    subst (λ (c : Code). (member (r .files) f ≡ true) ↔ RecoverableNow (ruleOf c) t f) (S .powers)
+    (represented-set ruleOf size t s (S .represents) r F f) in
+    let decided = D t (few-in size t s (S .represents)) f in
     same-test (member (r .files) f) (d t f) (λ h. decided .1 (in-set .0 h)) (λ h. in-set .1 (decided .0 h))))
 
 -- ---- the first line
@@ -70,7 +83,7 @@ files-line d D size t s R r F =
 pub record Starts (log : List ℕ) (e : Event) : Type 0 where
   pub refusal : e .over ≡ true → (e .number ≢ 0) × ((d : Test) → replayOf d log ≡ refusedLine (e .number))
   pub goes : e .over ≡ false
-      → (size : ℕ → ℕ) × (t : State) × Represents size t (e .inventory) × ((d : Test) → replayOf d log ≡ linesFrom d t log (e .from))
+      → (size : ℕ → ℕ) × (t : State) × Stands size t (e .inventory) × ((d : Test) → replayOf d log ≡ linesFrom d t log (e .from))
 
 module _ (log : List ℕ) where
   abbrev first : List ℕ
@@ -119,33 +132,33 @@ module _ (log : List ℕ) where
       first-shape : isFirstLine first ≡ true → (d : Test) → replayOf d log ≡ openedLines d n sizes (after .pieces) (after .rest)
       first-shape e d = by-first d ∙ ap (λ (b : Bool). cond b (openedLines d n sizes (after .pieces) (after .rest)) (refusedLine 28)) e
 
-      by-number : isFirstLine first ≡ true → openedBy (lineLength log) (openStep n sizes) ≡ opening log → Starts log (opening log)
+      by-number : isFirstLine first ≡ true → openedBy (lineLength log) (openStep Powers n sizes) ≡ opening log → Starts log (opening log)
       unfolding openedBy openedLines
       by-number f z =
-          elim (ℕ-discrete (openStep n sizes .number) 0) [
+          elim (ℕ-discrete (openStep Powers n sizes .number) 0) [
             | yes e ↦
-                subst (Starts log) (sym (ap (λ (b : Bool). cond b (accepted) (ended (openStep n sizes .number))) (eq-eqb (openStep n sizes .number) 0 e)) ∙ z) record {
+                subst (Starts log) (sym (ap (λ (b : Bool). cond b (accepted) (ended (openStep Powers n sizes .number))) (eq-eqb (openStep Powers n sizes .number) 0 e)) ∙ z) record {
                   refusal = λ o. absurd (false≢true o);
                   goes = λ _. (
                     sizeIn sizes,
-                    opened n (sizeIn sizes),
-                    opened-represents n sizes e .1,
+                    opened Powers n (sizeIn sizes),
+                    record { represents = opened-represents Powers n sizes e .1; powers = refl },
                     λ d. first-shape f d
-                        ∙ ap (λ (b : Bool). cond b (eventLines d (opened n (sizeIn sizes)) (after .pieces) (after .rest)) (refusedLine (openStep n sizes .number)))
-                        (eq-eqb (openStep n sizes .number) 0 e),
+                        ∙ ap (λ (b : Bool). cond b (eventLines d (opened Powers n (sizeIn sizes)) (after .pieces) (after .rest)) (refusedLine (openStep Powers n sizes .number)))
+                        (eq-eqb (openStep Powers n sizes .number) 0 e),
                   );
                 }
             | no e ↦
-                start-ended (openStep n sizes .number) (opening log)
-                (sym (ap (λ (b : Bool). cond b (accepted) (ended (openStep n sizes .number))) (ne-eqb (openStep n sizes .number) 0 e)) ∙ z) e
+                start-ended (openStep Powers n sizes .number) (opening log)
+                (sym (ap (λ (b : Bool). cond b (accepted) (ended (openStep Powers n sizes .number))) (ne-eqb (openStep Powers n sizes .number) 0 e)) ∙ z) e
                 (λ d.
                 first-shape f d
-                ∙ ap (λ (b : Bool). cond b (eventLines d (opened n (sizeIn sizes)) (after .pieces) (after .rest)) (refusedLine (openStep n sizes .number)))
-                (ne-eqb (openStep n sizes .number) 0 e))
+                ∙ ap (λ (b : Bool). cond b (eventLines d (opened Powers n (sizeIn sizes)) (after .pieces) (after .rest)) (refusedLine (openStep Powers n sizes .number)))
+                (ne-eqb (openStep Powers n sizes .number) 0 e))
           ]
         where
           accepted : Event
-          accepted = taken (lineLength log) (openStep n sizes)
+          accepted = taken (lineLength log) (openStep Powers n sizes)
 
       by-shape : (b : Bool) → isFirstLine first ≡ b → Starts log (opening log)
       by-shape true e = by-number e (opening-opens log l q e)
@@ -166,10 +179,10 @@ module _ (log : List ℕ) where
 pub record Follows (size : ℕ → ℕ) (t : State) (log : List ℕ) (from : ℕ) (e : Event) (line : List ℕ) : Type 0 where
   pub ends : e .over ≡ true → (d : Test) → Decides coefficient d → linesFrom d t log from ≡ line
   pub goes : e .over ≡ false
-      → (t′ : State) × Represents size t′ (e .inventory)
+      → (t′ : State) × Stands size t′ (e .inventory)
       × ((d : Test) → Decides coefficient d → linesFrom d t log from ≡ line ++ linesFrom d t′ log (e .from))
 
-module _ (size : ℕ → ℕ) (t : State) (log : List ℕ) (from : ℕ) (s : Inventory) (R : Represents size t s) where
+module _ (size : ℕ → ℕ) (t : State) (log : List ℕ) (from : ℕ) (s : Inventory) (S : Stands size t s) where
   abbrev here : List ℕ
   here = drop from log
 
@@ -212,12 +225,15 @@ module _ (size : ℕ → ℕ) (t : State) (log : List ℕ) (from : ℕ) (s : Inv
 
   met : (numbered (o .number) ≡ numbered (numberOf t c k)) × Represents size t′ (o .next)
   unfolding Step Gives
-  met = meets coefficient size t s (change c k) (numbered (o .number)) (o .next) R (refl, refl)
+  met = meets ruleOf size t s (change c k) (numbered (o .number)) (o .next) (S .represents) (refl, refl)
+
+  stands-next : Stands size t′ (o .next)
+  stands-next = record { represents = met .1; powers = next-same t (change c k) .same-code ∙ S .powers }
 
   same-number : numberOf t c k ≡ o .number
   same-number = let e = met .0 in let z : o .number ≡ numberOf t c k = cc in sym z
 
-  the-line : (d : Test) → Decides coefficient d → (e : Event) (line : List ℕ) → EventLine coefficient e line
+  the-line : (d : Test) → Decides coefficient d → (e : Event) (line : List ℕ) → EventLine ruleOf e line
       → e .number ≡ o .number → e .over ≡ false → e .inventory ≡ o .next → eventLine d t c k ≡ line
   unfolding eventLine
   the-line d D e line (at-end z y) n v i = absurd (true≢false (sym y ∙ v))
@@ -228,7 +244,7 @@ module _ (size : ℕ → ℕ) (t : State) (log : List ℕ) (from : ℕ) (s : Inv
   the-line d D e line (files z y x r F) n v i =
       ap (λ (x : ℕ). cond (eqb x 0) (numbersLine (filesOf (t′ .n) (d t′))) (refusedLine x)) (same-number ∙ sym n)
       ∙ ap (λ (b : Bool). cond b (numbersLine (filesOf (t′ .n) (d t′))) (refusedLine (e .number))) (eq-eqb (e .number) 0 z)
-      ∙ sym (files-line d D size t′ (e .inventory) (subst (Represents size t′) (sym i) (met .1)) r F)
+      ∙ sym (files-line d D size t′ (e .inventory) (subst (Stands size t′) (sym i) stands-next) r F)
 
   module _ (h : from < length log) (q : lineLength here ≢ 0) where
     by-line : (d : Test) → linesFrom d t log from ≡ cond (isEventLine this) (eventLine d t c k ++ rest d) (refusedLine 28)
@@ -239,25 +255,25 @@ module _ (size : ℕ → ℕ) (t : State) (log : List ℕ) (from : ℕ) (s : Inv
         ∙ ap (λ (l : List ℕ). cond (isEventLine this) (eventLine d t c k ++ eventLines d t′ (cut lineLength l .pieces) (cut lineLength l .rest)) (refusedLine 28))
         (drop-drop (lineLength here) from log)
 
-    follows-taken : isEventLine this ≡ true → (line : List ℕ) → EventLine coefficient (taken (from + lineLength here) o) line
+    follows-taken : isEventLine this ≡ true → (line : List ℕ) → EventLine ruleOf (taken (from + lineLength here) o) line
         → Follows size t log from (taken (from + lineLength here) o) line
     follows-taken e line E = record {
       ends = λ y. absurd (false≢true y);
       goes = λ _. (
         t′,
-        met .1,
+        stands-next,
         λ d D. by-line d ∙ ap (λ (b : Bool). cond b (eventLine d t c k ++ rest d) (refusedLine 28)) e
             ∙ ap (λ (l : List ℕ). l ++ rest d) (the-line d D (taken (from + lineLength here) o) line E refl refl refl),
       );
     }
 
-  pub next-follows : (line : List ℕ) → EventLine coefficient (nextEvent log from s) line → Follows size t log from (nextEvent log from s) line
+  pub next-follows : (line : List ℕ) → EventLine ruleOf (nextEvent log from s) line → Follows size t log from (nextEvent log from s) line
   next-follows line E =
       elim (decLe (length log) from) [
         | yes h ↦
             let z = next-end log from s h in
             follows-last 0 _ line z
-            (λ d. at-the-end h d ∙ sym (line-end (last 0 from s) line (subst (λ (e : Event). EventLine coefficient e line) (sym z) E) refl refl))
+            (λ d. at-the-end h d ∙ sym (line-end (last 0 from s) line (subst (λ (e : Event). EventLine ruleOf e line) (sym z) E) refl refl))
         | no h ↦ elim (ℕ-discrete (lineLength here) 0) [
           | yes e ↦ stop (next-unended log from s (omega arith) e) (unended (omega arith) e)
           | no q ↦ by-shape (omega arith) q (isEventLine this) refl
@@ -269,13 +285,13 @@ module _ (size : ℕ → ℕ) (t : State) (log : List ℕ) (from : ℕ) (s : Inv
       stop z h =
           follows-last 28 _ line z
           (λ d.
-          h d ∙ sym (line-refused (last 28 from s) line (subst (λ (e : Event). EventLine coefficient e line) (sym z) E) (suc-ne-zero 27)))
+          h d ∙ sym (line-refused (last 28 from s) line (subst (λ (e : Event). EventLine ruleOf e line) (sym z) E) (suc-ne-zero 27)))
 
       by-shape : from < length log → lineLength here ≢ 0 → (b : Bool) → isEventLine this ≡ b → Follows size t log from (nextEvent log from s) line
       by-shape h q true e =
           let z = next-taken log from s h q e in
           subst (λ (x : Event). Follows size t log from x line) z
-          (follows-taken h q e line (subst (λ (x : Event). EventLine coefficient x line) (sym z) E))
+          (follows-taken h q e line (subst (λ (x : Event). EventLine ruleOf x line) (sym z) E))
       by-shape h q false e =
           stop (next-shape log from s h q e) (λ d. by-line h q d ∙ ap (λ (b : Bool). cond b (eventLine d t c k ++ rest d) (refusedLine 28)) e)
 

@@ -10,7 +10,7 @@
 --   endLine s                what ends a replay before s: nothing where s is empty, else the refusal of a line
 --   LogKind log              the four kinds of a log, with the premises of the claims on its text
 --   Ascending ks             each number is less than those after it
---   LogPrints rule log lines     the lines that a program prints that goes by `open`, `next` and `put_line`
+--   LogPrints rules log lines    the lines that a program prints that goes by `open`, `next` and `put_line`
 -- The claims:
 --   Decided                  there is a test that decides which files are recoverable, as Replayed asks for
 --   OneText                  what is promised of a replay determines its answer and the room
@@ -40,7 +40,9 @@ use mathlib.Core.List.{List, [], _∷_, _++_, map, flatten, List·Memᴰ}
 use lib.ListN.{length, getD}
 use Rattle.cut_lists.specs.All.{All}
 use Rattle.lent_bytes.specs.declared.Writing.{Writing}
-use Rattle.parity.specs.Coefficient.{coefficient}
+use Rattle.parity.specs.Coefficient.{coefficient, ruleOf}
+use Rattle.codes.specs.declared.Code.{Code}
+use Rattle.codes.specs.declared.Code.the-variants.{Powers}
 use Rattle.inventory.specs.Recoverable.{State}
 use Rattle.inventory.specs.Model.{Change, addFile, removeFile, addVolume, removeVolume, change, opened, numberOf, next}
 use Rattle.inventory.specs.Steps.{openStep}
@@ -68,7 +70,7 @@ letterOf volumeRemoved = code "v"
 
 abbrev pub changeBy : Arrival → Change
 changeBy fileAdded = addFile
-changeBy volumeAdded = addVolume
+changeBy volumeAdded = addVolume Powers
 changeBy fileRemoved = removeFile
 changeBy volumeRemoved = removeVolume
 
@@ -104,17 +106,17 @@ endLine (b ∷ s) = refusedLine 28
 -- what LogReplayed, OpeningRefused, FirstRefused and LongRefused ask, in this order
 pub data LogKind : List ℕ → Type 0 where
   accepted : (n : ℕ) (sizes : List ℕ) (es : List (Arrival × ℕ)) (s : List ℕ)
-      → openStep n sizes .number ≡ 0 → NoEvent s → length (logText n sizes es ++ s) ≤ 65536 → LogKind (logText n sizes es ++ s)
-  not-opened : (n : ℕ) (sizes s : List ℕ) → openStep n sizes .number ≢ 0 → length (firstText n sizes ++ s) ≤ 65536 → LogKind (firstText n sizes ++ s)
+      → openStep Powers n sizes .number ≡ 0 → NoEvent s → length (logText n sizes es ++ s) ≤ 65536 → LogKind (logText n sizes es ++ s)
+  not-opened : (n : ℕ) (sizes s : List ℕ) → openStep Powers n sizes .number ≢ 0 → length (firstText n sizes ++ s) ≤ 65536 → LogKind (firstText n sizes ++ s)
   no-first : (log : List ℕ) → NoFirst log → length log ≤ 65536 → LogKind log
   too-long : (log : List ℕ) → 65536 < length log → LogKind log
 
 abbrev pub Ascending : List ℕ → Type 0
 Ascending ks = (i j : ℕ) → i < j → j < length ks → getD ks i 0 < getD ks j 0
 
-pub data LogPrints (rule : ℕ → ℕ → ℕ) (log : List ℕ) : List (List ℕ) → Type 0 where
-  at-once : {line : List ℕ} → opening log .over ≡ true → EventLine rule (opening log) line → LogPrints rule log (line ∷ [])
-  by-events : {lines : List (List ℕ)} → opening log .over ≡ false → Prints rule log (opening log) lines → LogPrints rule log lines
+pub data LogPrints (rules : Code → ℕ → ℕ → ℕ) (log : List ℕ) : List (List ℕ) → Type 0 where
+  at-once : {line : List ℕ} → opening log .over ≡ true → EventLine rules (opening log) line → LogPrints rules log (line ∷ [])
+  by-events : {lines : List (List ℕ)} → opening log .over ≡ false → Prints rules log (opening log) lines → LogPrints rules log lines
 
 -- ---- the promise
 
@@ -128,7 +130,7 @@ OneText = (log out : List ℕ) (r r′ : Writing × List ℕ) → Replayed coeff
 
 -- proved: proofs/Determined.antt, `one-line`
 abbrev pub OneLine : Type 0
-OneLine = (e : Event) (l l′ : List ℕ) → EventLine coefficient e l → EventLine coefficient e l′ → l ≡ l′
+OneLine = (e : Event) (l l′ : List ℕ) → EventLine ruleOf e l → EventLine ruleOf e l′ → l ≡ l′
 
 -- ---- the shape of lines, without their byte 10
 
@@ -149,15 +151,15 @@ pub record EventShaped : Type 0 where
 abbrev pub LogReplayed : Type 0
 LogReplayed =
     (d : State → ℕ → Bool) (n : ℕ) (sizes : List ℕ) (es : List (Arrival × ℕ)) (s : List ℕ)
-    → openStep n sizes .number ≡ 0 → NoEvent s → length (logText n sizes es ++ s) ≤ 65536
-    → replayOf d (logText n sizes es ++ s) ≡ linesOf d (opened n (sizeIn sizes)) es ++ endLine s
+    → openStep Powers n sizes .number ≡ 0 → NoEvent s → length (logText n sizes es ++ s) ≤ 65536
+    → replayOf d (logText n sizes es ++ s) ≡ linesOf d (opened Powers n (sizeIn sizes)) es ++ endLine s
 
 -- "so does 10 or 1 from opening, 10 too if the sizes are more or fewer than the first number says"
 -- proved: proofs/Logs.antt, `opening-refused`
 abbrev pub OpeningRefused : Type 0
 OpeningRefused =
-    (d : State → ℕ → Bool) (n : ℕ) (sizes s : List ℕ) → openStep n sizes .number ≢ 0 → length (firstText n sizes ++ s) ≤ 65536
-    → replayOf d (firstText n sizes ++ s) ≡ refusedLine (openStep n sizes .number)
+    (d : State → ℕ → Bool) (n : ℕ) (sizes s : List ℕ) → openStep Powers n sizes .number ≢ 0 → length (firstText n sizes ++ s) ≤ 65536
+    → replayOf d (firstText n sizes ++ s) ≡ refusedLine (openStep Powers n sizes .number)
 
 -- "28 for a line of another shape, the first (or none)"
 -- proved: proofs/Logs.antt, `first-refused`
@@ -176,19 +178,19 @@ EachLog = (log : List ℕ) → LogKind log
 -- "10 or 1 from opening, 10 too if the sizes are more or fewer than the first number says"; one of the four holds of any numbers
 -- proved: proofs/Refusals.antt, `opening-numbers`
 pub record OpeningNumbers : Type 0 where
-  pub out-of-range : (n : ℕ) (sizes : List ℕ) → (n < 1) ⊎ (254 < n) → openStep n sizes .number ≡ 10
-  pub miscounted : (n : ℕ) (sizes : List ℕ) → length sizes ≢ n → openStep n sizes .number ≡ 10
+  pub out-of-range : (n : ℕ) (sizes : List ℕ) → (n < 1) ⊎ (254 < n) → openStep Powers n sizes .number ≡ 10
+  pub miscounted : (n : ℕ) (sizes : List ℕ) → length sizes ≢ n → openStep Powers n sizes .number ≡ 10
   pub too-large : (n : ℕ) (sizes : List ℕ) → 1 ≤ n → n ≤ 254 → length sizes ≡ n
-      → (i : ℕ) → i < n → 16777216 < getD sizes i 0 → openStep n sizes .number ≡ 1
+      → (i : ℕ) → i < n → 16777216 < getD sizes i 0 → openStep Powers n sizes .number ≡ 1
   pub accepted : (n : ℕ) (sizes : List ℕ) → 1 ≤ n → n ≤ 254 → length sizes ≡ n
-      → ((i : ℕ) → i < n → getD sizes i 0 ≤ 16777216) → openStep n sizes .number ≡ 0
+      → ((i : ℕ) → i < n → getD sizes i 0 ≤ 16777216) → openStep Powers n sizes .number ≡ 0
 
 -- "A number too large to hold is 1 as a size and 10 elsewhere."; which OpeningRefused and EventRefused print
 -- proved: proofs/Refusals.antt, `large-numbers`
 pub record LargeNumbers : Type 0 where
   pub as-size : (n : ℕ) (sizes : List ℕ) → 1 ≤ n → n ≤ 254 → length sizes ≡ n
-      → (i : ℕ) → i < n → 2 ^ 64 ≤ getD sizes i 0 → openStep n sizes .number ≡ 1
-  pub as-first : (n : ℕ) (sizes : List ℕ) → 2 ^ 64 ≤ n → openStep n sizes .number ≡ 10
+      → (i : ℕ) → i < n → 2 ^ 64 ≤ getD sizes i 0 → openStep Powers n sizes .number ≡ 1
+  pub as-first : (n : ℕ) (sizes : List ℕ) → 2 ^ 64 ≤ n → openStep Powers n sizes .number ≡ 10
   pub in-event : (t : State) → t .n ≤ 254 → (a : Arrival) (k : ℕ) → 2 ^ 64 ≤ k → numberOf t (changeBy a) k ≡ 10
 
 -- "the file numbers that are rebuildable now, ascending, or `none`, .. in lines of the same shape"
@@ -210,17 +212,17 @@ EventRefused =
 
 -- proved: proofs/Joined.antt, `lines-there`
 abbrev pub LinesThere : Type 0
-LinesThere = (log : List ℕ) → (lines : List (List ℕ)) × LogPrints coefficient log lines
+LinesThere = (log : List ℕ) → (lines : List (List ℕ)) × LogPrints ruleOf log lines
 
 -- proved: proofs/Joined.antt, `lines-joined`
 abbrev pub LinesJoined : Type 0
 LinesJoined =
-    (log : List ℕ) (lines : List (List ℕ)) → LogPrints coefficient log lines
+    (log : List ℕ) (lines : List (List ℕ)) → LogPrints ruleOf log lines
     → (d : State → ℕ → Bool) → Decides coefficient d → flatten lines ≡ replayOf d log
 
 -- proved: proofs/LineLengths.antt, `lines-fit`
 abbrev pub LinesFit : Type 0
-LinesFit = (log : List ℕ) (lines : List (List ℕ)) → LogPrints coefficient log lines → All (λ line. length line ≤ 1024) lines
+LinesFit = (log : List ℕ) (lines : List (List ℕ)) → LogPrints ruleOf log lines → All (λ line. length line ≤ 1024) lines
 
 -- proved: proofs/Lengths.antt, `text-fits`
 abbrev pub TextFits : Type 0

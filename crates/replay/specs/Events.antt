@@ -6,8 +6,8 @@
 --   openedBy from o            the same of an opening, which ends where it is refused
 --   opening log                the first line: where its events start, and what is present then, or its refusal
 --   nextEvent log from s       the event at `from`, where s is present before it
---   EventLine rule e line      the line that is printed after e
---   Prints rule log e lines    the lines that are printed from the event e on, each event taken where the one before it ended
+--   EventLine rules e line     the line that is printed after e
+--   Prints rules log e lines   the lines that are printed from the event e on, each event taken where the one before it ended
 -- Assumes nothing.
 use Prim.Native.Nat.{ℕ, _+_}
 use mathlib.Core.Path.{_≡_}
@@ -18,6 +18,8 @@ use lib.Dec.{leb, eqb}
 use lib.ListN.{length, getD, take, drop}
 use Rattle.refusals.specs.Limits.{maxListedLength}
 use Rattle.number_sets.specs.Sets.{member}
+use Rattle.codes.specs.declared.Code.{Code}
+use Rattle.codes.specs.declared.Code.the-variants.{Powers}
 use Rattle.inventory.specs.Steps.{isInventory, zeros, openStep, changeStep}
 use Rattle.inventory.specs.RecoverableFiles.{RecoverableSet}
 use Rattle.inventory.specs.declared.Inventory.{Inventory}
@@ -46,7 +48,7 @@ opening log =
     let first : List ℕ = bodyOf (take (lineLength log) log) in
     cond (leb (length log) maxListedLength)
     (cond (eqb (lineLength log) 0) (ended 28)
-    (cond (isFirstLine first) (openedBy (lineLength log) (openStep (getD (numbersOf first) 0 0) (drop 1 (numbersOf first)))) (ended 28)))
+    (cond (isFirstLine first) (openedBy (lineLength log) (openStep Powers (getD (numbersOf first) 0 0) (drop 1 (numbersOf first)))) (ended 28)))
     (ended 1)
 
 unfoldable pub nextEvent : List ℕ → ℕ → Inventory → Event
@@ -57,15 +59,15 @@ nextEvent log from s =
     (cond (eqb n 0) (last 28 from s)
     (cond (isEventLine line) (taken (from + n) (changeStep (changeOf (getD line 0 0)) s (numberIn line))) (last 28 from s)))
 
-pub data EventLine (rule : ℕ → ℕ → ℕ) (e : Event) : List ℕ → Type 0 where
-  at-end : e .number ≡ 0 → e .over ≡ true → EventLine rule e []
-  refused : e .number ≢ 0 → EventLine rule e (refusedLine (e .number))
+pub data EventLine (rules : Code → ℕ → ℕ → ℕ) (e : Event) : List ℕ → Type 0 where
+  at-end : e .number ≡ 0 → e .over ≡ true → EventLine rules e []
+  refused : e .number ≢ 0 → EventLine rules e (refusedLine (e .number))
   -- "Every call refuses with 10, first of all, a sheet that opening and accepted calls could not have given"
-  no-inventory : e .number ≡ 0 → e .over ≡ false → isInventory (e .inventory) ≡ false → EventLine rule e (refusedLine 10)
-  files : e .number ≡ 0 → e .over ≡ false → isInventory (e .inventory) ≡ true → (r : RecoverableFiles) → RecoverableSet rule (e .inventory) r
-      → EventLine rule e (numbersLine (filesOf (e .inventory .n) (member (r .files))))
+  no-inventory : e .number ≡ 0 → e .over ≡ false → isInventory (e .inventory) ≡ false → EventLine rules e (refusedLine 10)
+  files : e .number ≡ 0 → e .over ≡ false → isInventory (e .inventory) ≡ true → (r : RecoverableFiles) → RecoverableSet rules (e .inventory) r
+      → EventLine rules e (numbersLine (filesOf (e .inventory .n) (member (r .files))))
 
-pub data Prints (rule : ℕ → ℕ → ℕ) (log : List ℕ) : Event → List (List ℕ) → Type 0 where
-  ends : {e : Event} → e .over ≡ true → Prints rule log e []
-  goes-on : {e : Event} {line : List ℕ} {lines : List (List ℕ)} → e .over ≡ false → EventLine rule (nextEvent log (e .from) (e .inventory)) line
-      → Prints rule log (nextEvent log (e .from) (e .inventory)) lines → Prints rule log e (line ∷ lines)
+pub data Prints (rules : Code → ℕ → ℕ → ℕ) (log : List ℕ) : Event → List (List ℕ) → Type 0 where
+  ends : {e : Event} → e .over ≡ true → Prints rules log e []
+  goes-on : {e : Event} {line : List ℕ} {lines : List (List ℕ)} → e .over ≡ false → EventLine rules (nextEvent log (e .from) (e .inventory)) line
+      → Prints rules log (nextEvent log (e .from) (e .inventory)) lines → Prints rules log e (line ∷ lines)

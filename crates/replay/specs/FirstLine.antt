@@ -9,6 +9,7 @@ use mathlib.Core.Path.{_≡_}
 use mathlib.Core.Bool.{true}
 use mathlib.Core.List.{List}
 use lib.ListN.{length, getD, drop}
+use Rattle.codes.specs.declared.Code.the-variants.{Powers}
 use Rattle.inventory.specs.Steps.{openStep}
 use Rattle.text.specs.Buffer.{usizeMax}
 use Rattle.replay.specs.Log.{isFirstLine, numbersOf}
@@ -23,4 +24,4 @@ pub record NumbersRead (line : List ℕ) (r : Numbers) : Type 0 where
 
 pub record LineOpened (line : List ℕ) (r : LineOpening) : Type 0 where
   pub shape : r .shaped ≡ isFirstLine line
-  pub opens : r .shaped ≡ true → r .outcome ≡ openStep (getD (numbersOf line) 0 0) (drop 1 (numbersOf line))
+  pub opens : r .shaped ≡ true → r .outcome ≡ openStep Powers (getD (numbersOf line) 0 0) (drop 1 (numbersOf line))

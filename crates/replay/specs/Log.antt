@@ -14,6 +14,7 @@ use mathlib.Core.Bool.{Bool, true, cond, _&&_, _||_}
 use mathlib.Core.List.{List, [], _∷_, map}
 use lib.Dec.{eqb}
 use lib.ListN.{length, getD, take, drop}
+use Rattle.codes.specs.declared.Code.the-variants.{Powers}
 use Rattle.inventory.specs.Model.{Change, addFile, removeFile, addVolume, removeVolume}
 use Rattle.text.specs.Decimal.{isDecimal, valueOf}
 use Rattle.text.specs.TextLines.{wordsOf}
@@ -36,12 +37,12 @@ numbersOf l = map valueOf (wordsOf l)
 
 -- ---- an event
 
--- ""F 7" and "V 4" for noted, "f 7" and "v 4" for withdrawn"
+-- ""F 7" and "V 4" for noted, "f 7" and "v 4" for withdrawn"; "(the replay keeps the old one)" (2026-13)
 unfoldable pub isLetter : ℕ → Bool
 isLetter b = eqb b (code "F") || (eqb b (code "V") || (eqb b (code "f") || eqb b (code "v")))
 
 unfoldable pub changeOf : ℕ → Change
-changeOf b = cond (eqb b (code "F")) addFile (cond (eqb b (code "V")) addVolume (cond (eqb b (code "f")) removeFile removeVolume))
+changeOf b = cond (eqb b (code "F")) addFile (cond (eqb b (code "V")) (addVolume Powers) (cond (eqb b (code "f")) removeFile removeVolume))
 
 unfoldable pub isEventLine : List ℕ → Bool
 isEventLine l = isLetter (getD l 0 0) && (eqb (getD l 1 0) (code " ") && isDecimal (drop 2 l))

@@ -21,6 +21,7 @@ use Rattle.refusals.specs.Limits.{maxListedLength}
 use Rattle.lent_bytes.specs.Writing.{written}
 use Rattle.lent_bytes.specs.declared.Writing.{Writing}
 use Rattle.cut_lists.specs.Pieces.{Cut, cut}
+use Rattle.codes.specs.declared.Code.the-variants.{Powers}
 use Rattle.inventory.specs.Recoverable.{State}
 use Rattle.inventory.specs.Model.{Change, change, opened, numberOf, next}
 use Rattle.inventory.specs.Steps.{openStep}
@@ -53,8 +54,8 @@ module _ (d : State → ℕ → Bool) where
   -- after an accepted opening; "so does 10 or 1 from opening, 10 too if the sizes are more or fewer than the first number says"
   unfoldable pub openedLines : ℕ → List ℕ → List (List ℕ) → List ℕ → List ℕ
   openedLines n sizes ls rest =
-      let number : ℕ = openStep n sizes .number in
-      cond (eqb number 0) (eventLines (opened n (sizeIn sizes)) ls rest) (refusedLine number)
+      let number : ℕ = openStep Powers n sizes .number in
+      cond (eqb number 0) (eventLines (opened Powers n (sizeIn sizes)) ls rest) (refusedLine number)
 
   -- "28 for a line of another shape, the first (or none) .. included": nothing is printed for a first line that is accepted
   unfoldable pub logLines : List (List ℕ) → List ℕ → List ℕ

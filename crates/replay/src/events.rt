@@ -6,6 +6,7 @@ ghost use Rattle.inventory.specs.Steps.{changeStep};
 ghost use Rattle.replay.specs.Log.{changeOf, isLetter, isEventLine, numberIn};
 ghost use Rattle.replay.specs.Events.{ended, openedBy, opening, last, taken, nextEvent};
 use crate::first_line::open_line;
+use codes::Code;
 use inventory::Inventory;
 use inventory::Outcome;
 use refusals::EVENT;
@@ -149,7 +150,7 @@ fn changed_by(inventory: Inventory, letter: u8, number: u64) -> Outcome
 {
     match letter {
         b'F' => inventory.add_file(number),
-        b'V' => inventory.add_volume(number),
+        b'V' => inventory.add_volume(Code::Powers, number),
         b'f' => inventory.remove_file(number),
         _ => inventory.remove_volume(number),
     }

@@ -1,6 +1,7 @@
 // The first line of a log: the number of files, and their sizes.
 ghost use mathlib.Core.Path.{_≡_};
 ghost use Rattle.replay.specs.FirstLine.{LineOpened, NumbersRead};
+use codes::Code;
 use inventory::Inventory;
 use inventory::Outcome;
 use refusals::EVENT;
@@ -39,7 +40,7 @@ pub fn open_line(line: &[u8]) -> LineOpening
     let values = numbers.values;
     LineOpening {
         shaped: true,
-        outcome: Inventory::open(values[0], &values[1..count]),
+        outcome: Inventory::open(Code::Powers, values[0], &values[1..count]),
     }
 }
 

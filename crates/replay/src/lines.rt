@@ -4,7 +4,7 @@ ghost use mathlib.Core.Bool.{cond};
 ghost use mathlib.Core.List.{List};
 ghost use Prim.Native.Nat.{ℕ};
 ghost use Rattle.number_sets.specs.Sets.{member};
-ghost use Rattle.parity.specs.Coefficient.{coefficient};
+ghost use Rattle.parity.specs.Coefficient.{ruleOf};
 ghost use Rattle.text.specs.Ascii.{ascii};
 ghost use Rattle.text.specs.Decimal.{decimal, field};
 ghost use Rattle.text.specs.Buffer.{buffer, put as putOf};
@@ -16,7 +16,7 @@ use number_sets::has;
 // The line after an event: the missing files that are recoverable, or the refusal; none at the end of the log. An event that is neither
 // refused nor over, and has an inventory that no calls give, is `refused 10`.
 pub fn put_line(out: &mut [u8], at: usize, event: Event) -> usize
-    ensures { λ r. ⌜ ((line : List ℕ) × EventLine coefficient event line
+    ensures { λ r. ⌜ ((line : List ℕ) × EventLine ruleOf event line
         × (buffer (now (out .exit)) r ≡ putOf (buffer (now (out .entry)) at) line)) ⌝ }
 {
     if event.number != 0 {

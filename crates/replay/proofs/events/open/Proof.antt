@@ -9,6 +9,7 @@ use denote.Ref.{now}
 use mathlib.Core.Logic.{_≢_}
 use mathlib.Core.List.{List}
 use borrow.Author.Tests.{not-true, not-false}
+use Rattle.codes.specs.declared.Code.the-variants.{Powers}
 use Rattle.inventory.specs.Steps.{openStep}
 use Rattle.text.specs.TextLines.{lineLength}
 use Rattle.text.proofs.ScanLaws.{line-most}
@@ -61,7 +62,7 @@ returns-4 c =
     let o = c .before .before .before .before .open-line in
     let ok = not-false (o .result .shaped) (c .before .before .if3 .left) in
     c .opened-by .ensures
-    ∙ ap₂ openedBy (l .before .line-length .ensures) (o .ensures .opens ok ∙ ap (λ (w : List ℕ). openStep (getD (numbersOf w) 0 0) (drop 1 (numbersOf w))) (body l))
+    ∙ ap₂ openedBy (l .before .line-length .ensures) (o .ensures .opens ok ∙ ap (λ (w : List ℕ). openStep Powers (getD (numbersOf w) 0 0) (drop 1 (numbersOf w))) (body l))
     ∙ opening-opens log (l .before .before .if1 .left) (unended l) (sym (ap isFirstLine (body l)) ∙ sym (o .ensures .shape) ∙ ok)
 
 pub open-spec : {M : Type 1} → statement M
