@@ -1,28 +1,58 @@
 -- The rules that reading and writing share: what a test tells where it passed, and when it passes.
 --
 --   signature-is             the signature, as a number
+--   version-passed, code-back, version-back, version-fits     the version of a code
 --   Between, between, long-enough, too-long     a right length, in numbers
 --   Laid, laid, not-laid, laid-out              a right layout, in numbers
 -- A test of document 01 is passed where it does not hold.
 -- Assumes nothing.
 use mathlib.Core.Path.{_≡_, refl, sym}
-use mathlib.Core.Bool.{Bool, true, false, _&&_}
+use mathlib.Core.Bool.{Bool, true, false, cond, _&&_, _||_}
 use mathlib.Core.List.{List}
-use Prim.Native.Nat.{ℕ, _+_, _≤_, _<_}
+use Prim.Native.Nat.{ℕ, _+_, _^_, _≤_, _<_}
 use native.Mathlib.Omega.{arith}
 use lib.Dec.{leb, eqb}
 use borrow.Author.Tests.{leb-true, eqb-true, eq-eqb, le-leb, lt-leb}
 use Rattle.computed_tests.proofs.Tests.{and-both}
+use Rattle.codes.specs.declared.Code.{Code}
+use Rattle.codes.specs.declared.Code.the-variants.{Powers, Cauchy}
 use Rattle.little_endian.specs.Bytes.{fromLe}
 use Rattle.refusals.specs.Limits.{maxVolumeLength}
-use Rattle.par1_rules.specs.Layout.{signature, listStartOf, listSizeOf, dataStartOf, dataSizeOf}
-use Rattle.par1_rules.specs.Rules.{lengthAllowed, layoutAllowed}
+use Rattle.par1_rules.specs.Layout.{signature, versionFor, listStartOf, listSizeOf, dataStartOf, dataSizeOf}
+use Rattle.par1_rules.specs.Rules.{lengthAllowed, versionAllowed, codeIn, layoutAllowed}
 
--- ---- the signature and the length
+-- ---- the signature
 
 pub signature-is : signature ≡ 0x524150
 unfolding signature fromLe
 signature-is = refl
+
+-- ---- the version
+
+pub version-passed : (c : Code) → versionAllowed (versionFor c) ≡ true
+unfolding versionAllowed
+version-passed Powers = refl
+version-passed Cauchy = refl
+
+pub code-back : (c : Code) → codeIn (versionFor c) ≡ c
+unfolding codeIn
+code-back Powers = refl
+code-back Cauchy = refl
+
+-- a version that is read is that of its code
+pub version-back : (v : ℕ) → versionAllowed v ≡ true → v ≡ versionFor (codeIn v)
+unfolding versionAllowed codeIn
+version-back v = by (eqb v 65536) refl
+  where
+    by : (b : Bool) → b ≡ eqb v 65536 → (b || eqb v 131328) ≡ true → v ≡ versionFor (cond b Powers Cauchy)
+    by true e h = eqb-true _ _ (sym e)
+    by false e h = eqb-true _ _ h
+
+pub version-fits : (c : Code) → versionFor c < 2 ^ 32
+version-fits Powers = omega arith
+version-fits Cauchy = omega arith
+
+-- ---- the length
 
 pub record Between (n : ℕ) : Type 0 where
   pub low : 96 ≤ n

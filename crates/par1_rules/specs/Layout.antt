@@ -2,7 +2,7 @@
 -- A file is the list of all its bytes.
 --
 --   signature          what a file begins with
---   version            the version of Par 1.0
+--   versionFor c       the version of a file of the code c
 --   signatureOf f, versionOf f, programOf f, controlHashOf f, setHashOf f, volumeNumberOf f, countOf f, listStartOf f, listSizeOf f,
 --   dataStartOf f, dataSizeOf f     the fields of the header of f
 --   hashedOf f         the bytes that the control hash covers
@@ -11,14 +11,18 @@
 use Prim.Native.Nat.{ℕ, _+_}
 use mathlib.Core.List.{List, [], _∷_}
 use lib.ListN.{take, drop}
+use Rattle.codes.specs.declared.Code.{Code}
+use Rattle.codes.specs.declared.Code.the-variants.{Powers, Cauchy}
 use Rattle.little_endian.specs.Bytes.{fromLe, leAt}
 
 -- ""PAR" and five zero bytes", as a number: lowest byte first
 unfoldable pub signature : ℕ
 signature = fromLe (80 ∷ 65 ∷ 82 ∷ 0 ∷ 0 ∷ 0 ∷ 0 ∷ 0 ∷ [])
 
-abbrev pub version : ℕ
-version = 65536
+-- "At 8: 32-bit version, 65,536."; document 02, 2026-13, of the other code: "The layout is that of 01 with version 131,328"
+abbrev pub versionFor : Code → ℕ
+versionFor Powers = 65536
+versionFor Cauchy = 131328
 
 -- ---- "At 0: "PAR" and five zero bytes. At 8: 32-bit version, 65,536. At 12: 32-bit program identifier, any. At 16: control hash,
 -- ---- the MD5 of all bytes from 32 to the end. At 32: set hash."

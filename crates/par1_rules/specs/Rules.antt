@@ -2,6 +2,7 @@
 --
 --   lengthAllowed n         whether a file may have n bytes
 --   versionAllowed v        whether files of version v are read
+--   codeIn v                the code of the files of a version v that is read
 --   layoutAllowed head n    whether list and data lie where they must in a file of n bytes that begins with head
 --   numberAllowed v n       whether volume v may have n saved files
 --   dataAllowed v g n       whether volume v, of saved files of at most g bytes, may have n bytes of data
@@ -10,16 +11,22 @@ use Prim.Native.Nat.{ℕ, _+_, _%_}
 use mathlib.Core.Bool.{Bool, cond, _&&_, _||_}
 use mathlib.Core.List.{List}
 use lib.Dec.{leb, eqb}
+use Rattle.codes.specs.declared.Code.{Code}
+use Rattle.codes.specs.declared.Code.the-variants.{Powers, Cauchy}
 use Rattle.refusals.specs.Limits.{maxVolumeLength, maxFiles}
-use Rattle.par1_rules.specs.Layout.{version, listStartOf, listSizeOf, dataStartOf, dataSizeOf}
+use Rattle.par1_rules.specs.Layout.{versionFor, listStartOf, listSizeOf, dataStartOf, dataSizeOf}
 
 -- "A volume or index file: 96 to 33,554,432 bytes."
 unfoldable pub lengthAllowed : ℕ → Bool
 lengthAllowed n = leb 96 n && leb n maxVolumeLength
 
--- "3: version is not 65,536"
+-- "3: version is not 65,536"; document 02, 2026-13: "test 3 now passes both"
 unfoldable pub versionAllowed : ℕ → Bool
-versionAllowed v = eqb v version
+versionAllowed v = eqb v (versionFor Powers) || eqb v (versionFor Cauchy)
+
+-- document 02, 2026-13: "reading returns it", the code
+unfoldable pub codeIn : ℕ → Code
+codeIn v = cond (eqb v (versionFor Powers)) Powers Cauchy
 
 -- "List start is 96, data start is 96 plus list size, and the data runs to the end of the file."
 unfoldable pub layoutAllowed : List ℕ → ℕ → Bool

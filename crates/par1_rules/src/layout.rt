@@ -5,7 +5,10 @@ ghost use lib.ListN.{take, drop};
 // "PAR" and five zero bytes, as a number at 0.
 pub const SIGNATURE: u64 = 0x524150;
 
+// The versions of the two codes.
 pub const VERSION: u32 = 65536;
+
+pub const CAUCHY_VERSION: u32 = 131328;
 
 pub const VERSION_AT: usize = 8;
 

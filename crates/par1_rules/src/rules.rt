@@ -1,7 +1,9 @@
 // The rules of a Par 1.0 file (document 01, "Sizes", "Byte layout", "What comes back").
 ghost use mathlib.Core.Path.{_≡_};
-ghost use Rattle.par1_rules.specs.Rules.{lengthAllowed, versionAllowed, layoutAllowed, numberAllowed, dataAllowed};
+ghost use Rattle.par1_rules.specs.Layout.{versionFor};
+ghost use Rattle.par1_rules.specs.Rules.{lengthAllowed, versionAllowed, codeIn, layoutAllowed, numberAllowed, dataAllowed};
 use crate::layout;
+use codes::Code;
 use refusals::MAX_FILES;
 use refusals::MAX_VOLUME_LENGTH;
 
@@ -19,7 +21,30 @@ pub fn length_allowed(length: usize) -> bool
 pub fn version_allowed(version: u32) -> bool
     ensures { λ r. ⌜ r ≡ versionAllowed version ⌝ }
 {
-    version == layout::VERSION
+    if version == layout::VERSION {
+        return true;
+    }
+    version == layout::CAUCHY_VERSION
+}
+
+// The version of the files of a code.
+pub fn version_of(code: Code) -> u32
+    ensures { λ r. ⌜ r ≡ versionFor code ⌝ }
+{
+    match code {
+        Code::Powers => layout::VERSION,
+        Code::Cauchy => layout::CAUCHY_VERSION,
+    }
+}
+
+// The code of the files of a version that is read.
+pub fn code_in(version: u32) -> Code
+    ensures { λ r. ⌜ r ≡ codeIn version ⌝ }
+{
+    if version == layout::VERSION {
+        return Code::Powers;
+    }
+    Code::Cauchy
 }
 
 // Whether list and data lie where they must in a file of `length` bytes that begins with `head`.
