@@ -1,18 +1,19 @@
--- The numbers 16 to 19 stand where document 01 alone has 6.
+-- The numbers 16 to 19 stand where document 01 alone has 6, and the other code's version is 3 by it.
 --
 --   Formerly n k      k is what document 01 has for the number n of a refusal, which is not 6 itself
 --   tests-formerly    tests 1 to 5, and then those on the list
 --   totals-formerly   tests 19 and 7 to 9
---   former-six        the claim
+--   former-version    test 3 as document 01 has it, of any version but the other code's
+--   former-six, former-three     the claims
 -- Assumes nothing.
-use mathlib.Core.Path.{_≡_, refl, sym, subst}
-use mathlib.Core.Bool.{Bool, true, false}
+use mathlib.Core.Path.{_≡_, refl, sym, ap, _∙_, subst}
+use mathlib.Core.Bool.{Bool, true, false, _||_}
 use mathlib.Core.List.{List}
 use Prim.Native.Nat.{ℕ, zero, suc}
 use native.Mathlib.Omega.{arith}
 use lib.Dec.{eqb}
 use lib.ListN.{length}
-use borrow.Author.Tests.{le-leb}
+use borrow.Author.Tests.{le-leb, eq-eqb, ne-eqb}
 use Rattle.lent_bytes.specs.Equal.{equal}
 use Rattle.refusals.specs.Tests.{test, orElse}
 use Rattle.refusals.specs.declared.Refusal.{Refusal}
@@ -20,11 +21,12 @@ use Rattle.entries.specs.Walk.{walkOf}
 use Rattle.entries.specs.declared.Walked.{Walked}
 use Rattle.entries.specs.declared.Walked.the-variants as walked
 use Rattle.entries.proofs.WalkLaws.{walk-refused}
-use Rattle.par1_rules.specs.Layout.{signature, signatureOf, versionOf, controlHashOf, setHashOf}
+use Rattle.codes.specs.declared.Code.the-variants.{Powers, Cauchy}
+use Rattle.par1_rules.specs.Layout.{signature, versionFor, signatureOf, versionOf, controlHashOf, setHashOf}
 use Rattle.par1_rules.specs.Layout.{volumeNumberOf, countOf, dataSizeOf, listOf}
 use Rattle.par1_rules.specs.Hashes.{setHash, controlHash}
 use Rattle.par1_rules.specs.Rules.{lengthAllowed, versionAllowed, layoutAllowed, numberAllowed, dataAllowed}
-use Rattle.par1_read.specs.Claim.{FormerSix}
+use Rattle.par1_read.specs.Claim.{FormerSix, FormerThree}
 use Rattle.par1_read.specs.Former.{formerNumber, formerInList, formerRefusal}
 use Rattle.par1_read.specs.Reading.{headerRefusal, controlRefusal, totalsRefusal, listRefusal, refusalFrom}
 use Rattle.par1_read.specs.Reading.{entriesIn, readOf, readingRefusal}
@@ -51,6 +53,14 @@ totals-formerly true true false d = record { former-is = refl; not-six = λ z. o
 totals-formerly true true true false = record { former-is = refl; not-six = λ z. omega arith }
 totals-formerly true true true true = record { former-is = refl; not-six = λ z. omega arith }
 
+former-version : (v : ℕ) → (v ≡ versionFor Cauchy → ⊥) → versionAllowed v ≡ eqb v (versionFor Powers)
+unfolding versionAllowed
+former-version v h = ap (λ (b : Bool). eqb v 65536 || b) (ne-eqb _ _ h) ∙ by (eqb v 65536)
+  where
+    by : (b : Bool) → (b || false) ≡ b
+    by true = refl
+    by false = refl
+
 module _ (f : List ℕ) where
   list-formerly : (w : Walked) → walkOf (listOf f) ≡ w → Formerly (listRefusal f (setHash (entriesIn f)) w .number) (formerInList f w)
   unfolding totalsRefusal
@@ -64,8 +74,17 @@ module _ (f : List ℕ) where
         not-six = λ z. omega (arith, told .low);
       }
 
-  refusal-formerly : Formerly (refusalOf f .number) (formerRefusal f)
-  unfolding refusalOf refusalFrom headerRefusal controlRefusal formerRefusal
+  -- the former tests, with any answer to test 3
+  abbrev formerWith : Bool → ℕ
+  formerWith versioned =
+      test 1 (lengthAllowed (length f))
+      (test 2 (eqb (signatureOf f) signature)
+      (test 3 versioned
+      (test 4 (layoutAllowed f (length f))
+      (test 5 (equal (controlHashOf f) (controlHash f)) (formerInList f (walkOf (listOf f)))))))
+
+  refusal-formerly : Formerly (refusalOf f .number) (formerWith (versionAllowed (versionOf f)))
+  unfolding refusalOf refusalFrom headerRefusal controlRefusal
   refusal-formerly =
       tests-formerly (lengthAllowed (length f)) (eqb (signatureOf f) signature) (versionAllowed (versionOf f)) (layoutAllowed f (length f))
       (equal (controlHashOf f) (controlHash f)) (listRefusal f (setHash (entriesIn f)) (walkOf (listOf f))) (formerInList f (walkOf (listOf f)))
@@ -79,6 +98,11 @@ module _ (f : List ℕ) where
       by (suc n) e = rw (read-refused f refl (λ z. omega arith)) e
 
 pub former-six : FormerSix
+unfolding formerRefusal
 former-six f =
-    let formerly = subst (λ (n : ℕ). Formerly n (formerRefusal f)) (reading-number f) (refusal-formerly f) in
-    (formerly .former-is, formerly .not-six)
+    let formerly = subst (λ (n : ℕ). Formerly n (formerWith f (versionAllowed (versionOf f)))) (reading-number f) (refusal-formerly f) in
+    (λ other. ap (formerWith f) (sym (former-version (versionOf f) other)) ∙ formerly .former-is, formerly .not-six)
+
+pub former-three : FormerThree
+unfolding formerRefusal
+former-three f version long begins = simp (long, eq-eqb _ _ begins, version)

@@ -44,7 +44,7 @@ module _ (f : List ℕ) where
       let list-size : listSizeOf (take 96 f) ≡ listSizeOf f = field 8 72 (omega arith) in
       let data-start : dataStartOf (take 96 f) ≡ dataStartOf f = field 8 80 (omega arith) in
       let data-size : dataSizeOf (take 96 f) ≡ dataSizeOf f = field 8 88 (omega arith) in
-      simp (field 4 12 (omega arith), field 8 48 (omega arith), field 8 56 (omega arith), list-size, data-start, data-size)
+      simp (field 4 8 (omega arith), field 4 12 (omega arith), field 8 48 (omega arith), field 8 56 (omega arith), list-size, data-start, data-size)
 
 pub header-alone : HeaderAlone
 unfolding readFrom refusalFrom

@@ -31,11 +31,11 @@ use Rattle.entries.specs.declared.Totals.{Totals}
 use Rattle.entries.specs.declared.Walked.{Walked}
 use Rattle.entries.specs.declared.Walked.the-variants as walked
 use Rattle.entries.proofs.WalkLaws.{walk-saved, walk-refused}
-use Rattle.par1_rules.specs.Layout.{signature, version, signatureOf, versionOf, controlHashOf, setHashOf}
+use Rattle.par1_rules.specs.Layout.{signature, versionFor, signatureOf, versionOf, controlHashOf, setHashOf}
 use Rattle.par1_rules.specs.Layout.{volumeNumberOf, countOf, dataSizeOf, listOf}
 use Rattle.par1_rules.specs.Hashes.{setHash, controlHash}
-use Rattle.par1_rules.specs.Rules.{lengthAllowed, versionAllowed, layoutAllowed, numberAllowed, dataAllowed}
-use Rattle.par1_rules.proofs.RuleLaws.{Between, between, long-enough, Laid, laid, laid-out}
+use Rattle.par1_rules.specs.Rules.{lengthAllowed, versionAllowed, codeIn, layoutAllowed, numberAllowed, dataAllowed}
+use Rattle.par1_rules.proofs.RuleLaws.{version-passed, version-back, Between, between, long-enough, Laid, laid, laid-out}
 use Rattle.par1_read.specs.Reading.{headerRefusal, controlRefusal, totalsRefusal, listRefusal, refusalFrom}
 use Rattle.par1_read.specs.Reading.{savedIn, partsFrom, readFrom, entriesIn, readOf}
 use Rattle.cut_lists.specs.Pieces.{ifZero}
@@ -47,12 +47,12 @@ use Rattle.par1_read.specs.declared.reading.Reading.the-variants.{Accept
 pub record HeaderPassed (head : List ℕ) (n : ℕ) : Type 0 where
   pub size : Between n
   pub begins : signatureOf head ≡ signature
-  pub version-is : versionOf head ≡ version
+  pub version-is : versionOf head ≡ versionFor (codeIn (versionOf head))
   pub layout : Laid head n
 
 module _ (head : List ℕ) (n : ℕ) where
   pub header-passed : headerRefusal head n ≡ 0 → HeaderPassed head n
-  unfolding headerRefusal versionAllowed
+  unfolding headerRefusal
   header-passed e =
       let one = test-passed 1 (lengthAllowed n) _ (omega arith) e in
       let two = test-passed 2 (eqb (signatureOf head) signature) _ (omega arith) (one .1) in
@@ -61,15 +61,17 @@ module _ (head : List ℕ) (n : ℕ) where
       record {
         size = between n (one .0);
         begins = eqb-true _ _ (two .0);
-        version-is = eqb-true _ _ (three .0);
+        version-is = version-back _ (three .0);
         layout = laid head n (four .0);
       }
 
   pub header-none : HeaderPassed head n → headerRefusal head n ≡ 0
-  unfolding headerRefusal versionAllowed
+  unfolding headerRefusal
   header-none p =
       let size = long-enough n (p .size .low) (p .size .high) in
-      simp (size, eq-eqb _ _ (p .begins), eq-eqb _ _ (p .version-is), laid-out head n (p .layout))
+      let version : versionAllowed (versionOf head) ≡ true =
+      ap versionAllowed (p .version-is) ∙ version-passed (codeIn (versionOf head)) in
+      simp (size, eq-eqb _ _ (p .begins), version, laid-out head n (p .layout))
 
 -- ---- the control hash
 

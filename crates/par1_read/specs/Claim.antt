@@ -4,10 +4,13 @@
 --   Placed f r     r is the refusal of the first entry of the file f that breaks a rule, or has no place and no number of one
 --   ReadPlaced     so is the refusal of every file
 --   FaultRead      where tests 1 to 5 hold nowhere and an entry breaks a rule, the file is refused for it
---   FormerSix      a file is refused with 16 to 19 exactly where document 01 alone has 6, and with the same number everywhere else
+--   FormerSix      a file whose version is not the other code's is refused with 16 to 19 exactly where document 01 alone has 6, and with the same
+--                  number everywhere else
+--   FormerThree    a file of the other code's version, with the length and the signature that it must have, is 3 by document 01 alone
 -- The contracts of read_from and read cite readFrom and readOf.
 -- Assumes nothing.
 use mathlib.Core.Path.{_≡_}
+use mathlib.Core.Bool.{true}
 use mathlib.Core.List.{List}
 use mathlib.Core.Logic.{_⊎_}
 use Prim.Native.Nat.{ℕ, _<_}
@@ -15,8 +18,10 @@ use lib.ListN.{length, take}
 use Rattle.refusals.specs.declared.Refusal.{Refusal}
 use Rattle.entries.specs.Claim.{FirstFault}
 use Rattle.entries.specs.declared.Walked.{Walked}
-use Rattle.par1_rules.specs.Layout.{listOf}
+use Rattle.codes.specs.declared.Code.the-variants.{Cauchy}
+use Rattle.par1_rules.specs.Layout.{signature, versionFor, signatureOf, versionOf, listOf}
 use Rattle.par1_rules.specs.Hashes.{controlHash}
+use Rattle.par1_rules.specs.Rules.{lengthAllowed}
 use Rattle.par1_read.specs.Former.{formerNumber, formerRefusal}
 use Rattle.par1_read.specs.Reading.{headerRefusal, controlRefusal, readFrom, readOf, readingRefusal}
 use Rattle.par1_read.specs.declared.reading.Reading.the-variants.{Refused}
@@ -43,4 +48,10 @@ FaultRead =
 -- reading never gives 6 itself, so the numbers 16 to 19, and no others, stand for it; proved: proofs/FormerLaws.antt, `former-six`
 abbrev pub FormerSix : Type 0
 FormerSix =
-    (f : List ℕ) → let n = readingRefusal (readOf f) .number in (formerRefusal f ≡ formerNumber n) × (n ≡ 6 → ⊥)
+    (f : List ℕ) → let n = readingRefusal (readOf f) .number in
+    ((versionOf f ≡ versionFor Cauchy → ⊥) → formerRefusal f ≡ formerNumber n) × (n ≡ 6 → ⊥)
+
+-- document 02, 2026-13: "version 131,328, which our older readers refuse with 3"; proved: proofs/FormerLaws.antt, `former-three`
+abbrev pub FormerThree : Type 0
+FormerThree =
+    (f : List ℕ) → versionOf f ≡ versionFor Cauchy → lengthAllowed (length f) ≡ true → signatureOf f ≡ signature → formerRefusal f ≡ 3

@@ -1,5 +1,6 @@
 -- The number of a file's refusal as document 01 has it ("Reading tests 1 to 9 in this order and returns the first that holds"), with 6
--- for every fault of an entry, of the list and of the count. Test 9 goes by the data size as it is now (document 02, 2026-02).
+-- for every fault of an entry, of the list and of the count, and Par 1.0's version alone. Test 9 goes by the data size as it is now (document
+-- 02, 2026-02).
 --
 --   formerNumber n        what document 01 has for the number n of document 02, 2026-01: "Where 01 says 6, read these"
 --   formerInList f w      the first of tests 6 to 9 that holds of the file f, where w is the walk over its list, 0 where none does
@@ -15,10 +16,11 @@ use Rattle.refusals.specs.Tests.{test}
 use Rattle.entries.specs.Walk.{walkOf}
 use Rattle.entries.specs.declared.Walked.{Walked}
 use Rattle.entries.specs.declared.Walked.the-variants as walked
-use Rattle.par1_rules.specs.Layout.{signature, signatureOf, versionOf, controlHashOf, setHashOf}
+use Rattle.codes.specs.declared.Code.the-variants.{Powers}
+use Rattle.par1_rules.specs.Layout.{signature, versionFor, signatureOf, versionOf, controlHashOf, setHashOf}
 use Rattle.par1_rules.specs.Layout.{volumeNumberOf, countOf, dataSizeOf, listOf}
 use Rattle.par1_rules.specs.Hashes.{setHash, controlHash}
-use Rattle.par1_rules.specs.Rules.{lengthAllowed, versionAllowed, layoutAllowed, numberAllowed, dataAllowed}
+use Rattle.par1_rules.specs.Rules.{lengthAllowed, layoutAllowed, numberAllowed, dataAllowed}
 use Rattle.par1_read.specs.Reading.{entriesIn}
 
 abbrev pub formerNumber : ℕ → ℕ
@@ -37,6 +39,6 @@ unfoldable pub formerRefusal : List ℕ → ℕ
 formerRefusal f =
     test 1 (lengthAllowed (length f))
     (test 2 (eqb (signatureOf f) signature)
-    (test 3 (versionAllowed (versionOf f))
+    (test 3 (eqb (versionOf f) (versionFor Powers))
     (test 4 (layoutAllowed f (length f))
     (test 5 (equal (controlHashOf f) (controlHash f)) (formerInList f (walkOf (listOf f)))))))

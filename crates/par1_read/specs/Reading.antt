@@ -30,7 +30,7 @@ use Rattle.entries.specs.declared.Walked.the-variants as walked
 use Rattle.par1_rules.specs.Layout.{signature, signatureOf, versionOf, programOf, controlHashOf, setHashOf}
 use Rattle.par1_rules.specs.Layout.{volumeNumberOf, countOf, listSizeOf, dataStartOf, dataSizeOf, listOf}
 use Rattle.par1_rules.specs.Hashes.{setHash, controlHash}
-use Rattle.par1_rules.specs.Rules.{lengthAllowed, versionAllowed, layoutAllowed, numberAllowed, dataAllowed}
+use Rattle.par1_rules.specs.Rules.{lengthAllowed, versionAllowed, codeIn, layoutAllowed, numberAllowed, dataAllowed}
 use Rattle.par1_read.specs.declared.reading.Parts.{Parts}
 use Rattle.par1_read.specs.declared.reading.Reading.{Reading}
 use Rattle.par1_read.specs.declared.reading.Reading.the-variants.{Accepted, Refused}
@@ -65,7 +65,8 @@ abbrev pub savedIn : Walked → ℕ
 savedIn (walked.Entries t) = t .saved
 savedIn (walked.Refused r) = 0
 
--- "program identifier, volume number, counts (entries and saved), and where list and data lie"
+-- "program identifier, volume number, counts (entries and saved), and where list and data lie"; document 02, 2026-13, of the code: "reading
+-- returns it"
 abbrev pub partsFrom : List ℕ → ℕ → Parts
 partsFrom head saved =
     record {
@@ -76,6 +77,7 @@ partsFrom head saved =
       «list_size» = listSizeOf head;
       «data_start» = dataStartOf head;
       «data_size» = dataSizeOf head;
+      code = codeIn (versionOf head);
     }
 
 -- the number 0 is no refusal, and no walk over a list gives it (`entries` specs/Claim, `FirstRefused`)

@@ -2,6 +2,7 @@
 ghost use mathlib.Core.Path.{_≡_};
 ghost use Rattle.par1_read.specs.Reading.{headerRefusal, controlRefusal, totalsRefusal, listRefusal, refusalFrom};
 ghost use Rattle.par1_read.specs.Reading.{savedIn, partsFrom, readFrom, readOf, readingRefusal};
+use codes::Code;
 use entries::Totals;
 use entries::Walked;
 use par1_rules::hashes;
@@ -12,8 +13,8 @@ use refusals::bare;
 use refusals::or_else;
 use refusals::test;
 
-// The parts of an accepted file: program identifier, volume number (0 for the index), number of entries and of saved ones, and where
-// list and data lie. The list starts at byte 96.
+// The parts of an accepted file: program identifier, volume number (0 for the index), number of entries and of saved ones, where
+// list and data lie, and the code. The list starts at byte 96.
 pub struct Parts {
     pub program: u32,
     pub number: u64,
@@ -22,6 +23,7 @@ pub struct Parts {
     pub list_size: u64,
     pub data_start: u64,
     pub data_size: u64,
+    pub code: Code,
 }
 
 // What reading a file gives: its parts, or the refusal by the first test that holds.
@@ -138,6 +140,7 @@ fn parts_from(head: &[u8], saved: u64) -> Parts
         list_size: little_endian::read64(head, layout::LIST_SIZE_AT),
         data_start: little_endian::read64(head, layout::DATA_START_AT),
         data_size: little_endian::read64(head, layout::DATA_SIZE_AT),
+        code: rules::code_in(little_endian::read32(head, layout::VERSION_AT)),
     }
 }
 
