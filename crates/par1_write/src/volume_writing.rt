@@ -5,6 +5,7 @@ ghost use lib.ListN.{length, take, drop};
 ghost use lib.Seq.{sets};
 ghost use Rattle.par1_rules.specs.Rules.{lengthAllowed};
 ghost use Rattle.par1_write.specs.VolumeWriting.{numberBytes, bodyBytes, headBytes, volumeRefusal, writeVolumeOf};
+use codes::Code;
 use entries::Totals;
 use entries::Walked;
 use lent_bytes::Writing;
@@ -14,9 +15,16 @@ use par1_rules::rules;
 use refusals::bare;
 use refusals::test;
 
-// Writes volume `number`, or the index where it is 0, over the first bytes of `out`.
-pub fn write_volume(program: u32, number: u64, list: &[u8], data: &[u8], out: &mut [u8]) -> Writing
-    ensures { λ r. ⌜ (r, now (out .exit)) ≡ writeVolumeOf program number (now (list .entry)) (now («data» .entry)) (now (out .entry)) ⌝ }
+// Writes volume `number` of a code, or the index where it is 0, over the first bytes of `out`.
+pub fn write_volume(
+    code: Code,
+    program: u32,
+    number: u64,
+    list: &[u8],
+    data: &[u8],
+    out: &mut [u8],
+) -> Writing
+    ensures { λ r. ⌜ (r, now (out .exit)) ≡ writeVolumeOf code program number (now (list .entry)) (now («data» .entry)) (now (out .entry)) ⌝ }
 {
     match entries::walk(list) {
         Walked::Entries(totals) => {
@@ -29,7 +37,7 @@ pub fn write_volume(program: u32, number: u64, list: &[u8], data: &[u8], out: &m
                 return Writing::Refused(bare(refusals::NO_ROOM));
             }
             put_body(out, number, totals.entries, list, data);
-            put_head(out, program, total);
+            put_head(out, code, program, total);
             Writing::Written(total)
         }
         Walked::Refused(refusal) => Writing::Refused(refusal),
@@ -91,14 +99,15 @@ fn put_numbers(out: &mut [u8], number: u64, entries: u64, list_len: usize, data_
     little_endian::write_numbers(out, layout::NUMBER_AT, &numbers);
 }
 
-// Writes the start of a file of `total` bytes, with the control hash of the others.
-fn put_head(out: &mut [u8], program: u32, total: usize)
+// Writes the start of a file of a code and of `total` bytes, with the control hash of the others.
+fn put_head(out: &mut [u8], code: Code, program: u32, total: usize)
     requires { ⌜ (96 ≤ total) × (total ≤ length (now out)) ⌝ }
-    ensures { λ _. ⌜ now (out .exit) ≡ sets (now (out .entry)) 0 (headBytes program (take (total - 32) (drop 32 (now (out .entry))))) ⌝ }
+    ensures { λ _. ⌜ now (out .exit) ≡ sets (now (out .entry)) 0 (headBytes code program (take (total - 32) (drop 32 (now (out .entry))))) ⌝ }
 {
+    let version = rules::version_of(code);
     let control_hash = md5::digest(&out[layout::SET_HASH_AT..total]);
     little_endian::write64(out, 0, layout::SIGNATURE);
-    little_endian::write32(out, layout::VERSION_AT, layout::VERSION);
+    little_endian::write32(out, layout::VERSION_AT, version);
     little_endian::write32(out, layout::PROGRAM_AT, program);
     lent_bytes::put(out, layout::CONTROL_HASH_AT, &control_hash);
 }

@@ -18,16 +18,19 @@ returns c =
     let third = fourth .before .before .before .before .before in
     let second = third .before .before .before .before in
     let one = second .before .before .before .before in
+    let hashed = one .before .before in
+    let version = hashed .before .before .before .version-of .ensures in
     stores-flatten
     (stored-as 8 (length-toLe 8 _) (ap (toLe 8) (sym signature-is)) (one .write64 .ensures)
-    (stored 4 (length-toLe 4 _) (second .write32 .ensures)
+    (stored-as 4 (length-toLe 4 _) (ap (toLe 4) version) (second .write32 .ensures)
     (stored 4 (length-toLe 4 _) (third .write322 .ensures)
-    (stored-as 16 (length-md5 _) (one .before .before .digest .ensures) (fourth .put .ensures) stored-all))))
+    (stored-as 16 (length-md5 _) (hashed .digest .ensures) (fourth .put .ensures) stored-all))))
 
 pub put-head-spec : {M : Type 1} → statement M
 put-head-spec =
     tie.close
     (tie.spec
+    (λ c κs. search needs)
     (λ c. search needs)
     (λ c. search needs)
     (λ c. search needs)

@@ -32,7 +32,7 @@ returns : tie.Need-returns
 returns c =
     let k = c .before in
     let refusal = c .bare .ensures ∙ ap bare (k .before .volume-refusal .ensures) in
-    volume-refused _ _ _ _ _ (walk-is (k .before .before .before)) refusal
+    volume-refused _ _ _ _ _ _ (walk-is (k .before .before .before)) refusal
     (λ z. k .if1 .taken (sym (ap (λ (r : Refusal). r .number) (c .bare .ensures)) ∙ z))
 
 add-total-2 : tie.Need-add-total-2
@@ -41,7 +41,7 @@ add-total-2 c = omega (arith, short c .high)
 returns-2 : tie.Need-returns-2
 returns-2 c =
     let k = c .before .before in
-    volume-short _ _ _ _ _ (walk-is (k .before .before .before)) (ap bare (k .before .volume-refusal .ensures)) (c .bare2 .ensures) (k .if1 .left)
+    volume-short _ _ _ _ _ _ (walk-is (k .before .before .before)) (ap bare (k .before .volume-refusal .ensures)) (c .bare2 .ensures) (k .if1 .left)
     (c .before .if2 .taken)
 
 put-head-requires : tie.Need-put-head-requires
@@ -53,14 +53,14 @@ returns-3 c =
     let b = c .before .before .before .before .before .before in
     let k = b .before .before .before in
     let w = k .before .before .before in
-    volume-over _ _ _ _ _ (walk-is w) (ap bare (k .before .volume-refusal .ensures)) (k .if1 .left) (b .before .before .if2 .left)
+    volume-over _ _ _ _ _ _ (walk-is w) (ap bare (k .before .volume-refusal .ensures)) (k .if1 .left) (b .before .before .if2 .left)
     (walk-count _ (sym (walk-is w))) (b .put-body .ensures) (c .before .before .put-head .ensures)
 
 returns-4 : tie.Need-returns-4
 returns-4 c =
     let f = c .before in
     let walk = sym (f .refusal .given .1) ∙ f .before .before .walk .ensures in
-    volume-refused _ _ _ _ _ walk refl (λ z. omega (arith, walk-refused _ (sym walk) .low))
+    volume-refused _ _ _ _ _ _ walk refl (λ z. omega (arith, walk-refused _ (sym walk) .low))
 
 pub write-volume-spec : {M : Type 1} → statement M
 write-volume-spec =
