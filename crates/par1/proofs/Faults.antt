@@ -25,8 +25,8 @@ use Rattle.par1.specs.Claim.{FaultWritten, short-of-slice, breaks-rule, 
 
 pub fault-written : FaultWritten
 unfolding writeVolumeOf writtenUnless
-fault-written program number list area out r fault =
-    let s : List ℕ = volumeBytes program number list area in
+fault-written c program number list area out r fault =
+    let s : List ℕ = volumeBytes c program number list area in
     ap (λ (w : Walked). writtenUnless (walkRefusal number w (length list) (length area)) s out) (first-refused list r .1 fault)
     ∙ simp (ne-eqb (r .number) 0 (breaks-number (fault .breaks)))
 

@@ -14,6 +14,7 @@ use native.Mathlib.Omega.{arith}
 use lib.ListN.{length}
 use Rattle.lent_bytes.proofs.WritingLaws.{unless-accepted, unless-tells}
 use Rattle.cut_lists.proofs.CutLaws.{cut-count}
+use Rattle.codes.specs.declared.Code.{Code}
 use Rattle.entries.specs.Entry.{lengthOf}
 use Rattle.entries.specs.Walk.{entriesOf, walkOf}
 use Rattle.entries.specs.declared.Totals.{Totals}
@@ -27,24 +28,24 @@ use Rattle.par1_read.specs.Reading.{entriesIn}
 use Rattle.par1_write.specs.VolumeWriting.{volumeBytes, walkRefusal, writeVolumeOf}
 use Rattle.par1_read.specs.declared.reading.Reading.the-variants.{Accepted}
 use Rattle.par1_read.proofs.ReadingLaws.{partsOf, HeaderPassed, TotalsPassed, Passed, passed-none, read-accepted}
-use Rattle.par1_rules.proofs.RuleLaws.{Between}
+use Rattle.par1_rules.proofs.RuleLaws.{code-back, Between}
 use Rattle.par1.specs.Claim.{VolumeAccepted, VolumeWritten, partsFor, ReadBack, ReadWritten}
 use Rattle.par1.proofs.VolumeFields.{Fields, volume-fields}
 use Rattle.par1_write.proofs.VolumeWritingLaws.{VolumePassed, volume-passed, volume-none, length-volume}
 
 pub volume-accepted : VolumeAccepted
 unfolding writeVolumeOf
-volume-accepted program number list area out t walk number-right data-right high fits =
-    let size : length (volumeBytes program number list area) ≡ 96 + length list + length area = length-volume program number list area in
+volume-accepted c program number list area out t walk number-right data-right high fits =
+    let size : length (volumeBytes c program number list area) ≡ 96 + length list + length area = length-volume c program number list area in
     let passed : VolumePassed number t (length list) (length area) =
     record { number-right = number-right; data-right = data-right; size = record { low = omega arith; high = omega arith } } in
     let none = ap (λ (w : Walked). walkRefusal number w (length list) (length area) .number) walk ∙ volume-none number t (length list) (length area) passed in
-    unless-accepted (walkRefusal number (walkOf list) (length list) (length area)) (volumeBytes program number list area) out none fits
+    unless-accepted (walkRefusal number (walkOf list) (length list) (length area)) (volumeBytes c program number list area) out none fits
 
 pub volume-written : VolumeWritten
 unfolding writeVolumeOf
-volume-written program number list area out n room e =
-    unless-tells (walkRefusal number (walkOf list) (length list) (length area)) (volumeBytes program number list area) out e .written-is
+volume-written c program number list area out n room e =
+    unless-tells (walkRefusal number (walkOf list) (length list) (length area)) (volumeBytes c program number list area) out e .written-is
 
 -- the list of a written volume was walked to its end
 pub record ListPassed (number : ℕ) (list : List ℕ) (area : ℕ) : Type 0 where
@@ -62,14 +63,14 @@ list-passed number list area e = by (walkOf list) refl e
 
 -- a file with the fields of a written volume passes the tests of reading
 module _ {number : ℕ} {list : List ℕ} (area : List ℕ) (accepted : ListPassed number list (length area))
-    (f : List ℕ) (program : ℕ) {body : List ℕ} (d : Fields f program body (length (entriesOf list .pieces)) number list area)
+    (f : List ℕ) {c : Code} (program : ℕ) {body : List ℕ} (d : Fields f c program body (length (entriesOf list .pieces)) number list area)
     (size : length f ≡ 96 + length list + length area) where
   written-header : HeaderPassed f (length f)
   written-header =
       record {
         size = subst Between (sym size) (accepted .tests .size);
         begins = d .begins;
-        version-is = d .version-is;
+        version-is = cc (code-back c);
         layout = record {
           list-start = d .list-start;
           data-start = omega (arith, d .data-start, d .list-size);
@@ -97,17 +98,17 @@ module _ {number : ℕ} {list : List ℕ} (area : List ℕ) (accepted : ListPass
         totals = written-totals;
       }
 
-  written-parts : partsOf f ≡ partsFor program number list area
-  written-parts = cc
+  written-parts : partsOf f ≡ partsFor c program number list area
+  written-parts = cc (code-back c)
 
-pub volume-back : (program number : ℕ) (list area : List ℕ) → program < 2 ^ 32 → number < 2 ^ 64 → ListPassed number list (length area)
-    → ReadBack (volumeBytes program number list area) program number list area
+pub volume-back : (c : Code) (program number : ℕ) (list area : List ℕ) → program < 2 ^ 32 → number < 2 ^ 64 → ListPassed number list (length area)
+    → ReadBack (volumeBytes c program number list area) c program number list area
 unfolding volumeBytes
-volume-back program number list area p v accepted =
-    let f : List ℕ = volumeBytes program number list area in
-    let size : length f ≡ 96 + length list + length area = length-volume program number list area in
+volume-back c program number list area p v accepted =
+    let f : List ℕ = volumeBytes c program number list area in
+    let size : length f ≡ 96 + length list + length area = length-volume c program number list area in
     let few : length (entriesOf list .pieces) < 2 ^ 64 = omega (arith, cut-count lengthOf list, accepted .tests .size .high) in
-    let d = volume-fields f program (length (entriesOf list .pieces)) number list area refl p v few (omega (arith, accepted .tests .size .high)) in
+    let d = volume-fields f c program (length (entriesOf list .pieces)) number list area refl p v few (omega (arith, accepted .tests .size .high)) in
     let read = read-accepted f (passed-none f (written-passed area accepted f program d size)) in
     record {
       read-is = read ∙ ap Accepted (written-parts area accepted f program d size);
@@ -117,7 +118,7 @@ volume-back program number list area p v accepted =
 
 pub read-written : ReadWritten
 unfolding writeVolumeOf
-read-written program number p v list area out n room e =
-    let told = unless-tells (walkRefusal number (walkOf list) (length list) (length area)) (volumeBytes program number list area) out e in
+read-written c program number p v list area out n room e =
+    let told = unless-tells (walkRefusal number (walkOf list) (length list) (length area)) (volumeBytes c program number list area) out e in
     let passed = list-passed number list (length area) (told .none) in
-    subst (λ (f : List ℕ). ReadBack f program number list area) (sym (told .written-is)) (volume-back program number list area p v passed)
+    subst (λ (f : List ℕ). ReadBack f c program number list area) (sym (told .written-is)) (volume-back c program number list area p v passed)

@@ -11,20 +11,21 @@ use lib.ListN.{length, take, drop}
 use Rattle.little_endian.specs.Bytes.{toLe, numbers}
 use Rattle.little_endian.proofs.Numbers.{length-toLe}
 use Rattle.md5.specs.Digest.{md5}
+use Rattle.codes.specs.declared.Code.{Code}
 use Rattle.entries.specs.Walk.{entriesOf}
-use Rattle.par1_rules.specs.Layout.{signature, version, signatureOf, versionOf, programOf, controlHashOf, hashedOf, setHashOf}
+use Rattle.par1_rules.specs.Layout.{signature, versionFor, signatureOf, versionOf, programOf, controlHashOf, hashedOf, setHashOf}
 use Rattle.par1_rules.specs.Layout.{volumeNumberOf, countOf, listStartOf, listSizeOf, dataStartOf, dataSizeOf, listOf, dataOf}
 use Rattle.par1_rules.specs.Hashes.{setHash}
 use Rattle.par1_write.specs.VolumeWriting.{numberBytes, bodyBytes, headBytes}
 use Rattle.par1_rules.proofs.HashLaws.{length-md5, length-set-hash}
 use Rattle.lent_bytes.proofs.PartsInRow.{At, at-start, at-part, at-next, at-number, at-open, at-last}
-use Rattle.par1_rules.proofs.RuleLaws.{signature-is}
+use Rattle.par1_rules.proofs.RuleLaws.{signature-is, version-fits}
 
 -- ---- the header
 
-pub record Fields (f : List ℕ) (program : ℕ) (body : List ℕ) (n number : ℕ) (list area : List ℕ) : Type 0 where
+pub record Fields (f : List ℕ) (c : Code) (program : ℕ) (body : List ℕ) (n number : ℕ) (list area : List ℕ) : Type 0 where
   pub begins : signatureOf f ≡ signature
-  pub version-is : versionOf f ≡ version
+  pub version-is : versionOf f ≡ versionFor c
   pub program-is : programOf f ≡ program
   pub control-is : controlHashOf f ≡ md5 body
   pub hashed-is : hashedOf f ≡ body
@@ -38,17 +39,17 @@ pub record Fields (f : List ℕ) (program : ℕ) (body : List ℕ) (n number : �
   pub list-is : listOf f ≡ list
   pub data-is : dataOf f ≡ area
 
-pub volume-fields : (f : List ℕ) (program n number : ℕ) (list area : List ℕ)
-    → f ≡ headBytes program (bodyBytes n number list area) ++ bodyBytes n number list area
+pub volume-fields : (f : List ℕ) (c : Code) (program n number : ℕ) (list area : List ℕ)
+    → f ≡ headBytes c program (bodyBytes n number list area) ++ bodyBytes n number list area
     → program < 2 ^ 32 → number < 2 ^ 64 → n < 2 ^ 64 → 96 + length list + length area < 2 ^ 64
-    → Fields f program (bodyBytes n number list area) n number list area
+    → Fields f c program (bodyBytes n number list area) n number list area
 unfolding headBytes bodyBytes numbers flatten
-volume-fields f program n number list area e p v k size =
+volume-fields f c program n number list area e p v k size =
     let body : List ℕ = bodyBytes n number list area in
-    let at0 : At f 0 (toLe 8 signature ∷ toLe 4 version ∷ toLe 4 program ∷ md5 body ∷ body ∷ []) =
-    at-start (toLe 8 signature ∷ toLe 4 version ∷ toLe 4 program ∷ md5 body ∷ []) body e in
+    let at0 : At f 0 (toLe 8 signature ∷ toLe 4 (versionFor c) ∷ toLe 4 program ∷ md5 body ∷ body ∷ []) =
+    at-start (toLe 8 signature ∷ toLe 4 (versionFor c) ∷ toLe 4 program ∷ md5 body ∷ []) body e in
     let at8 = at-next 8 (length-toLe 8 signature) at0 in
-    let at12 = at-next 4 (length-toLe 4 version) at8 in
+    let at12 = at-next 4 (length-toLe 4 (versionFor c)) at8 in
     let at16 = at-next 4 (length-toLe 4 program) at12 in
     let at32 = at-next 16 (length-md5 body) at16 in
     let set = at-open (setHash (entriesOf list .pieces) ∷ numberBytes number n (length list) (length area) ∷ list ∷ area ∷ []) at32 in
@@ -64,7 +65,7 @@ volume-fields f program n number list area e p v k size =
     let list-size : listSizeOf f ≡ length list = at-number 8 (length list) (omega arith) at72 in
     record {
       begins = at-number 8 signature (omega (arith, signature-is)) at0;
-      version-is = at-number 4 version (omega arith) at8;
+      version-is = at-number 4 (versionFor c) (version-fits c) at8;
       program-is = at-number 4 program (omega arith) at12;
       control-is = at-part 16 (length-md5 body) at16;
       hashed-is = at-last at32;

@@ -18,9 +18,9 @@ use Rattle.entries.specs.declared.Totals.{Totals}
 use Rattle.entries.specs.declared.Walked.{Walked}
 use Rattle.entries.proofs.WalkLaws.{walk-count}
 use Rattle.md5.specs.Digest.{md5}
-use Rattle.par1_rules.specs.Layout.{signature, version, programOf, hashedOf, volumeNumberOf, countOf, listSizeOf, dataStartOf, dataSizeOf, listOf, dataOf}
+use Rattle.par1_rules.specs.Layout.{signature, versionFor, versionOf, programOf, hashedOf, volumeNumberOf, countOf, listSizeOf, dataStartOf, dataSizeOf, listOf, dataOf}
 use Rattle.par1_rules.specs.Hashes.{setHash}
-use Rattle.par1_rules.specs.Rules.{dataAllowed}
+use Rattle.par1_rules.specs.Rules.{codeIn, dataAllowed}
 use Rattle.par1_read.specs.Reading.{entriesIn}
 use Rattle.par1_write.specs.VolumeWriting.{bodyBytes, headBytes, volumeBytes, walkRefusal, writeVolumeOf}
 use Rattle.par1_read.specs.declared.reading.Parts.{Parts}
@@ -73,7 +73,7 @@ module _ (f : List ℕ) (bytes : Bytes f) (tests : Passed f) where
       (toLe 8 (length area)) l area
       ∙ cc (tests .totals .set-is, count, list-length, data-length, tests .header .layout .list-start)
 
-  pub volume-again : volumeBytes (programOf f) (volumeNumberOf f) (listOf f) (dataOf f) ≡ f
+  pub volume-again : volumeBytes (codeIn (versionOf f)) (programOf f) (volumeNumberOf f) (listOf f) (dataOf f) ≡ f
   unfolding volumeBytes headBytes
   volume-again =
       let body : List ℕ = bodyBytes (length (entriesIn f)) (volumeNumberOf f) (listOf f) (dataOf f) in
@@ -82,7 +82,7 @@ module _ (f : List ℕ) (bytes : Bytes f) (tests : Passed f) where
       let at8 = split-number 4 8 f bytes (omega arith) in
       let at12 = split-number 4 12 f bytes (omega arith) in
       let at16 = split 16 16 f in
-      nested-head (toLe 8 signature) (toLe 4 version) (toLe 4 (programOf f)) (md5 body) body
+      nested-head (toLe 8 signature) (toLe 4 (versionFor (codeIn (versionOf f)))) (toLe 4 (programOf f)) (md5 body) body
       ∙ cc (body-again, tests .header .begins, tests .header .version-is, tests .control-is)
 
   -- the parts that reading gives are the areas of the file
@@ -92,13 +92,13 @@ module _ (f : List ℕ) (bytes : Bytes f) (tests : Passed f) where
       ∙ take-all (dataSizeOf f) (dataOf f) (omega (arith, data-length))
 
   write-again : (out : List ℕ) → length f ≤ length out
-      → writeVolumeOf (programOf f) (volumeNumberOf f) (listOf f) (dataOf f) out ≡ accepted f out
+      → writeVolumeOf (codeIn (versionOf f)) (programOf f) (volumeNumberOf f) (listOf f) (dataOf f) out ≡ accepted f out
   unfolding writeVolumeOf
   write-again out room =
       let t : Totals = tests .totals-of in
       let l : ℕ = length (listOf f) in
       let d : ℕ = length (dataOf f) in
-      let s : List ℕ = volumeBytes (programOf f) (volumeNumberOf f) (listOf f) (dataOf f) in
+      let s : List ℕ = volumeBytes (codeIn (versionOf f)) (programOf f) (volumeNumberOf f) (listOf f) (dataOf f) in
       let size : 96 + l + d ≡ length f = omega (arith, list-length, data-length, tests .header .layout .data-start, tests .header .layout .data-end) in
       let right =
       volume-none (volumeNumberOf f) t l d
@@ -117,7 +117,7 @@ pub written-read : WrittenRead
 written-read f p out bytes e room =
     let told = read-tells f p e in
     let again : Parts → Writing × List ℕ =
-    λ q. writeVolumeOf (q .program) (q .number) (take (q .«list_size») (drop 96 f)) (take (q .«data_size») (drop (q .«data_start») f)) out in
+    λ q. writeVolumeOf (q .code) (q .program) (q .number) (take (q .«list_size») (drop 96 f)) (take (q .«data_size») (drop (q .«data_start») f)) out in
     ap again (told .parts-are)
-    ∙ ap (λ (d : List ℕ). writeVolumeOf (programOf f) (volumeNumberOf f) (listOf f) d out) (data-again f bytes (told .tests))
+    ∙ ap (λ (d : List ℕ). writeVolumeOf (codeIn (versionOf f)) (programOf f) (volumeNumberOf f) (listOf f) d out) (data-again f bytes (told .tests))
     ∙ write-again f bytes (told .tests) out room

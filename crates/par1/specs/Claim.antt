@@ -2,8 +2,8 @@
 --
 --   VolumeAccepted               what keeps the rules is written as the format defines, where there is room for it
 --   VolumeWritten                whatever is written has the bytes that the format defines
---   partsFor p v list area       what reading returns of volume v of the program p, with this list and this data
---   ReadBack f p v list area     the file f is read so, and its areas are this list and this data
+--   partsFor c p v list area     what reading returns of volume v of the code c and the program p, with this list and this data
+--   ReadBack f c p v list area   the file f is read so, and its areas are this list and this data
 --   ReadWritten                  every written volume is read back
 --   WrittenRead                  every accepted file, written from what reading gave, has the same bytes
 --   EntryAccepted                the entry of a file that keeps the rules is written as the format defines, where there is room for it
@@ -27,6 +27,7 @@ use Rattle.refusals.specs.Tests.{bare}
 use Rattle.refusals.specs.declared.Refusal.{Refusal}
 use Rattle.cut_lists.specs.Pieces.{before}
 use Rattle.little_endian.specs.Bytes.{Bytes}
+use Rattle.codes.specs.declared.Code.{Code}
 use Rattle.entries.specs.Claim.{Breaks, FirstFault}
 use Rattle.entries.specs.Entry.{entrySize, statusOf, fileSizeOf, md5Of, md5Of16k, nameOf, nameAllowed, fileSizeAllowed}
 use Rattle.entries.specs.Numbering.{savedOf}
@@ -50,24 +51,25 @@ use Rattle.par1.specs.Checking.{loneRefusal, checkOf}
 -- so a writer that refuses all is excluded, and with `ReadWritten` a reader that does; proved: proofs/ReadWritten.antt, `volume-accepted`
 abbrev pub VolumeAccepted : Type 0
 VolumeAccepted =
-    (program number : ℕ) (list area out : List ℕ) (t : Totals) → walkOf list ≡ walked.Entries t
+    (c : Code) (program number : ℕ) (list area out : List ℕ) (t : Totals) → walkOf list ≡ walked.Entries t
     → numberAllowed number (t .saved) ≡ true → dataAllowed number (t .greatest) (length area) ≡ true
-    → length (volumeBytes program number list area) ≤ maxVolumeLength → length (volumeBytes program number list area) ≤ length out
-    → writeVolumeOf program number list area out ≡ accepted (volumeBytes program number list area) out
+    → length (volumeBytes c program number list area) ≤ maxVolumeLength → length (volumeBytes c program number list area) ≤ length out
+    → writeVolumeOf c program number list area out ≡ accepted (volumeBytes c program number list area) out
 
 -- ---- "A volume written is, byte by byte, the one that Par 1.0, RFC 1321 and document 01 define."
 
 -- proved: proofs/ReadWritten.antt, `volume-written`
 abbrev pub VolumeWritten : Type 0
 VolumeWritten =
-    (program number : ℕ) (list area out : List ℕ) (n : ℕ) (room : List ℕ)
-    → writeVolumeOf program number list area out ≡ (Written n, room) → take n room ≡ volumeBytes program number list area
+    (c : Code) (program number : ℕ) (list area out : List ℕ) (n : ℕ) (room : List ℕ)
+    → writeVolumeOf c program number list area out ≡ (Written n, room) → take n room ≡ volumeBytes c program number list area
 
 -- ---- "Reading returns the parts it was written from"
 
--- "program identifier, volume number, counts (entries and saved), and where list and data lie"
-abbrev pub partsFor : ℕ → ℕ → List ℕ → List ℕ → Parts
-partsFor program number list area =
+-- "program identifier, volume number, counts (entries and saved), and where list and data lie"; document 02, 2026-13: "writing and asking for a
+-- factor are told the code, reading returns it"
+abbrev pub partsFor : Code → ℕ → ℕ → List ℕ → List ℕ → Parts
+partsFor c program number list area =
     let es : List (List ℕ) = entriesOf list .pieces in
     record {
       program = program;
@@ -77,26 +79,27 @@ partsFor program number list area =
       «list_size» = length list;
       «data_start» = 96 + length list;
       «data_size» = length area;
+      code = c;
     }
 
-pub record ReadBack (f : List ℕ) (program number : ℕ) (list area : List ℕ) : Type 0 where
-  pub read-is : readOf f ≡ Accepted (partsFor program number list area)
+pub record ReadBack (f : List ℕ) (c : Code) (program number : ℕ) (list area : List ℕ) : Type 0 where
+  pub read-is : readOf f ≡ Accepted (partsFor c program number list area)
   pub list-is : listOf f ≡ list
   pub data-is : dataOf f ≡ area
 
 -- the program identifier is a u32, the number a u64; proved: proofs/ReadWritten.antt, `read-written`
 abbrev pub ReadWritten : Type 0
 ReadWritten =
-    (program number : ℕ) → program < 2 ^ 32 → number < 2 ^ 64 → (list area out : List ℕ) (n : ℕ) (room : List ℕ)
-    → writeVolumeOf program number list area out ≡ (Written n, room) → ReadBack (take n room) program number list area
+    (c : Code) (program number : ℕ) → program < 2 ^ 32 → number < 2 ^ 64 → (list area out : List ℕ) (n : ℕ) (room : List ℕ)
+    → writeVolumeOf c program number list area out ≡ (Written n, room) → ReadBack (take n room) c program number list area
 
 -- ---- "an accepted volume written again from its parts has the same bytes"
 
--- into any room that holds it, and the rest of the room stays; proved: proofs/WrittenRead.antt, `written-read`
+-- with the code that reading gave, into any room that holds it, and the rest of the room stays; proved: proofs/WrittenRead.antt, `written-read`
 abbrev pub WrittenRead : Type 0
 WrittenRead =
     (f : List ℕ) (p : Parts) (out : List ℕ) → Bytes f → readOf f ≡ Accepted p → length f ≤ length out
-    → writeVolumeOf (p .program) (p .number) (take (p .«list_size») (drop 96 f)) (take (p .«data_size») (drop (p .«data_start») f)) out
+    → writeVolumeOf (p .code) (p .program) (p .number) (take (p .«list_size») (drop 96 f)) (take (p .«data_size») (drop (p .«data_start») f)) out
     ≡ accepted f out
 
 -- ---- the same for an entry
@@ -137,7 +140,7 @@ EntryWritten =
 -- a volume is refused for the first entry of its list that breaks a rule, before all other tests; proved: proofs/Faults.antt, `fault-written`
 abbrev pub FaultWritten : Type 0
 FaultWritten =
-    (program number : ℕ) (list area out : List ℕ) (r : Refusal) → FirstFault list r → writeVolumeOf program number list area out ≡ refused r out
+    (c : Code) (program number : ℕ) (list area out : List ℕ) (r : Refusal) → FirstFault list r → writeVolumeOf c program number list area out ≡ refused r out
 
 -- "16 entry size .. (lone entry) short of its slice"
 pub data LoneBreaks (e : List ℕ) : ℕ → Type 0 where

@@ -4,6 +4,7 @@ mod checking;
 
 pub use checking::check;
 pub use checking::lone_refusal;
+pub use codes::Code;
 pub use lent_bytes::Writing;
 pub use par1_read::Parts;
 pub use par1_read::Reading;
