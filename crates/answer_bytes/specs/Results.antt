@@ -1,13 +1,14 @@
 -- What calls that answer a byte, the parts of a file or the first entry of a list give, as C sees them.
 --
 --   byteInto r out       the number of the answer r, or 14, and what `out` then holds: the byte over its first
---   partsBytes p         the parts of an accepted file: seven numbers
+--   partsBytes p         the parts of an accepted file: eight numbers
 --   readInto r out       the refusal that the reading r is, or 14, and what `out` then holds: the parts over its first bytes
 --   entryBytes l st n    an entry's length, status and file size: three numbers
 --   entryInto i out      the number of a fault, or 14, and what `out` then holds: the numbers of the entry over its first bytes
 -- Assumes nothing.
 use mathlib.Core.List.{List, [], _∷_}
 use Prim.Native.Nat.{ℕ}
+use Rattle.codes.specs.Codes.{codeNumber}
 use Rattle.refusals.specs.Tests.{bare}
 use Rattle.refusals.specs.declared.Refusal.{Refusal}
 use Rattle.lent_bytes.specs.Writing.{refused, written, withRefusal, withNumber}
@@ -25,7 +26,7 @@ unfoldable pub byteInto : ByteAnswer → List ℕ → ℕ × List ℕ
 byteInto (answer.Refused n) out = withNumber (refused (bare n) out)
 byteInto (answer.Byte b) out = withNumber (written (b ∷ []) out)
 
--- program identifier, volume number, entries, saved entries, list size, data start, data size
+-- program identifier, volume number, entries, saved entries, list size, data start, data size, code
 unfoldable pub partsBytes : Parts → List ℕ
 partsBytes p =
     numbers
@@ -36,6 +37,7 @@ partsBytes p =
     ∷ p .«list_size»
     ∷ p .«data_start»
     ∷ p .«data_size»
+    ∷ codeNumber (p .code)
     ∷ [])
 
 unfoldable pub readInto : Reading → List ℕ → Refusal × List ℕ

@@ -13,7 +13,7 @@ use refusals::Refusal;
 use refusals::bare;
 
 // The length of the parts of a file, in bytes.
-const PARTS_LENGTH: usize = 56;
+const PARTS_LENGTH: usize = 64;
 
 // The length of an entry's numbers, in bytes.
 const ENTRY_LENGTH: usize = 24;
@@ -73,6 +73,8 @@ pub fn put_entry(item: Item, out: &mut [u8]) -> u32
 fn bytes_of_parts(parts: Parts) -> [u8; PARTS_LENGTH]
     ensures { λ r. ⌜ r ≡ partsBytes parts ⌝ }
 {
+    let code = parts.code;
+    let number = codes::code_number(code);
     let numbers = [
         parts.program as u64,
         parts.number,
@@ -81,6 +83,7 @@ fn bytes_of_parts(parts: Parts) -> [u8; PARTS_LENGTH]
         parts.list_size,
         parts.data_start,
         parts.data_size,
+        number,
     ];
     let mut bytes = [0u8; PARTS_LENGTH];
     write_numbers(&mut bytes, 0, &numbers);
