@@ -11,6 +11,7 @@ use borrow.Author.Tests.{leb-true}
 use lib.ListN.{length, take, drop, length-append, length-drop}
 use lib.Seq.{length-take-le}
 use Rattle.cut_lists.specs.All.{All, all-none, all-more}
+use Rattle.codes.specs.declared.Code.{Code}
 use Rattle.lent_bytes.specs.declared.Writing.{Writing}
 use Rattle.lent_bytes.specs.declared.Writing.the-variants.{Written, Refused}
 use Rattle.lent_bytes.proofs.WritingLaws.{never, unless-tells}
@@ -80,19 +81,19 @@ entries-tell (x ∷ fs) at room h e =
     let r : Writing × List ℕ = writeEntryOf (x .contents) (x .status) (x .name) (drop at room) in
     more-tells x fs at room (λ j s. entries-tell fs j s) (r .0) (r .1) h refl e
 
-pub set-tells : (program v : ℕ) (fs : List File) (area room out : List ℕ) {n : ℕ} {after : List ℕ}
-    → writeSet program v fs area room out ≡ (Written n, after)
-    → All FileRight fs × All Writable fs × (writeVolumeOf program v (listFor fs) area out ≡ (Written n, after))
+pub set-tells : (c : Code) (program v : ℕ) (fs : List File) (area room out : List ℕ) {n : ℕ} {after : List ℕ}
+    → writeSet c program v fs area room out ≡ (Written n, after)
+    → All FileRight fs × All Writable fs × (writeVolumeOf c program v (listFor fs) area out ≡ (Written n, after))
 unfolding writeSet
-set-tells program v fs area room out {n} {after} e =
+set-tells c program v fs area room out {n} {after} e =
     let r : Writing × List ℕ = writeEntries fs 0 room in by (r .0) (r .1) refl e
   where
-    by : (w : Writing) (t : List ℕ) → writeEntries fs 0 room ≡ (w, t) → next w out (λ k. writeVolumeOf program v (take k t) area out) ≡ (Written n, after)
-        → All FileRight fs × All Writable fs × (writeVolumeOf program v (listFor fs) area out ≡ (Written n, after))
+    by : (w : Writing) (t : List ℕ) → writeEntries fs 0 room ≡ (w, t) → next w out (λ k. writeVolumeOf c program v (take k t) area out) ≡ (Written n, after)
+        → All FileRight fs × All Writable fs × (writeVolumeOf c program v (listFor fs) area out ≡ (Written n, after))
     by (Refused k) t first second = never second
     by (Written k) t first second =
         let told = entries-tell fs 0 room (omega arith) first in (
           told .files-right,
           told .writable,
-          sym (set-then program v fs area room out (entries-written room (told .files-right) (told .writable) (omega (arith, told .fits)))) ∙ e,
+          sym (set-then c program v fs area room out (entries-written room (told .files-right) (told .writable) (omega (arith, told .fits)))) ∙ e,
         )

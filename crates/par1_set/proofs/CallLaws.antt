@@ -10,6 +10,7 @@ use native.Mathlib.Omega.{arith}
 use lib.ListN.{length, take, drop, length-append, length-drop}
 use lib.Seq.{take-append-seam, drop-append-seam, drop-drop}
 use Rattle.cut_lists.specs.All.{All, all-none, all-more}
+use Rattle.codes.specs.declared.Code.{Code}
 use Rattle.lent_bytes.specs.Writing.{accepted}
 use Rattle.lent_bytes.specs.declared.Writing.{Writing}
 use Rattle.lent_bytes.specs.declared.Writing.the-variants.{Written}
@@ -54,9 +55,9 @@ entries-written {fs} room rs ws h =
     let n : 0 + length (listFor fs) ≡ length (listFor fs) = omega arith in
     entries-from [] room rs ws h ∙ ap (λ (k : ℕ). (Written k, listFor fs ++ drop (length (listFor fs)) room)) n
 
-pub set-then : (program v : ℕ) (fs : List File) (area room out : List ℕ) → writeEntries fs 0 room ≡ accepted (listFor fs) room
-    → writeSet program v fs area room out ≡ writeVolumeOf program v (listFor fs) area out
+pub set-then : (c : Code) (program v : ℕ) (fs : List File) (area room out : List ℕ) → writeEntries fs 0 room ≡ accepted (listFor fs) room
+    → writeSet c program v fs area room out ≡ writeVolumeOf c program v (listFor fs) area out
 unfolding writeSet
-set-then program v fs area room out wrote =
-    ap (λ (r : Writing × List ℕ). next (r .0) out (λ n. writeVolumeOf program v (take n (r .1)) area out)) wrote
-    ∙ ap (λ (l : List ℕ). writeVolumeOf program v l area out) (take-append-seam (listFor fs) _)
+set-then c program v fs area room out wrote =
+    ap (λ (r : Writing × List ℕ). next (r .0) out (λ n. writeVolumeOf c program v (take n (r .1)) area out)) wrote
+    ∙ ap (λ (l : List ℕ). writeVolumeOf c program v l area out) (take-append-seam (listFor fs) _)

@@ -12,6 +12,7 @@ use mathlib.Core.List.{List, [], _∷_, _++_, append-assoc, append-nil, map, fla
 use Prim.Native.Nat.{ℕ, _+_}
 use lib.ListN.{length, take, drop, length-append, length-map}
 use Rattle.cut_lists.specs.All.{All, all-none, all-more}
+use Rattle.codes.specs.declared.Code.{Code}
 use Rattle.entries.specs.Entry.{md5Of, isSaved}
 use Rattle.entries.specs.Walk.{entriesOf}
 use Rattle.entries.proofs.KeepLaws.{all-keep}
@@ -21,7 +22,7 @@ use Rattle.little_endian.proofs.Numbers.{length-toLe}
 use Rattle.little_endian.proofs.NumberLists.{length-numbers, numbers-append}
 use Rattle.md5.specs.Digest.{md5}
 use Rattle.par1_rules.specs.Hashes.{setHash}
-use Rattle.par1_rules.specs.Layout.{signature, version}
+use Rattle.par1_rules.specs.Layout.{signature, versionFor}
 use Rattle.par1_rules.proofs.HashLaws.{length-md5}
 use Rattle.par1_write.specs.VolumeWriting.{numberBytes, bodyBytes, headBytes, volumeBytes}
 use Rattle.par1_write.proofs.VolumeWritingLaws.{length-volume}
@@ -52,12 +53,12 @@ module _ {fs : List File} (bs : All FileBack fs) (v : ℕ) (area : List ℕ) whe
       ap₂ (λ (hash : List ℕ) (n : ℕ). flatten (hash ∷ numberBytes v n (length (listFor fs)) (length area) ∷ listFor fs ∷ area ∷ []))
       (ap setHash pieces ∙ set-hash-is bs) (ap length pieces ∙ length-map fs (λ x. entryFor x))
 
-  pub bytes-are : (program : ℕ) → volumeBytes program v (listFor fs) area ≡ bytesFor version program v fs area
+  pub bytes-are : (c : Code) (program : ℕ) → volumeBytes c program v (listFor fs) area ≡ bytesFor (versionFor c) program v fs area
   unfolding volumeBytes headBytes bytesFor flatten
-  bytes-are program = ap (λ (body : List ℕ). headBytes program body ++ body) body-is ∙ simp (append-assoc, append-nil)
+  bytes-are c program = ap (λ (body : List ℕ). headBytes c program body ++ body) body-is ∙ simp (append-assoc, append-nil)
 
-  pub length-bytes : (program : ℕ) → length (bytesFor version program v fs area) ≡ 96 + length (listFor fs) + length area
-  length-bytes program = ap length (sym (bytes-are program)) ∙ length-volume program v (listFor fs) area
+  pub length-bytes : (c : Code) (program : ℕ) → length (bytesFor (versionFor c) program v fs area) ≡ 96 + length (listFor fs) + length area
+  length-bytes c program = ap length (sym (bytes-are c program)) ∙ length-volume c program v (listFor fs) area
 
 -- ---- part by part
 

@@ -13,6 +13,7 @@ use Prim.Native.Nat.{ℕ, _+_, _^_, _≤_, _<_}
 use native.Mathlib.Omega.{arith}
 use lib.ListN.{length}
 use Rattle.cut_lists.specs.All.{All}
+use Rattle.codes.specs.declared.Code.{Code}
 use Rattle.entries.specs.declared.Totals.{Totals}
 use Rattle.entries.specs.declared.Walked.the-variants as walked
 use Rattle.entries.specs.Walk.{walkOf}
@@ -21,7 +22,7 @@ use Rattle.lent_bytes.specs.declared.Writing.the-variants.{Written}
 use Rattle.lent_bytes.proofs.WritingLaws.{unless-accepted, unless-tells}
 use Rattle.par1.specs.Claim.{ReadBack}
 use Rattle.par1.proofs.ReadWritten.{ListPassed, list-passed, volume-accepted, volume-back}
-use Rattle.par1_rules.specs.Layout.{version}
+use Rattle.par1_rules.specs.Layout.{versionFor}
 use Rattle.par1_rules.specs.Rules.{numberAllowed, dataAllowed}
 use Rattle.par1_write.specs.VolumeWriting.{volumeBytes, walkRefusal, writeVolumeOf}
 use Rattle.refusals.specs.Limits.{maxVolumeLength}
@@ -53,33 +54,33 @@ module _ {v : ℕ} {fs : List File} {area : List ℕ} (s : SetPassed v fs area) 
         tests = record { number-right = s .number-right; data-right = s .data-right; size = record { low = omega arith; high = s .length-right } };
       }
 
-  module _ (program : ℕ) where
-    same : volumeBytes program v (listFor fs) area ≡ bytesFor version program v fs area
-    same = bytes-are set-back v area program
+  module _ (c : Code) (program : ℕ) where
+    same : volumeBytes c program v (listFor fs) area ≡ bytesFor (versionFor c) program v fs area
+    same = bytes-are set-back v area c program
 
-    pub set-accepted : (room out : List ℕ) → All Writable fs → length (listFor fs) ≤ length room → length (bytesFor version program v fs area) ≤ length out
-        → writeSet program v fs area room out ≡ accepted (bytesFor version program v fs area) out
+    pub set-accepted : (room out : List ℕ) → All Writable fs → length (listFor fs) ≤ length room → length (bytesFor (versionFor c) program v fs area) ≤ length out
+        → writeSet c program v fs area room out ≡ accepted (bytesFor (versionFor c) program v fs area) out
     set-accepted room out writable list-fits fits =
-        let size = length-bytes set-back v area program in
-        set-then program v fs area room out (entries-written room (s .files-right) writable list-fits)
-        ∙ volume-accepted program v (listFor fs) area out (totalsFor fs) (walk-is set-back) (s .number-right) (s .data-right)
+        let size = length-bytes set-back v area c program in
+        set-then c program v fs area room out (entries-written room (s .files-right) writable list-fits)
+        ∙ volume-accepted c program v (listFor fs) area out (totalsFor fs) (walk-is set-back) (s .number-right) (s .data-right)
         (omega (arith, ap length same, s .length-right)) (omega (arith, ap length same))
         ∙ ap (λ (f : List ℕ). accepted f out) same
 
-    pub set-read-back : program < 2 ^ 32 → v < 2 ^ 64 → ReadBack (bytesFor version program v fs area) program v (listFor fs) area
+    pub set-read-back : program < 2 ^ 32 → v < 2 ^ 64 → ReadBack (bytesFor (versionFor c) program v fs area) c program v (listFor fs) area
     set-read-back p small =
-        subst (λ (f : List ℕ). ReadBack f program v (listFor fs) area) same (volume-back program v (listFor fs) area p small set-passed)
+        subst (λ (f : List ℕ). ReadBack f c program v (listFor fs) area) same (volume-back c program v (listFor fs) area p small set-passed)
 
 -- the tests of writing passed, and the bytes are those of the set
-pub set-only : (program v : ℕ) (fs : List File) (area room out : List ℕ) {n : ℕ} {after : List ℕ}
-    → writeSet program v fs area room out ≡ (Written n, after)
-    → SetPassed v fs area × All Writable fs × ((Written n, after) ≡ accepted (bytesFor version program v fs area) out)
+pub set-only : (c : Code) (program v : ℕ) (fs : List File) (area room out : List ℕ) {n : ℕ} {after : List ℕ}
+    → writeSet c program v fs area room out ≡ (Written n, after)
+    → SetPassed v fs area × All Writable fs × ((Written n, after) ≡ accepted (bytesFor (versionFor c) program v fs area) out)
 unfolding writeVolumeOf
-set-only program v fs area room out {n} {after} e =
-    let told = set-tells program v fs area room out e in
+set-only c program v fs area room out {n} {after} e =
+    let told = set-tells c program v fs area room out e in
     let l : List ℕ = listFor fs in
     let refusal : Refusal = walkRefusal v (walkOf l) (length l) (length area) in
-    let f : List ℕ = volumeBytes program v l area in
+    let f : List ℕ = volumeBytes c program v l area in
     let fits = unless-tells refusal f out (told .2) in
     let written : (Written n, after) ≡ accepted f out = sym (told .2) ∙ unless-accepted refusal f out (fits .none) (fits .fits) in
     let passed = list-passed v l (length area) (fits .none) in
@@ -94,5 +95,5 @@ set-only program v fs area room out {n} {after} e =
         length-right = high;
       },
       told .1,
-      written ∙ ap (λ (b : List ℕ). accepted b out) (bytes-are back v area program),
+      written ∙ ap (λ (b : List ℕ). accepted b out) (bytes-are back v area c program),
     )

@@ -2,7 +2,7 @@
 --
 --   length-data                  the data of a volume is as long as the data-size rule says
 --   volume-set, index-set        volumes and indices that keep the rules pass the tests of writing
---   volume-made                  the calls give the volume, by any rule for the coefficients
+--   volume-made                  the calls give the volume, by any rule for the coefficients and with the version of any code
 --   set-read, set-written, index-read, index-written, only-volumes, only-indices     the claims
 -- Assumes nothing.
 use mathlib.Core.Path.{_≡_, ap, _∙_}
@@ -12,11 +12,12 @@ use Prim.Native.Nat.{ℕ, _≤_}
 use native.Mathlib.Omega.{arith}
 use lib.ListN.{length}
 use Rattle.cut_lists.specs.All.{All}
+use Rattle.codes.specs.declared.Code.{Code}
 use Rattle.gf256.specs.declared.ByteAnswer.the-variants.{Byte}
 use Rattle.lent_bytes.specs.Writing.{accepted}
 use Rattle.mul_add.specs.Once.{Once}
-use Rattle.par1_rules.specs.Layout.{version}
-use Rattle.parity.specs.Coefficient.{coefficient, coefficientAnswer}
+use Rattle.par1_rules.specs.Layout.{versionFor}
+use Rattle.parity.specs.Coefficient.{ruleOf, coefficientAnswer}
 use Rattle.parity.specs.Parity.{isFile}
 use Rattle.parity.proofs.Coefficients.{answer-in-range}
 use Rattle.parity.proofs.Files.{isFile-inside}
@@ -46,38 +47,38 @@ module _ {v : ℕ} {fs : List File} (right : VolumeRight v fs) where
         length-right = omega (arith, right .length-right);
       }
 
-  coefficients : (f : ℕ) → isFile (fileCount fs) f ≡ true → coefficientAnswer f v ≡ Byte (coefficient f v)
-  coefficients f e =
+  coefficients : (c : Code) (f : ℕ) → isFile (fileCount fs) f ≡ true → coefficientAnswer c f v ≡ Byte (ruleOf c f v)
+  coefficients c f e =
       let inside = isFile-inside (fileCount fs) f e in
-      answer-in-range f v (inside .0) (right .volume-low) (omega (arith, inside .1, right .volume-high))
+      answer-in-range c f v (inside .0) (right .volume-low) (omega (arith, inside .1, right .volume-high))
 
-  pub volume-made : (rule : ℕ → ℕ → ℕ) (program : ℕ) (ks room out : List ℕ) → All Writable fs → Once (isFile (fileCount fs)) ks
-      → length (listFor fs) ≤ length room → length (volumeFor version rule program v fs) ≤ length out
-      → writeSet program v fs (addFiles rule v fs ks) room out ≡ accepted (volumeFor version rule program v fs) out
-  volume-made rule program ks room out writable once list-fits fits =
-      ap (λ (d : List ℕ). writeSet program v fs d room out) (files-parity rule (fileCount fs) (contentsOf fs) v (dataSizeFor fs) ks once)
-      ∙ set-accepted (volume-set rule) program room out writable list-fits fits
+  pub volume-made : (c : Code) (rule : ℕ → ℕ → ℕ) (program : ℕ) (ks room out : List ℕ) → All Writable fs → Once (isFile (fileCount fs)) ks
+      → length (listFor fs) ≤ length room → length (volumeFor (versionFor c) rule program v fs) ≤ length out
+      → writeSet c program v fs (addFiles rule v fs ks) room out ≡ accepted (volumeFor (versionFor c) rule program v fs) out
+  volume-made c rule program ks room out writable once list-fits fits =
+      ap (λ (d : List ℕ). writeSet c program v fs d room out) (files-parity rule (fileCount fs) (contentsOf fs) v (dataSizeFor fs) ks once)
+      ∙ set-accepted (volume-set rule) c program room out writable list-fits fits
 
 pub set-read : SetRead
-set-read program v fs p right = set-read-back (volume-set right coefficient) program p (omega (arith, right .volume-high))
+set-read c program v fs p right = set-read-back (volume-set right (ruleOf c)) c program p (omega (arith, right .volume-high))
 
 pub set-written : SetWritten
-set-written program v fs ks room out p right writable once list-fits fits =
+set-written c program v fs ks room out p right writable once list-fits fits =
     record {
       list-is = entries-written room (right .files-right) writable list-fits;
-      coefficients-are = coefficients right;
-      data-is = volume-data (fileCount fs) (contentsOf fs) v (dataSizeFor fs) ks once;
-      volume-is = volume-made right coefficient program ks room out writable once list-fits fits;
-      read-back = set-read program v fs p right;
+      coefficients-are = coefficients right c;
+      data-is = volume-data c (fileCount fs) (contentsOf fs) v (dataSizeFor fs) ks once;
+      volume-is = volume-made right c (ruleOf c) program ks room out writable once list-fits fits;
+      read-back = set-read c program v fs p right;
     }
 
 pub only-volumes : OnlyVolumes
-only-volumes program v fs ks room out n after low once e =
-    let told = set-only program v fs (addFiles coefficient v fs ks) room out e in
+only-volumes c program v fs ks room out n after low once e =
+    let told = set-only c program v fs (addFiles (ruleOf c) v fs ks) room out e in
     let s = told .0 in
     let range = number-range v (fileCount fs) low (s .number-right) in
-    let area = volume-data (fileCount fs) (contentsOf fs) v (dataSizeFor fs) ks once in
-    let size = ap length area ∙ length-data coefficient v fs in (
+    let area = volume-data c (fileCount fs) (contentsOf fs) v (dataSizeFor fs) ks once in
+    let size = ap length area ∙ length-data (ruleOf c) v fs in (
       record {
         files-right = s .files-right;
         volume-low = low;
@@ -86,7 +87,7 @@ only-volumes program v fs ks room out n after low once e =
         length-right = omega (arith, s .length-right);
       },
       told .1,
-      told .2 ∙ ap (λ (d : List ℕ). accepted (bytesFor version program v fs d) out) area,
+      told .2 ∙ ap (λ (d : List ℕ). accepted (bytesFor (versionFor c) program v fs d) out) area,
     )
 
 -- ---- the index
@@ -101,18 +102,18 @@ index-set {fs} {comment} right =
     }
 
 pub index-read : IndexRead
-index-read program fs comment p right = set-read-back (index-set right) program p (omega arith)
+index-read c program fs comment p right = set-read-back (index-set right) c program p (omega arith)
 
 pub index-written : IndexWritten
-index-written program fs comment room out p right writable list-fits fits =
+index-written c program fs comment room out p right writable list-fits fits =
     record {
-      index-is = set-accepted (index-set right) program room out writable list-fits fits;
-      read-back = index-read program fs comment p right;
+      index-is = set-accepted (index-set right) c program room out writable list-fits fits;
+      read-back = index-read c program fs comment p right;
     }
 
 pub only-indices : OnlyIndices
-only-indices program fs comment room out n after e =
-    let told = set-only program 0 fs comment room out e in
+only-indices c program fs comment room out n after e =
+    let told = set-only c program 0 fs comment room out e in
     let s = told .0 in (
       record {
         files-right = s .files-right;

@@ -4,11 +4,13 @@
 --   writeEntries fs at out   `write_entry` of each of the files fs into out, one after another, from byte at on: where the last one ends,
 --                            and out then
 --   addFiles rule v fs ks    `mul_add` of each of the files ks with its coefficient in volume v, into zeros of the data size
---   writeSet program v fs area room out    the entries of the files fs into room, then `write_volume` of this list and the data area into out
+--   writeSet c program v fs area room out  the entries of the files fs into room, then `write_volume` for the code c of this list and the data area
+--                                          into out
 -- Assumes nothing.
 use mathlib.Core.List.{List, [], _∷_, _++_}
 use Prim.Native.Nat.{ℕ, _+_}
 use lib.ListN.{take, drop, replicate}
+use Rattle.codes.specs.declared.Code.{Code}
 use Rattle.lent_bytes.specs.Writing.{refused}
 use Rattle.lent_bytes.specs.declared.Writing.{Writing}
 use Rattle.lent_bytes.specs.declared.Writing.the-variants.{Written, Refused}
@@ -32,7 +34,7 @@ writeEntries (x ∷ fs) at out =
 abbrev pub addFiles : (ℕ → ℕ → ℕ) → ℕ → List File → List ℕ → List ℕ
 addFiles rule v fs ks = mulAddAll (λ f. rule f v) (contentsOf fs) ks (replicate (dataSizeFor fs) 0)
 
--- `write_volume` makes the count and the hashes itself, and writes the version of Par 1.0 (par1_write, `headBytes`)
-unfoldable pub writeSet : ℕ → ℕ → List File → List ℕ → List ℕ → List ℕ → Writing × List ℕ
-writeSet program v fs area room out =
-    let r : Writing × List ℕ = writeEntries fs 0 room in next (r .0) out (λ n. writeVolumeOf program v (take n (r .1)) area out)
+-- `write_volume` makes the count and the hashes itself, and writes the version of the code (par1_write, `headBytes`)
+unfoldable pub writeSet : Code → ℕ → ℕ → List File → List ℕ → List ℕ → List ℕ → Writing × List ℕ
+writeSet c program v fs area room out =
+    let r : Writing × List ℕ = writeEntries fs 0 room in next (r .0) out (λ n. writeVolumeOf c program v (take n (r .1)) area out)
