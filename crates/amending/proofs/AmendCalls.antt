@@ -13,6 +13,7 @@ use native.Mathlib.Omega.{arith}
 use lib.Dec.{leb}
 use lib.ListN.{length, take, drop, getD, length-append}
 use borrow.Author.Tests.{le-leb}
+use Rattle.codes.specs.declared.Code.{Code}
 use Rattle.cut_lists.specs.All.{All}
 use Rattle.cut_lists.proofs.AllLaws.{all-at}
 use Rattle.lent_bytes.specs.Writing.{accepted, writtenUnless}
@@ -21,12 +22,12 @@ use Rattle.lent_bytes.specs.declared.Writing.the-variants.{Written}
 use Rattle.lent_bytes.proofs.WritingLaws.{unless-accepted, unless-tells}
 use Rattle.computed_tests.proofs.Tests.{and-both}
 use Rattle.entries.specs.Entry.{fileSizeOf, fileSizeAllowed}
-use Rattle.parity.specs.Coefficient.{coefficient}
+use Rattle.parity.specs.Coefficient.{ruleOf}
 use Rattle.parity.specs.Parity.{isFile}
 use Rattle.parity.proofs.Files.{isFile-in, isFile-inside}
 use Rattle.par1.proofs.CheckingLaws.{lone-tells}
 use Rattle.par1_read.specs.Reading.{entriesIn}
-use Rattle.par1_rules.specs.Layout.{version}
+use Rattle.par1_rules.specs.Layout.{versionFor}
 use Rattle.par1_set.specs.Claim.{FileBack}
 use Rattle.par1_set.specs.Files.{File, noFile, fileCount, contentsOf, entryFor, entriesFor, listFor, dataSizeFor}
 use Rattle.par1_set.specs.Volume.{dataFor, volumeFor, VolumeRight}
@@ -45,50 +46,50 @@ use Rattle.amending.proofs.Refusals.{change-passed, change-none, amend-
 
 -- ---- of a true volume
 
-module _ (program v : ℕ) (fs : List File) (p : program < 2 ^ 32) (right : VolumeRight v fs) (c : Change) where
+module _ (code : Code) (program v : ℕ) (fs : List File) (p : program < 2 ^ 32) (right : VolumeRight v fs) (c : Change) where
   abbrev vol : List ℕ
-  vol = volumeFor version coefficient program v fs
+  vol = volumeFor (versionFor code) (ruleOf code) program v fs
 
   abbrev file : File
   file = getD fs (placeOf fs (c .file)) noFile
 
   file-passes : 1 ≤ c .file → c .file ≤ fileCount fs → fileAllowed (c .file) vol ≡ true
   file-passes low high =
-      let is = volume-is program v fs p right in
+      let is = volume-is code program v fs p right in
       ap₂ (λ (n k : ℕ). leb 1 n && isFile k (c .file)) (is .number-is) (is .count-is)
       ∙ simp (le-leb 1 v (right .volume-low), isFile-in (fileCount fs) (c .file) low high)
 
   file-tells : fileAllowed (c .file) vol ≡ true → (1 ≤ c .file) × (c .file ≤ fileCount fs)
   file-tells e =
-      let is = volume-is program v fs p right in
+      let is = volume-is code program v fs p right in
       let both = and-both (leb 1 v) _ (sym (ap₂ (λ (n k : ℕ). leb 1 n && isFile k (c .file)) (is .number-is) (is .count-is)) ∙ e) in
       isFile-inside (fileCount fs) (c .file) (both .1)
 
   module _ (low : 1 ≤ c .file) (high : c .file ≤ fileCount fs) where
     own-entry : entryIn (c .file) (entriesIn vol) ≡ entryFor file
     own-entry =
-        let is = volume-is program v fs p right in
+        let is = volume-is code program v fs p right in
         ap (λ (es : List (List ℕ)). entryIn (c .file) es) (is .entries-are)
         ∙ ap (λ (ss : List ℕ). getD (entriesFor fs) (savedPlace ss (c .file - 1)) []) (statuses-are (is .files-are))
         ∙ entries-at fs (placeOf fs (c .file)) (change-placed c fs low high .within)
 
     own-back : FileBack file
-    own-back = all-at noFile (volume-is program v fs p right .files-are) (placeOf fs (c .file)) (change-placed c fs low high .within)
+    own-back = all-at noFile (volume-is code program v fs p right .files-are) (placeOf fs (c .file)) (change-placed c fs low high .within)
 
     own-size : fileSizeOf (entryFor file) ≡ length (contentsOf fs (c .file))
     own-size = own-back .size-is ∙ ap length (own-contents c fs low high)
 
     module _ (change : ChangeRight (contentsOf fs (c .file)) c) (after : All FileBack (amended c fs)) where
-      length-afresh : length (amendVolume coefficient c (entryAfter c fs) vol) ≡ 96 + length (listFor fs) + dataSizeFor (amended c fs)
+      length-afresh : length (amendVolume ruleOf c (entryAfter c fs) vol) ≡ 96 + length (listFor fs) + dataSizeFor (amended c fs)
       length-afresh =
           let gs : List File = amended c fs in
-          ap length (amend-to v c fs low high change after program p right)
-          ∙ length-bytes after v (dataFor coefficient v gs) program
-          ∙ ap₂ (λ (l d : ℕ). 96 + l + d) (amended-list-length c fs) (length-data coefficient v gs)
+          ap length (amend-to v c fs low high change after code program p right)
+          ∙ length-bytes after v (dataFor (ruleOf code) v gs) code program
+          ∙ ap₂ (λ (l d : ℕ). 96 + l + d) (amended-list-length c fs) (length-data (ruleOf code) v gs)
 
-  amend-passes : AmendRight c fs → changeRefusal coefficient c (entryAfter c fs) vol .number ≡ 0
+  amend-passes : AmendRight c fs → changeRefusal ruleOf c (entryAfter c fs) vol .number ≡ 0
   amend-passes a =
-      let after : All FileBack (amended c fs) = set-back (volume-set (amended-right v c fs right a) coefficient) in
+      let after : All FileBack (amended c fs) = set-back (volume-set (amended-right v c fs right a) (ruleOf code)) in
       let m : List ℕ = contentsOf fs (c .file) in
       let e : List ℕ = entryFor file in
       let d : List ℕ = entryAfter c fs in
@@ -107,16 +108,16 @@ module _ (program v : ℕ) (fs : List File) (p : program < 2 ^ 32) (right : Volu
       let long = length-afresh (a .low) (a .high) (a .change-right) after in
       let grown = amended-size c fs (a .low) (a .high) (a .change-right .kind) in
       ap (λ r. r .number)
-      (change-none coefficient c d vol (file-passes (a .low) (a .high)) (j .lone-is)
+      (change-none ruleOf c d vol (file-passes (a .low) (a .high)) (j .lone-is)
       (ap (λ (e : List ℕ). changeAllowed (c .place) (length (c .old)) (length (c .new)) e d) (own-entry (a .low) (a .high)) ∙ change)
       (record { low = omega arith; high = omega (arith, a .length-right) }))
 
   amend-tells : take (length (c .old)) (drop (c .place) (contentsOf fs (c .file))) ≡ c .old
-      → changeRefusal coefficient c (entryAfter c fs) vol .number ≡ 0 → AmendRight c fs
+      → changeRefusal ruleOf c (entryAfter c fs) vol .number ≡ 0 → AmendRight c fs
   amend-tells old-true z =
       let d : List ℕ = entryAfter c fs in
       let m : List ℕ = contentsOf fs (c .file) in
-      let t = change-passed coefficient c d vol z in
+      let t = change-passed ruleOf c d vol z in
       let in-range = file-tells (t .file-right) in
       let low = in-range .0 in
       let high = in-range .1 in
@@ -140,59 +141,59 @@ module _ (program v : ℕ) (fs : List File) (p : program < 2 ^ 32) (right : Volu
 
 -- ---- the call
 
-module _ (program v : ℕ) (fs : List File) (c : Change) (n : ℕ) (out : List ℕ) (p : program < 2 ^ 32) (right : VolumeRight v fs)
-    (holds : Holds program v fs n out) where
+module _ (code : Code) (program v : ℕ) (fs : List File) (c : Change) (n : ℕ) (out : List ℕ) (p : program < 2 ^ 32) (right : VolumeRight v fs)
+    (holds : Holds code program v fs n out) where
   -- what it gives, where the room holds the volume
-  amend-holds : (d : List ℕ) → let s : List ℕ = volumeFor version coefficient program v fs in
-      amendOf coefficient n c d out ≡ writtenUnless (changeRefusal coefficient c d s) (amendVolume coefficient c d s) out
-  amend-holds d = amend-read coefficient n c d out (holds .0) (holds .1) (volume-is program v fs p right .read-is .1)
+  amend-holds : (d : List ℕ) → let s : List ℕ = volumeFor (versionFor code) (ruleOf code) program v fs in
+      amendOf ruleOf n c d out ≡ writtenUnless (changeRefusal ruleOf c d s) (amendVolume ruleOf c d s) out
+  amend-holds d = amend-read ruleOf n c d out (holds .0) (holds .1) (volume-is code program v fs p right .read-is .1)
 
-  make : AmendRight c fs → length (volumeFor version coefficient program v (amended c fs)) ≤ length out
-      → amendOf coefficient n c (entryAfter c fs) out ≡ accepted (volumeFor version coefficient program v (amended c fs)) out
+  make : AmendRight c fs → length (volumeFor (versionFor code) (ruleOf code) program v (amended c fs)) ≤ length out
+      → amendOf ruleOf n c (entryAfter c fs) out ≡ accepted (volumeFor (versionFor code) (ruleOf code) program v (amended c fs)) out
   make a fits =
       let d : List ℕ = entryAfter c fs in
-      let s : List ℕ = volumeFor version coefficient program v fs in
+      let s : List ℕ = volumeFor (versionFor code) (ruleOf code) program v fs in
       amend-holds d
-      ∙ ap (λ (t : List ℕ). writtenUnless (changeRefusal coefficient c d s) t out) (amend-volume program v c fs p right a)
-      ∙ unless-accepted (changeRefusal coefficient c d s) (volumeFor version coefficient program v (amended c fs)) out
-      (amend-passes program v fs p right c a) fits
+      ∙ ap (λ (t : List ℕ). writtenUnless (changeRefusal ruleOf c d s) t out) (amend-volume code program v c fs p right a)
+      ∙ unless-accepted (changeRefusal ruleOf c d s) (volumeFor (versionFor code) (ruleOf code) program v (amended c fs)) out
+      (amend-passes code program v fs p right c a) fits
 
   -- an accepted call
   record Amended (k : ℕ) (room : List ℕ) : Type 0 where
     may : AmendRight c fs
-    held : Holds program v (amended c fs) k room
+    held : Holds code program v (amended c fs) k room
 
   amend-written : {k : ℕ} {room : List ℕ} → take (length (c .old)) (drop (c .place) (contentsOf fs (c .file))) ≡ c .old
-      → amendOf coefficient n c (entryAfter c fs) out ≡ (Written k, room) → Amended k room
+      → amendOf ruleOf n c (entryAfter c fs) out ≡ (Written k, room) → Amended k room
   amend-written {k} {room} old-true e =
       let d : List ℕ = entryAfter c fs in
-      let vol : List ℕ = volumeFor version coefficient program v fs in
-      let s : List ℕ = amendVolume coefficient c d vol in
-      let m = changeRefusal coefficient c d vol in
+      let vol : List ℕ = volumeFor (versionFor code) (ruleOf code) program v fs in
+      let s : List ℕ = amendVolume ruleOf c d vol in
+      let m = changeRefusal ruleOf c d vol in
       let call = sym (amend-holds d) ∙ e in
       let told = unless-tells m s out call in
-      let a : AmendRight c fs = amend-tells program v fs p right c old-true (told .none) in
+      let a : AmendRight c fs = amend-tells code program v fs p right c old-true (told .none) in
       let both : accepted s out ≡ (Written k, room) = sym (unless-accepted m s out (told .none) (told .fits)) ∙ call in
       let answer : Written (length s) ≡ Written k = ap (λ (p : Writing × List ℕ). p .0) both in
       let size : length s ≡ k = cc in
       let held : s ++ drop (length s) out ≡ room = ap (λ (p : Writing × List ℕ). p .1) both in
       let inside : k ≤ length room = omega (arith, length-append s (drop (length s) out), ap length held) in
-      record { may = a; held = (inside, told .written-is ∙ amend-volume program v c fs p right a) }
+      record { may = a; held = (inside, told .written-is ∙ amend-volume code program v c fs p right a) }
 
 pub amend-accepted : AmendAccepted
-amend-accepted program v fs c n out p right holds a fits = make program v fs c n out p right holds a fits
+amend-accepted code program v fs c n out p right holds a fits = make code program v fs c n out p right holds a fits
 
 -- ---- a run of calls
 
-run-calls : (program v : ℕ) {fs gs : List File} {n m : ℕ} {out w : List ℕ} → program < 2 ^ 32 → VolumeRight v fs → Holds program v fs n out
-    → Calls fs n out gs m w → VolumeRight v gs × Holds program v gs m w
-run-calls program v p right holds calls-none = (right, holds)
-run-calls program v p right holds (calls-written {fs} {n = n} {out = out} c old-true e r) =
-    let done = amend-written program v fs c n out p right holds old-true e in
-    run-calls program v p (amended-right v c fs right (done .may)) (done .held) r
-run-calls program v p right holds (calls-refused {fs} {n = n} {out = out} c d e r) =
-    let same = refused-same coefficient n c d out e in
-    run-calls program v p right (subst (λ (t : List ℕ). Holds program v fs n t) (sym same) holds) r
+run-calls : (code : Code) (program v : ℕ) {fs gs : List File} {n m : ℕ} {out w : List ℕ} → program < 2 ^ 32 → VolumeRight v fs → Holds code program v fs n out
+    → Calls fs n out gs m w → VolumeRight v gs × Holds code program v gs m w
+run-calls code program v p right holds calls-none = (right, holds)
+run-calls code program v p right holds (calls-written {fs} {n = n} {out = out} c old-true e r) =
+    let done = amend-written code program v fs c n out p right holds old-true e in
+    run-calls code program v p (amended-right v c fs right (done .may)) (done .held) r
+run-calls code program v p right holds (calls-refused {fs} {n = n} {out = out} c d e r) =
+    let same = refused-same ruleOf n c d out e in
+    run-calls code program v p right (subst (λ (t : List ℕ). Holds code program v fs n t) (sym same) holds) r
 
 pub calls-afresh : CallsAfresh
-calls-afresh program v fs gs n m out w p right holds r = run-calls program v p right holds r
+calls-afresh code program v fs gs n m out w p right holds r = run-calls code program v p right holds r

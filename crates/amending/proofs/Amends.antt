@@ -14,6 +14,7 @@ use Prim.Native.Nat.{ℕ, _+_, _^_, _≤_, _<_, max}
 use native.Mathlib.Omega.{arith}
 use lib.ListN.{length, getD, take, drop, length-set, length-map}
 use lib.Seq.{getD-set-same}
+use Rattle.codes.specs.declared.Code.{Code}
 use Rattle.cut_lists.specs.All.{All}
 use Rattle.cut_lists.proofs.AllLaws.{all-at, all-set}
 use Rattle.entries.specs.Entry.{isSaved, fileSizeAllowed, fileSizeOf}
@@ -21,15 +22,16 @@ use Rattle.entries.specs.Numbering.{savedOf}
 use Rattle.entries.specs.Walk.{entriesOf}
 use Rattle.little_endian.specs.Bytes.{toLe}
 use Rattle.md5.specs.Digest.{md5}
-use Rattle.parity.specs.Coefficient.{coefficient}
+use Rattle.parity.specs.Coefficient.{ruleOf}
 use Rattle.parity.specs.Parity.{parity}
 use Rattle.parity.proofs.Changes.{stretched, parity-longer, parity-stretched}
 use Rattle.par1_read.specs.Reading.{entriesIn, readOf}
 use Rattle.par1_read.specs.declared.reading.Parts.{Parts}
 use Rattle.par1_read.specs.declared.reading.Reading.the-variants.{Accepted}
 use Rattle.par1_read.proofs.ReadingLaws.{read-tells}
-use Rattle.par1_rules.specs.Layout.{version, volumeNumberOf, dataSizeOf, listOf, dataOf}
+use Rattle.par1_rules.specs.Layout.{versionFor, versionOf, volumeNumberOf, dataSizeOf, listOf, dataOf}
 use Rattle.par1_rules.specs.Hashes.{setHash}
+use Rattle.par1_rules.specs.Rules.{codeIn}
 use Rattle.par1_set.specs.Claim.{FileBack}
 use Rattle.par1_set.specs.Files.{File, noFile, savedFiles, fileCount, contentsOf, entryFor, entriesFor, listFor, dataSizeFor, FileRight}
 use Rattle.par1_set.specs.Volume.{setHashFor, hashedFor, dataFor, volumeFor, VolumeRight}
@@ -38,7 +40,7 @@ use Rattle.par1_set.proofs.Layouts.{fixedNumbers, set-hash-is, hashed-parts, by
 use Rattle.par1_set.proofs.SetLaws.{set-back, set-read-back}
 use Rattle.par1_set.proofs.Sets.{length-data, volume-set}
 use Rattle.amending.specs.Amending.{Change, ChangeRight, spliced, changed, placeOf, amended, amendedList, amendedData}
-use Rattle.amending.specs.Amending.{amendedBody, amendVolume}
+use Rattle.amending.specs.Amending.{weightIn, amendedBody, amendVolume}
 use Rattle.amending.specs.Claim.{AmendRight, entryAfter, Run, run-none, run-more, AmendedRight, AmendedAfresh}
 use Rattle.amending.proofs.AmendedFiles.{change-placed, own-contents, amended-count, amended-new, amended-other}
 use Rattle.amending.proofs.AmendedFiles.{file-fits, amended-size, amended-list, amended-list-length}
@@ -73,30 +75,32 @@ amended-right v c fs right a =
 
 -- ---- a volume
 
-pub record VolumeIs (vol : List ℕ) (program v : ℕ) (fs : List File) : Type 0 where
+pub record VolumeIs (vol : List ℕ) (code : Code) (program v : ℕ) (fs : List File) : Type 0 where
   pub files-are : All FileBack fs
   pub read-is : (p : Parts) × (readOf vol ≡ Accepted p)
+  pub code-is : codeIn (versionOf vol) ≡ code
   pub number-is : volumeNumberOf vol ≡ v
   pub size-is : dataSizeOf vol ≡ dataSizeFor fs
   pub list-is : listOf vol ≡ listFor fs
-  pub data-is : dataOf vol ≡ dataFor coefficient v fs
+  pub data-is : dataOf vol ≡ dataFor (ruleOf code) v fs
   pub entries-are : entriesIn vol ≡ entriesFor fs
   pub count-is : length (savedOf (entriesIn vol)) ≡ fileCount fs
 
-pub volume-is : (program v : ℕ) (fs : List File) → program < 2 ^ 32 → VolumeRight v fs
-    → VolumeIs (volumeFor version coefficient program v fs) program v fs
-volume-is program v fs p right =
-    let vol : List ℕ = volumeFor version coefficient program v fs in
-    let s = volume-set right coefficient in
+pub volume-is : (code : Code) (program v : ℕ) (fs : List File) → program < 2 ^ 32 → VolumeRight v fs
+    → VolumeIs (volumeFor (versionFor code) (ruleOf code) program v fs) code program v fs
+volume-is code program v fs p right =
+    let vol : List ℕ = volumeFor (versionFor code) (ruleOf code) program v fs in
+    let s = volume-set right (ruleOf code) in
     let bs : All FileBack fs = set-back s in
-    let back = set-read-back s program p (omega (arith, right .volume-high)) in
+    let back = set-read-back s code program p (omega (arith, right .volume-high)) in
     let parts = read-tells vol _ (back .read-is) .parts-are in
     let entries : entriesIn vol ≡ entriesFor fs = ap (λ (l : List ℕ). entriesOf l .pieces) (back .list-is) ∙ ap (λ k. k .pieces) (entries-of bs) in
     record {
       files-are = bs;
       read-is = (_, back .read-is);
+      code-is = sym (ap (λ (q : Parts). q .code) parts);
       number-is = sym (ap (λ (q : Parts). q .number) parts);
-      size-is = sym (ap (λ (q : Parts). q .«data_size») parts) ∙ length-data coefficient v fs;
+      size-is = sym (ap (λ (q : Parts). q .«data_size») parts) ∙ length-data (ruleOf code) v fs;
       list-is = back .list-is;
       data-is = back .data-is;
       entries-are = entries;
@@ -142,52 +146,52 @@ module _ (v : ℕ) (c : Change) (fs : List File) (low : 1 ≤ c .file) (high : c
     pub size-after : fileSizeOf (entryAfter c fs) ≡ length (spliced c (contentsOf fs (c .file)))
     size-after = back-after .size-is ∙ ap (λ (m : List ℕ). length (spliced c m)) (own-contents c fs low high)
 
-    module _ (program : ℕ) (p : program < 2 ^ 32) (right : VolumeRight v fs) where
-      body-to : amendedBody coefficient c (entryAfter c fs) (volumeFor version coefficient program v fs)
-          ≡ hashedFor v (amended c fs) (dataFor coefficient v (amended c fs))
+    module _ (code : Code) (program : ℕ) (p : program < 2 ^ 32) (right : VolumeRight v fs) where
+      body-to : amendedBody ruleOf c (entryAfter c fs) (volumeFor (versionFor code) (ruleOf code) program v fs)
+          ≡ hashedFor v (amended c fs) (dataFor (ruleOf code) v (amended c fs))
       unfolding amendedBody
       body-to =
-          let vol : List ℕ = volumeFor version coefficient program v fs in
+          let vol : List ℕ = volumeFor (versionFor code) (ruleOf code) program v fs in
           let gs : List File = amended c fs in
           let e : List ℕ = entryAfter c fs in
-          let is = volume-is program v fs p right in
+          let is = volume-is code program v fs p right in
           let list-is : amendedList (c .file) e (listOf vol) ≡ listFor gs =
           ap (amendedList (c .file) e) (is .list-is) ∙ amended-list c (is .files-are) in
           let size-is : max (dataSizeOf vol) (fileSizeOf e) ≡ dataSizeFor gs =
           ap₂ max (is .size-is) size-after ∙ sym (amended-size c fs low high (change .kind)) in
           let numbers-are : take 40 (drop 48 vol) ≡ fixedNumbers v (length gs) (length (listFor gs)) =
-          bytes-numbers v fs (dataFor coefficient v fs) version program
+          bytes-numbers v fs (dataFor (ruleOf code) v fs) (versionFor code) program
           ∙ sym (ap₂ (λ (n l : ℕ). fixedNumbers v n l) (length-set fs (placeOf fs (c .file)) _) (amended-list-length c fs)) in
-          let w : ℕ = coefficient (c .file) (volumeNumberOf vol) in
-          let area-is : amendedData w c (max (dataSizeOf vol) (fileSizeOf e)) (dataOf vol) ≡ dataFor coefficient v gs =
-          ap₂ (λ (w m : ℕ). amendedData w c m (dataOf vol)) (ap (coefficient (c .file)) (is .number-is)) size-is
-          ∙ ap (amendedData (coefficient (c .file) v) c (dataSizeFor gs)) (is .data-is) ∙ amended-data coefficient in
+          let w : ℕ = weightIn ruleOf (c .file) vol in
+          let area-is : amendedData w c (max (dataSizeOf vol) (fileSizeOf e)) (dataOf vol) ≡ dataFor (ruleOf code) v gs =
+          ap₂ (λ (w m : ℕ). amendedData w c m (dataOf vol)) (ap₂ (λ (k : Code) (n : ℕ). ruleOf k (c .file) n) (is .code-is) (is .number-is)) size-is
+          ∙ ap (amendedData (ruleOf code (c .file) v) c (dataSizeFor gs)) (is .data-is) ∙ amended-data (ruleOf code) in
           let hash-is : setHash (entriesOf (amendedList (c .file) e (listOf vol)) .pieces) ≡ setHashFor gs =
           ap (λ (l : List ℕ). setHash (entriesOf l .pieces)) list-is ∙ ap (λ k. setHash (k .pieces)) (entries-of after) ∙ set-hash-is after in
-          five-parts hash-is numbers-are (ap (toLe 8) (size-is ∙ sym (length-data coefficient v gs))) list-is area-is
-          ∙ sym (hashed-parts v gs (dataFor coefficient v gs))
+          five-parts hash-is numbers-are (ap (toLe 8) (size-is ∙ sym (length-data (ruleOf code) v gs))) list-is area-is
+          ∙ sym (hashed-parts v gs (dataFor (ruleOf code) v gs))
 
-      pub amend-to : amendVolume coefficient c (entryAfter c fs) (volumeFor version coefficient program v fs)
-          ≡ volumeFor version coefficient program v (amended c fs)
+      pub amend-to : amendVolume ruleOf c (entryAfter c fs) (volumeFor (versionFor code) (ruleOf code) program v fs)
+          ≡ volumeFor (versionFor code) (ruleOf code) program v (amended c fs)
       unfolding amendVolume
       amend-to =
-          ap₂ (λ (first body : List ℕ). flatten (first ∷ md5 body ∷ body ∷ [])) (bytes-first v fs (dataFor coefficient v fs) version program) body-to
-          ∙ sym (bytes-parts v (amended c fs) (dataFor coefficient v (amended c fs)) version program)
+          ap₂ (λ (first body : List ℕ). flatten (first ∷ md5 body ∷ body ∷ [])) (bytes-first v fs (dataFor (ruleOf code) v fs) (versionFor code) program) body-to
+          ∙ sym (bytes-parts v (amended c fs) (dataFor (ruleOf code) v (amended c fs)) (versionFor code) program)
 
-pub amend-volume : (program v : ℕ) (c : Change) (fs : List File) → program < 2 ^ 32 → VolumeRight v fs → AmendRight c fs
-    → amendVolume coefficient c (entryAfter c fs) (volumeFor version coefficient program v fs)
-    ≡ volumeFor version coefficient program v (amended c fs)
-amend-volume program v c fs p right a =
-    amend-to v c fs (a .low) (a .high) (a .change-right) (set-back (volume-set (amended-right v c fs right a) coefficient)) program p right
+pub amend-volume : (code : Code) (program v : ℕ) (c : Change) (fs : List File) → program < 2 ^ 32 → VolumeRight v fs → AmendRight c fs
+    → amendVolume ruleOf c (entryAfter c fs) (volumeFor (versionFor code) (ruleOf code) program v fs)
+    ≡ volumeFor (versionFor code) (ruleOf code) program v (amended c fs)
+amend-volume code program v c fs p right a =
+    amend-to v c fs (a .low) (a .high) (a .change-right) (set-back (volume-set (amended-right v c fs right a) (ruleOf code))) code program p right
 
 -- ---- a run
 
-run-afresh : (program v : ℕ) {fs gs : List File} {vol w : List ℕ} → program < 2 ^ 32 → VolumeRight v fs
-    → vol ≡ volumeFor version coefficient program v fs → Run fs vol gs w → w ≡ volumeFor version coefficient program v gs
-run-afresh program v p right e run-none = e
-run-afresh program v p right e (run-more {fs} c a r) =
-    run-afresh program v p (amended-right v c fs right a)
-    (ap (amendVolume coefficient c (entryAfter c fs)) e ∙ amend-volume program v c fs p right a) r
+run-afresh : (code : Code) (program v : ℕ) {fs gs : List File} {vol w : List ℕ} → program < 2 ^ 32 → VolumeRight v fs
+    → vol ≡ volumeFor (versionFor code) (ruleOf code) program v fs → Run fs vol gs w → w ≡ volumeFor (versionFor code) (ruleOf code) program v gs
+run-afresh code program v p right e run-none = e
+run-afresh code program v p right e (run-more {fs} c a r) =
+    run-afresh code program v p (amended-right v c fs right a)
+    (ap (amendVolume ruleOf c (entryAfter c fs)) e ∙ amend-volume code program v c fs p right a) r
 
 pub amended-afresh : AmendedAfresh
-amended-afresh program v fs gs w p right r = run-afresh program v p right refl r
+amended-afresh code program v fs gs w p right r = run-afresh code program v p right refl r

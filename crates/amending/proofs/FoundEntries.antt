@@ -13,6 +13,7 @@ use lib.Dec.{leb}
 use lib.ListN.{length, take, drop, getD, replicate, length-append, length-drop, length-replicate}
 use lib.Seq.{length-take-le}
 use borrow.Author.Tests.{leb-true}
+use Rattle.codes.specs.declared.Code.{Code}
 use Rattle.computed_tests.proofs.Tests.{and-both}
 use Rattle.cut_lists.proofs.AllLaws.{all-at}
 use Rattle.refusals.specs.Limits.{maxVolumeLength}
@@ -36,7 +37,7 @@ use Rattle.par1_rules.specs.Layout.{volumeNumberOf, listSizeOf, dataSizeOf, lis
 use Rattle.par1_rules.specs.Rules.{numberAllowed}
 use Rattle.par1_set.proofs.Ranges.{number-range}
 use Rattle.par1_rules.proofs.HashLaws.{length-md5, length-set-hash}
-use Rattle.amending.specs.Amending.{Change, placeIn, amendedList, amendedData, amendedSize, amendedBody, amendVolume}
+use Rattle.amending.specs.Amending.{Change, placeIn, amendedList, amendedData, amendedSize, weightIn, amendedBody, amendVolume}
 use Rattle.amending.specs.Call.{changeAllowed, entryIn, fileAllowed}
 use Rattle.amending.proofs.ChangeTests.{change-told, change-length, stretch-place}
 use Rattle.amending.proofs.EntryPlaces.{place-within, walk-joined, entries-low, split-entries, set-joined}
@@ -131,13 +132,13 @@ module _ (vol : List ℕ) (is : Read vol) (c : Change) (d : List ℕ) (at : Foun
       omega (arith, length-append (dataOf vol) zeros, length-replicate {A = ℕ} (m - length (dataOf vol)) 0, is .data-length) in
       length-stretched w (c .place) (c .old) (c .new) (dataOf vol ++ zeros) (omega (arith, at .place-in)) ∙ size
 
-  pub length-amended : (rule : ℕ → ℕ → ℕ) → length (amendVolume rule c d vol) ≡ 96 + listSizeOf vol + amendedSize d vol
+  pub length-amended : (rules : Code → ℕ → ℕ → ℕ) → length (amendVolume rules c d vol) ≡ 96 + listSizeOf vol + amendedSize d vol
   unfolding amendVolume amendedBody
-  length-amended rule =
+  length-amended rules =
       let list : List ℕ = amendedList (c .file) d (listOf vol) in
       let hash : List ℕ = setHash (entriesOf list .pieces) in
       let m : ℕ = amendedSize d vol in
-      let area : List ℕ = amendedData (rule (c .file) (volumeNumberOf vol)) c m (dataOf vol) in
+      let area : List ℕ = amendedData (weightIn rules (c .file) vol) c m (dataOf vol) in
       let numbers : List ℕ = take 40 (drop 48 vol) in
       let forty : length numbers ≡ 40 = length-take-le 40 (drop 48 vol) (omega (arith, length-drop 48 vol, is .low)) in
       let sixteen : length (take 16 vol) ≡ 16 = length-take-le 16 vol (omega (arith, is .low)) in
@@ -147,5 +148,5 @@ module _ (vol : List ℕ) (is : Read vol) (c : Change) (d : List ℕ) (at : Foun
       let h = length-set-hash (entriesOf list .pieces) in
       let eight = length-toLe 8 m in
       let lengths = length-list in
-      let areas = length-data (rule (c .file) (volumeNumberOf vol)) in
+      let areas = length-data (weightIn rules (c .file) vol) in
       length-three (take 16 vol) (md5 body) body ∙ omega (arith, length-md5 body)

@@ -12,15 +12,16 @@ use native.Mathlib.Omega.{arith}
 use lib.Bits.{bitXor, xor-zero-r}
 use lib.ListN.{length, take, drop, getD, replicate, length-append, length-set, List·getD-append, List·getD-eq-default}
 use lib.Seq.{take-at, getD-set-same, getD-set-other}
+use Rattle.codes.specs.declared.Code.{Code}
 use Rattle.cut_lists.proofs.AllLaws.{all-at}
 use Rattle.gf256.specs.Field.{product}
 use Rattle.gf256.proofs.Products.{product-zero-r}
 use Rattle.little_endian.specs.Bytes.{toLe}
 use Rattle.little_endian.proofs.Numbers.{length-toLe}
-use Rattle.parity.specs.Coefficient.{coefficient}
+use Rattle.parity.specs.Coefficient.{ruleOf}
 use Rattle.parity.proofs.Changes.{stretched-before, stretched-from}
 use Rattle.par1_read.specs.Reading.{entriesIn}
-use Rattle.par1_rules.specs.Layout.{version}
+use Rattle.par1_rules.specs.Layout.{versionFor}
 use Rattle.par1_write.specs.EntryWriting.{entryBytes}
 use Rattle.par1_set.specs.Files.{File, noFile, contentsOf, entryFor, entriesFor, listFor, dataSizeFor}
 use Rattle.par1_set.specs.Volume.{dataFor, volumeFor, VolumeRight}
@@ -73,34 +74,34 @@ data-stays w k c m area right fits p h outside = by (decLt p (c .place))
 
 -- ---- all of it
 
-module _ (program v : ℕ) (c : Change) (fs : List File) (p : program < 2 ^ 32) (right : VolumeRight v fs) (a : AmendRight c fs) where
-  kept-afresh : Kept c (placeOf fs (c .file)) (length (spliced c (contentsOf fs (c .file)))) (volumeFor version coefficient program v fs)
-      (volumeFor version coefficient program v (amended c fs))
+module _ (code : Code) (program v : ℕ) (c : Change) (fs : List File) (p : program < 2 ^ 32) (right : VolumeRight v fs) (a : AmendRight c fs) where
+  kept-afresh : Kept c (placeOf fs (c .file)) (length (spliced c (contentsOf fs (c .file)))) (volumeFor (versionFor code) (ruleOf code) program v fs)
+      (volumeFor (versionFor code) (ruleOf code) program v (amended c fs))
   kept-afresh =
       let gs : List File = amended c fs in
       let k : ℕ = placeOf fs (c .file) in
       let placed = change-placed c fs (a .low) (a .high) in
       let x : File = getD fs k noFile in
       let y : File = changed c x in
-      let was = volume-is program v fs p right in
-      let is = volume-is program v gs p (amended-right v c fs right a) in
-      let d : List ℕ = dataFor coefficient v fs in
-      let e : List ℕ = dataFor coefficient v gs in
+      let was = volume-is code program v fs p right in
+      let is = volume-is code program v gs p (amended-right v c fs right a) in
+      let d : List ℕ = dataFor (ruleOf code) v fs in
+      let e : List ℕ = dataFor (ruleOf code) v gs in
       let count : length gs ≡ length fs = length-set fs k y in
       let list : length (listFor gs) ≡ length (listFor fs) = amended-list-length c fs in
       let few : k < length gs = omega (arith, placed .within) in
       let same : getD gs k noFile ≡ y = getD-set-same fs k y noFile (placed .within) in
-      let old-entry : getD (entriesIn (volumeFor version coefficient program v fs)) k [] ≡ entryFor x =
+      let old-entry : getD (entriesIn (volumeFor (versionFor code) (ruleOf code) program v fs)) k [] ≡ entryFor x =
       ap (λ (es : List (List ℕ)). getD es k []) (was .entries-are) ∙ entries-at fs k (placed .within) in
-      let new-entry : getD (entriesIn (volumeFor version coefficient program v gs)) k [] ≡ entryFor y =
+      let new-entry : getD (entriesIn (volumeFor (versionFor code) (ruleOf code) program v gs)) k [] ≡ entryFor y =
       ap (λ (es : List (List ℕ)). getD es k []) (is .entries-are) ∙ entries-at gs k few ∙ ap (λ (x : File). entryFor x) same in
       let old-back = all-at noFile (was .files-are) k (placed .within) in
       let new-name : drop 56 (entryFor y) ≡ y .name =
       ap (λ (x : File). drop 56 (entryFor x)) (sym same) ∙ all-at noFile (is .files-are) k few .name-is ∙ ap (λ (x : File). x .name) same in
       record {
-        head-kept = bytes-first v gs e version program ∙ sym (bytes-first v fs d version program);
-        numbers-kept = bytes-numbers v gs e version program ∙ ap₂ (λ (n l : ℕ). fixedNumbers v n l) count list
-            ∙ sym (bytes-numbers v fs d version program);
+        head-kept = bytes-first v gs e (versionFor code) program ∙ sym (bytes-first v fs d (versionFor code) program);
+        numbers-kept = bytes-numbers v gs e (versionFor code) program ∙ ap₂ (λ (n l : ℕ). fixedNumbers v n l) count list
+            ∙ sym (bytes-numbers v fs d (versionFor code) program);
         list-kept = ap length (is .list-is) ∙ list ∙ sym (ap length (was .list-is));
         entries-kept =
             λ i q. ap (λ (es : List (List ℕ)). getD es i []) (is .entries-are ∙ entries-set fs k y)
@@ -111,19 +112,19 @@ module _ (program v : ℕ) (c : Change) (fs : List File) (p : program < 2 ^ 32) 
             is .size-is ∙ amended-size c fs (a .low) (a .high) (a .change-right .kind)
             ∙ sym (ap (λ (n : ℕ). max n (length (spliced c (contentsOf fs (c .file))))) (was .size-is));
         data-size =
-            ap length (is .data-is) ∙ length-data coefficient v gs ∙ amended-size c fs (a .low) (a .high) (a .change-right .kind)
-            ∙ sym (ap (λ (n : ℕ). max n (length (spliced c (contentsOf fs (c .file))))) (ap length (was .data-is) ∙ length-data coefficient v fs));
+            ap length (is .data-is) ∙ length-data (ruleOf code) v gs ∙ amended-size c fs (a .low) (a .high) (a .change-right .kind)
+            ∙ sym (ap (λ (n : ℕ). max n (length (spliced c (contentsOf fs (c .file))))) (ap length (was .data-is) ∙ length-data (ruleOf code) v fs));
         data-kept =
             λ q l outside.
             let inside : q < length d = subst (λ (d : List ℕ). q < length d) (was .data-is) l in
             let fits : length (contentsOf fs (c .file)) ≤ length d =
-            omega (arith, length-data coefficient v fs, file-fits fs (c .file) (a .low) (a .high)) in
-            ap (λ (d : List ℕ). getD d q 0) (is .data-is ∙ sym (amended-data v c fs (a .low) (a .high) (a .change-right) coefficient))
-            ∙ data-stays (coefficient (c .file) v) (dataSizeFor gs) c (contentsOf fs (c .file)) d (a .change-right) fits q inside outside
+            omega (arith, length-data (ruleOf code) v fs, file-fits fs (c .file) (a .low) (a .high)) in
+            ap (λ (d : List ℕ). getD d q 0) (is .data-is ∙ sym (amended-data v c fs (a .low) (a .high) (a .change-right) (ruleOf code)))
+            ∙ data-stays (ruleOf code (c .file) v) (dataSizeFor gs) c (contentsOf fs (c .file)) d (a .change-right) fits q inside outside
             ∙ sym (ap (λ (d : List ℕ). getD d q 0) (was .data-is));
       }
 
 pub amended-kept : AmendedKept
-amended-kept program v c fs p right a =
-    subst (Kept c (placeOf fs (c .file)) (length (spliced c (contentsOf fs (c .file)))) (volumeFor version coefficient program v fs))
-    (sym (amend-volume program v c fs p right a)) (kept-afresh program v c fs p right a)
+amended-kept code program v c fs p right a =
+    subst (Kept c (placeOf fs (c .file)) (length (spliced c (contentsOf fs (c .file)))) (volumeFor (versionFor code) (ruleOf code) program v fs))
+    (sym (amend-volume code program v c fs p right a)) (kept-afresh code program v c fs p right a)

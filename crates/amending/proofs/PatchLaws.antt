@@ -10,6 +10,7 @@ use Prim.Native.Nat.{ℕ, suc, _+_, _-_, _≤_, _<_}
 use native.Mathlib.Omega.{arith}
 use lib.ListN.{length, take, drop, getD, replicate, length-drop, take-append-drop}
 use lib.Seq.{length-take-le}
+use Rattle.codes.specs.declared.Code.{Code}
 use Rattle.refusals.specs.Tests.{bare}
 use Rattle.refusals.specs.declared.Refusal.{Refusal}
 use Rattle.little_endian.specs.Bytes.{toLe}
@@ -23,7 +24,7 @@ use Rattle.parity.proofs.Changes.{stretched}
 use Rattle.par1_read.specs.Reading.{entriesIn}
 use Rattle.par1_rules.specs.Hashes.{setHash}
 use Rattle.par1_rules.specs.Layout.{volumeNumberOf, listSizeOf, dataSizeOf, listOf, dataOf}
-use Rattle.amending.specs.Amending.{Change, placeIn, amendedList, amendedData, amendedSize, amendedBody, amendVolume}
+use Rattle.amending.specs.Amending.{Change, placeIn, amendedList, amendedData, amendedSize, weightIn, amendedBody, amendVolume}
 use Rattle.amending.specs.Call.{amendOf}
 use Rattle.amending.specs.Plan.{planFor, planOf, patched}
 use Rattle.amending.specs.declared.planning.Plan.{Plan}
@@ -48,7 +49,7 @@ opened : (h m s l d r y : List ℕ) → flatten (h ∷ m ∷ s ∷ flatten (l �
 unfolding flatten
 opened h m s l d r y = simp (append-assoc, append-nil)
 
-module _ (rule : ℕ → ℕ → ℕ) (c : Change) (d vol out : List ℕ) (n : ℕ) (is : Read vol) (at : Found vol (c .file) (c .place) d) (h : n ≤ length out)
+module _ (rules : Code → ℕ → ℕ → ℕ) (c : Change) (d vol out : List ℕ) (n : ℕ) (is : Read vol) (at : Found vol (c .file) (c .place) d) (h : n ≤ length out)
     (held : take n out ≡ vol) where
   abbrev es : List (List ℕ)
   es = entriesIn vol
@@ -90,7 +91,7 @@ module _ (rule : ℕ → ℕ → ℕ) (c : Change) (d vol out : List ℕ) (n : �
       ∙ nested _ _ _ _ _ _ _ _ _ _ _
 
   patched-is : total ≤ length out
-      → patched (planFor rule c d vol) n (c .old) (c .new) d out ≡ amendVolume rule c d vol ++ drop total out
+      → patched (planFor rules c d vol) n (c .old) (c .new) d out ≡ amendVolume rules c d vol ++ drop total out
   unfolding amendVolume amendedBody
   patched-is fits =
       let l : List ℕ = flatten (take k es) in
@@ -98,7 +99,7 @@ module _ (rule : ℕ → ℕ → ℕ) (c : Change) (d vol out : List ℕ) (n : �
       let r : List ℕ = flatten (drop (suc k) es) in
       let list : List ℕ = flatten (l ∷ d ∷ r ∷ []) in
       let area : List ℕ = dataOf vol in
-      let w : ℕ = rule (c .file) (volumeNumberOf vol) in
+      let w : ℕ = weightIn rules (c .file) vol in
       let low = is .low in
       let numbers : List ℕ = take 40 (drop 48 vol) in
       let a-length : length (take 16 vol) ≡ 16 = length-take-le 16 vol (omega arith) in
@@ -120,7 +121,7 @@ module _ (rule : ℕ → ℕ → ℕ) (c : Change) (d vol out : List ℕ) (n : �
       let hash : List ℕ = setHash (entriesOf list .pieces) in
       let size : List ℕ = toLe 8 (length area + length tail) in
       let y : List ℕ = stretched w (c .place) (c .old) (c .new) (area ++ replicate (length tail) 0) in
-      let body-is : flatten (hash ∷ numbers ∷ size ∷ l ∷ d ∷ r ∷ y ∷ []) ≡ amendedBody rule c d vol =
+      let body-is : flatten (hash ∷ numbers ∷ size ∷ l ∷ d ∷ r ∷ y ∷ []) ≡ amendedBody rules c d vol =
       sym (opened hash numbers size l d r y) ∙ five-parts hash-is refl (ap (toLe 8) (sym data-size)) list-is y-is in
       ap₂ (λ (i j : ℕ). patched (planWith (length l) (c .place) w i j) n (c .old) (c .new) d out) list-size data-size
       ∙ ap₂ (λ (j : ℕ) (t : List ℕ). patched (planWith (length l) (c .place) w (length list) (length area + length tail)) j (c .old) (c .new) d t)
@@ -131,41 +132,41 @@ module _ (rule : ℕ → ℕ → ℕ) (c : Change) (d vol out : List ℕ) (n : �
 
 -- ---- the call
 
-module _ (rule : ℕ → ℕ → ℕ) (n : ℕ) (c : Change) (d out : List ℕ) (h : n ≤ length out) where
-  pub amend-refuses : {r : Refusal} → planOf rule c d (take n out) ≡ planned.Refused r → refused r out ≡ amendOf rule n c d out
+module _ (rules : Code → ℕ → ℕ → ℕ) (n : ℕ) (c : Change) (d out : List ℕ) (h : n ≤ length out) where
+  pub amend-refuses : {r : Refusal} → planOf rules c d (take n out) ≡ planned.Refused r → refused r out ≡ amendOf rules n c d out
   amend-refuses e =
-      let told = refusal-tells rule c d (take n out) e in
-      unless-refused (amendVolume rule c d (take n out)) out (sym (told .0)) (told .1) refl ∙ sym (amend-is rule n c d out h refl)
+      let told = refusal-tells rules c d (take n out) e in
+      unless-refused (amendVolume rules c d (take n out)) out (sym (told .0)) (told .1) refl ∙ sym (amend-is rules n c d out h refl)
 
-  module _ {plan : Plan} (e : planOf rule c d (take n out) ≡ planned.Amend plan) where
-    total-is : length (amendVolume rule c d (take n out)) ≡ plan .total
+  module _ {plan : Plan} (e : planOf rules c d (take n out) ≡ planned.Amend plan) where
+    total-is : length (amendVolume rules c d (take n out)) ≡ plan .total
     total-is =
-        let told = plan-tells rule c d (take n out) e in
-        length-amended (take n out) (told .read) c d (told .at) rule ∙ sym (ap (λ (p : Plan). p .total) (told .plan-is))
+        let told = plan-tells rules c d (take n out) e in
+        length-amended (take n out) (told .read) c d (told .at) rules ∙ sym (ap (λ (p : Plan). p .total) (told .plan-is))
 
-    pub amend-short : {r : Refusal} → r ≡ bare 14 → length out < plan .total → refused r out ≡ amendOf rule n c d out
+    pub amend-short : {r : Refusal} → r ≡ bare 14 → length out < plan .total → refused r out ≡ amendOf rules n c d out
     amend-short is short =
-        let told = plan-tells rule c d (take n out) e in
-        let s : List ℕ = amendVolume rule c d (take n out) in
-        rw is (unless-none s out refl (told .none) (written-short s out (omega (arith, total-is))) ∙ sym (amend-is rule n c d out h refl))
+        let told = plan-tells rules c d (take n out) e in
+        let s : List ℕ = amendVolume rules c d (take n out) in
+        rw is (unless-none s out refl (told .none) (written-short s out (omega (arith, total-is))) ∙ sym (amend-is rules n c d out h refl))
 
     -- what the writes need
     pub plan-right : (plan .«stretch_at» ≤ plan .total) × (32 ≤ plan .total)
     plan-right =
-        let told = plan-tells rule c d (take n out) e in
+        let told = plan-tells rules c d (take n out) e in
         let at = told .at .place-in in
         (rw (told .plan-is) (omega arith), rw (told .plan-is) (omega arith))
 
     pub amend-over : {t : List ℕ} → plan .total ≤ length out → t ≡ patched plan n (c .old) (c .new) d out
-        → (writing.Written (plan .total), t) ≡ amendOf rule n c d out
+        → (writing.Written (plan .total), t) ≡ amendOf rules n c d out
     amend-over fits wrote =
-        let told = plan-tells rule c d (take n out) e in
+        let told = plan-tells rules c d (take n out) e in
         let vol : List ℕ = take n out in
-        let s : List ℕ = amendVolume rule c d vol in
+        let s : List ℕ = amendVolume rules c d vol in
         let is = told .plan-is in
-        let size = length-amended vol (told .read) c d (told .at) rule in
+        let size = length-amended vol (told .read) c d (told .at) rules in
         let patched-plan : patched plan n (c .old) (c .new) d out ≡ s ++ drop (length s) out =
         ap (λ (p : Plan). patched p n (c .old) (c .new) d out) is
-        ∙ patched-is rule c d vol out n (told .read) (told .at) h refl (omega (arith, total-is)) ∙ ap (λ (j : ℕ). s ++ drop j out) (sym size) in
+        ∙ patched-is rules c d vol out n (told .read) (told .at) h refl (omega (arith, total-is)) ∙ ap (λ (j : ℕ). s ++ drop j out) (sym size) in
         unless-none s out refl (told .none) (written-fits s out (omega (arith, total-is)) (sym total-is) (wrote ∙ patched-plan))
-        ∙ sym (amend-is rule n c d out h refl)
+        ∙ sym (amend-is rules n c d out h refl)

@@ -15,6 +15,7 @@ use native.Mathlib.Omega.{arith}
 use lib.Dec.{leb, eqb}
 use lib.ListN.{length, take, drop}
 use borrow.Author.Tests.{eqb-true, eq-eqb, ne-eqb}
+use Rattle.codes.specs.declared.Code.{Code}
 use Rattle.refusals.specs.Limits.{maxVolumeLength}
 use Rattle.refusals.specs.Tests.{bare, test, orElse}
 use Rattle.refusals.specs.declared.Refusal.{Refusal}
@@ -98,37 +99,37 @@ by-length : (b : Bool) (x : Plan)
 by-length true x = refl
 by-length false x = refl
 
-module _ (rule : ℕ → ℕ → ℕ) (p : Parts) (from file place size : ℕ) {m : ℕ} (e : m ≡ max (p .«data_size») size) where
-  pub sized-short : {r : Refusal} → r ≡ bare 1 → maxVolumeLength < 96 + p .«list_size» + m → Refused r ≡ sizedPlan rule p from file place size
+module _ (rules : Code → ℕ → ℕ → ℕ) (p : Parts) (from file place size : ℕ) {m : ℕ} (e : m ≡ max (p .«data_size») size) where
+  pub sized-short : {r : Refusal} → r ≡ bare 1 → maxVolumeLength < 96 + p .«list_size» + m → Refused r ≡ sizedPlan rules p from file place size
   unfolding sizedPlan
   sized-short is h = simp (is, too-long (96 + p .«list_size» + max (p .«data_size») size) (omega arith))
 
-  pub sized-over : {w : ℕ} → w ≡ rule file (p .number) → 96 + p .«list_size» + m ≤ maxVolumeLength
-      → Amend (planWith from place w (p .«list_size») m) ≡ sizedPlan rule p from file place size
+  pub sized-over : {w : ℕ} → w ≡ rules (p .code) file (p .number) → 96 + p .«list_size» + m ≤ maxVolumeLength
+      → Amend (planWith from place w (p .«list_size») m) ≡ sizedPlan rules p from file place size
   unfolding sizedPlan
   sized-over is h =
       simp (long-enough (96 + p .«list_size» + max (p .«data_size») size) (omega arith) (omega arith))
       (ap₂ (λ (x y : ℕ). Amend (planWith from place x (p .«list_size») y)) is e)
 
-module _ (rule : ℕ → ℕ → ℕ) (c : Change) (d vol : List ℕ) where
+module _ (rules : Code → ℕ → ℕ → ℕ) (c : Change) (d vol : List ℕ) where
   -- from the refusal by the tests
   abbrev answer : Refusal → Planned
-  answer k = cond (eqb (k .number) 0) (Amend (planFor rule c d vol)) (Refused k)
+  answer k = cond (eqb (k .number) 0) (Amend (planFor rules c d vol)) (Refused k)
 
-  pub plan-unread : {r : Refusal} → readOf vol ≡ reading.Refused r → Refused r ≡ planOf rule c d vol
+  pub plan-unread : {r : Refusal} → readOf vol ≡ reading.Refused r → Refused r ≡ planOf rules c d vol
   unfolding planOf
   plan-unread {r} e = simp (e, ne-eqb (r .number) 0 (refused-some vol e))
 
   module _ {p : Parts} (read : readOf vol ≡ reading.Accepted p) {r : Refusal}
       (is : r ≡ testsRefusal (fileAllowed (c .file) vol) (c .place) (length (c .old)) (length (c .new)) (entryIn (c .file) (entriesIn vol)) d) where
-    pub plan-refused : (r .number ≡ 0 → ⊥) → Refused r ≡ planOf rule c d vol
+    pub plan-refused : (r .number ≡ 0 → ⊥) → Refused r ≡ planOf rules c d vol
     unfolding planOf testsRefusal changeRefusal
     plan-refused some =
         let e : List ℕ = entryIn (c .file) (entriesIn vol) in
-        let same : changeRefusal rule c d vol ≡ r =
+        let same : changeRefusal rules c d vol ≡ r =
         decided (fileAllowed (c .file) vol) (loneRefusal d) (changeAllowed (c .place) (length (c .old)) (length (c .new)) e d) _
         (λ z. some (ap (λ (k : Refusal). k .number) is ∙ z)) ∙ sym is in
-        sym (ap (λ (k : Reading). answer (amendRefusal rule c d vol k)) read ∙ ap answer same ∙ simp (ne-eqb (r .number) 0 some))
+        sym (ap (λ (k : Reading). answer (amendRefusal rules c d vol k)) read ∙ ap answer same ∙ simp (ne-eqb (r .number) 0 some))
 
     module _ (none : r .number ≡ 0) where
       passed : TestsPassed vol read (c .file) (c .place) (length (c .old)) (length (c .new)) d is none
@@ -155,52 +156,52 @@ module _ (rule : ℕ → ℕ → ℕ) (c : Change) (d vol : List ℕ) where
           }
 
       pub plan-sized : {from : ℕ} → from ≡ spanIn (entriesIn vol) (c .file - 1) .from
-          → sizedPlan rule p from (c .file) (c .place) (fileSizeOf d) ≡ planOf rule c d vol
+          → sizedPlan rules p from (c .file) (c .place) (fileSizeOf d) ≡ planOf rules c d vol
       unfolding planOf sizedPlan changeRefusal
       plan-sized {from} start =
           let is = volume-read vol read .0 in
           let total : ℕ = 96 + listSizeOf vol + amendedSize d vol in
-          let same : changeRefusal rule c d vol ≡ bare (test 1 (lengthAllowed total) 0) =
+          let same : changeRefusal rules c d vol ≡ bare (test 1 (lengthAllowed total) 0) =
           simp (passed .file-right, passed .lone, passed .change)
-          (ap (λ (n : ℕ). bare (test 1 (lengthAllowed n) 0)) (length-amended vol is c d at rule)) in
-          ap₂ (λ (q : Parts) (n : ℕ). sizedPlan rule q n (c .file) (c .place) (fileSizeOf d)) (volume-read vol read .1) start
-          ∙ sym (ap (λ (k : Reading). answer (amendRefusal rule c d vol k)) read ∙ ap answer same
-          ∙ by-length (lengthAllowed total) (planFor rule c d vol))
+          (ap (λ (n : ℕ). bare (test 1 (lengthAllowed n) 0)) (length-amended vol is c d at rules)) in
+          ap₂ (λ (q : Parts) (n : ℕ). sizedPlan rules q n (c .file) (c .place) (fileSizeOf d)) (volume-read vol read .1) start
+          ∙ sym (ap (λ (k : Reading). answer (amendRefusal rules c d vol k)) read ∙ ap answer same
+          ∙ by-length (lengthAllowed total) (planFor rules c d vol))
 
   -- ---- what its answer tells
 
-  pub refusal-tells : {r : Refusal} → planOf rule c d vol ≡ Refused r
-      → (amendRefusal rule c d vol (readOf vol) ≡ r) × (r .number ≡ 0 → ⊥)
+  pub refusal-tells : {r : Refusal} → planOf rules c d vol ≡ Refused r
+      → (amendRefusal rules c d vol (readOf vol) ≡ r) × (r .number ≡ 0 → ⊥)
   unfolding planOf
-  refusal-tells {r} e = by (eqb (amendRefusal rule c d vol (readOf vol) .number) 0) refl e
+  refusal-tells {r} e = by (eqb (amendRefusal rules c d vol (readOf vol) .number) 0) refl e
     where
-      by : (b : Bool) → eqb (amendRefusal rule c d vol (readOf vol) .number) 0 ≡ b
-          → cond b (Amend (planFor rule c d vol)) (Refused (amendRefusal rule c d vol (readOf vol))) ≡ Refused r
-          → (amendRefusal rule c d vol (readOf vol) ≡ r) × (r .number ≡ 0 → ⊥)
+      by : (b : Bool) → eqb (amendRefusal rules c d vol (readOf vol) .number) 0 ≡ b
+          → cond b (Amend (planFor rules c d vol)) (Refused (amendRefusal rules c d vol (readOf vol))) ≡ Refused r
+          → (amendRefusal rules c d vol (readOf vol) ≡ r) × (r .number ≡ 0 → ⊥)
       by true z e = absurd (let z : _≡_ {A = ℕ} 0 1 = cc in omega arith)
       by false z e =
-          let same : amendRefusal rule c d vol (readOf vol) ≡ r = cc in
+          let same : amendRefusal rules c d vol (readOf vol) ≡ r = cc in
           (same, λ n. false≢true (sym z ∙ eq-eqb _ 0 (ap (λ (k : Refusal). k .number) same ∙ n)))
 
   pub record PlanTold (plan : Plan) : Type 0 where
-    pub none : amendRefusal rule c d vol (readOf vol) .number ≡ 0
-    pub plan-is : plan ≡ planFor rule c d vol
+    pub none : amendRefusal rules c d vol (readOf vol) .number ≡ 0
+    pub plan-is : plan ≡ planFor rules c d vol
     pub read : Read vol
     pub at : Found vol (c .file) (c .place) d
 
-  accepted-found : (k : Reading) → readOf vol ≡ k → amendRefusal rule c d vol k .number ≡ 0 → Read vol × Found vol (c .file) (c .place) d
+  accepted-found : (k : Reading) → readOf vol ≡ k → amendRefusal rules c d vol k .number ≡ 0 → Read vol × Found vol (c .file) (c .place) d
   accepted-found (reading.Refused r) e z = absurd (refused-some vol e z)
   accepted-found (reading.Accepted p) e z =
       let is = volume-read vol e .0 in
-      let t = change-passed rule c d vol z in
+      let t = change-passed rules c d vol z in
       (is, found vol is (c .file) (c .place) (length (c .old)) (length (c .new)) d (t .file-right) (t .lone) (t .change))
 
-  pub plan-tells : {plan : Plan} → planOf rule c d vol ≡ Amend plan → PlanTold plan
+  pub plan-tells : {plan : Plan} → planOf rules c d vol ≡ Amend plan → PlanTold plan
   unfolding planOf
-  plan-tells {plan} e = by (eqb (amendRefusal rule c d vol (readOf vol) .number) 0) refl e
+  plan-tells {plan} e = by (eqb (amendRefusal rules c d vol (readOf vol) .number) 0) refl e
     where
-      by : (b : Bool) → eqb (amendRefusal rule c d vol (readOf vol) .number) 0 ≡ b
-          → cond b (Amend (planFor rule c d vol)) (Refused (amendRefusal rule c d vol (readOf vol))) ≡ Amend plan → PlanTold plan
+      by : (b : Bool) → eqb (amendRefusal rules c d vol (readOf vol) .number) 0 ≡ b
+          → cond b (Amend (planFor rules c d vol)) (Refused (amendRefusal rules c d vol (readOf vol))) ≡ Amend plan → PlanTold plan
       by true z e =
           let none = eqb-true _ 0 z in
           let both = accepted-found (readOf vol) refl none in

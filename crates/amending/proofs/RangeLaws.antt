@@ -13,6 +13,7 @@ use lib.Dec.{leb, eqb}
 use lib.ListN.{length, take}
 use lib.Seq.{length-take-le}
 use borrow.Author.Tests.{leb-true}
+use Rattle.codes.specs.declared.Code.{Code}
 use Rattle.refusals.specs.Limits.{maxVolumeLength}
 use Rattle.refusals.specs.Tests.{bare, test, orElse}
 use Rattle.refusals.specs.declared.Refusal.{Refusal}
@@ -59,8 +60,8 @@ change-most k true zero false y h = record { number-most = omega arith; place-mo
 change-most k true zero true false h = record { number-most = omega arith; place-most = omega arith }
 change-most k true zero true true h = record { number-most = omega arith; place-most = omega arith }
 
-module _ (rule : ℕ → ℕ → ℕ) (c : Change) (d vol : List ℕ) where
-  refusal-most : (q : Reading) → readOf vol ≡ q → Most (length vol / 58 + 1) (amendRefusal rule c d vol q)
+module _ (rules : Code → ℕ → ℕ → ℕ) (c : Change) (d vol : List ℕ) where
+  refusal-most : (q : Reading) → readOf vol ≡ q → Most (length vol / 58 + 1) (amendRefusal rules c d vol q)
   unfolding changeRefusal
   refusal-most (reading.Refused r) e =
       let w = refusal-within vol in
@@ -71,27 +72,27 @@ module _ (rule : ℕ → ℕ → ℕ) (c : Change) (d vol : List ℕ) where
   refusal-most (reading.Accepted p) e =
       let was : List ℕ = entryIn (c .file) (entriesIn vol) in
       change-most (length vol / 58 + 1) (fileAllowed (c .file) vol) (loneRefusal d)
-      (changeAllowed (c .place) (length (c .old)) (length (c .new)) was d) (lengthAllowed (length (amendVolume rule c d vol))) (lone-most d)
+      (changeAllowed (c .place) (length (c .old)) (length (c .new)) was d) (lengthAllowed (length (amendVolume rules c d vol))) (lone-most d)
 
-  total-most : (q : Reading) → readOf vol ≡ q → amendRefusal rule c d vol q .number ≡ 0 → length (amendVolume rule c d vol) ≤ maxVolumeLength
+  total-most : (q : Reading) → readOf vol ≡ q → amendRefusal rules c d vol q .number ≡ 0 → length (amendVolume rules c d vol) ≤ maxVolumeLength
   total-most (reading.Refused r) e z = absurd (refused-some vol e z)
-  total-most (reading.Accepted p) e z = change-passed rule c d vol z .total .high
+  total-most (reading.Accepted p) e z = change-passed rules c d vol z .total .high
 
-module _ (rule : ℕ → ℕ → ℕ) (n : ℕ) (c : Change) (d out : List ℕ) where
-  pub accepted-most : {k : ℕ} {t : List ℕ} → amendOf rule n c d out ≡ (Written k, t) → k ≤ maxVolumeLength
+module _ (rules : Code → ℕ → ℕ → ℕ) (n : ℕ) (c : Change) (d out : List ℕ) where
+  pub accepted-most : {k : ℕ} {t : List ℕ} → amendOf rules n c d out ≡ (Written k, t) → k ≤ maxVolumeLength
   unfolding amendOf amendBy
   accepted-most {k} {t} e = by (leb n (length out)) e
     where
-      by : (b : Bool) → amendBy rule n c d out b ≡ (Written k, t) → k ≤ maxVolumeLength
+      by : (b : Bool) → amendBy rules n c d out b ≡ (Written k, t) → k ≤ maxVolumeLength
       by true e =
           let vol : List ℕ = take n out in
-          let m : Refusal = amendRefusal rule c d vol (readOf vol) in
-          let s : List ℕ = amendVolume rule c d vol in
+          let m : Refusal = amendRefusal rules c d vol (readOf vol) in
+          let s : List ℕ = amendVolume rules c d vol in
           let told = unless-tells m s out e in
-          omega (arith, told .length-is, total-most rule c d vol (readOf vol) refl (told .none))
+          omega (arith, told .length-is, total-most rules c d vol (readOf vol) refl (told .none))
       by false e = never e
 
-  pub refused-most : {r : Refusal} {t : List ℕ} → amendOf rule n c d out ≡ (Refused r, t) → Most (length out / 58 + 1) r
+  pub refused-most : {r : Refusal} {t : List ℕ} → amendOf rules n c d out ≡ (Refused r, t) → Most (length out / 58 + 1) r
   unfolding amendOf amendBy writtenUnless written
   refused-most {r} {t} e = by (leb n (length out)) refl e
     where
@@ -116,14 +117,14 @@ module _ (rule : ℕ → ℕ → ℕ) (n : ℕ) (c : Change) (d out : List ℕ) 
           let place = ap (λ (r : Refusal). r .place) same in
           record { number-most = omega (arith, w .number-most); place-most = omega (arith, w .place-most) }
 
-      by : (b : Bool) → leb n (length out) ≡ b → amendBy rule n c d out b ≡ (Refused r, t) → Most (length out / 58 + 1) r
+      by : (b : Bool) → leb n (length out) ≡ b → amendBy rules n c d out b ≡ (Refused r, t) → Most (length out / 58 + 1) r
       by true l e =
           let vol : List ℕ = take n out in
           let size : length vol ≡ n = length-take-le n out (leb-true n (length out) l) in
           let h = leb-true n (length out) l in
-          let m : Refusal = amendRefusal rule c d vol (readOf vol) in
-          let s : List ℕ = amendVolume rule c d vol in
-          let w = refusal-most rule c d vol (readOf vol) refl in
+          let m : Refusal = amendRefusal rules c d vol (readOf vol) in
+          let s : List ℕ = amendVolume rules c d vol in
+          let w = refusal-most rules c d vol (readOf vol) refl in
           let more : Most (length out / 58 + 1) m = record { number-most = w .number-most; place-most = omega (arith, w .place-most) } in
           tested m s more (eqb (m .number) 0) (leb (length s) (length out)) e
       by false l e = no-room e

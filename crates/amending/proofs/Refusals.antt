@@ -21,6 +21,7 @@ use lib.Dec.{leb}
 use lib.ListN.{length, take, drop, length-append, length-drop}
 use lib.Seq.{drop-append-seam}
 use borrow.Author.Tests.{le-leb, lt-leb}
+use Rattle.codes.specs.declared.Code.{Code}
 use Rattle.lent_bytes.specs.Writing.{refused, accepted, writtenUnless, writingRefusal}
 use Rattle.lent_bytes.specs.declared.Writing.{Writing}
 use Rattle.lent_bytes.specs.declared.Writing.the-variants.{Written, Refused}
@@ -47,53 +48,53 @@ use Rattle.amending.proofs.FoundEntries.{Read, volume-read, found, leng
 
 -- ---- the tests after those of reading
 
-pub change-none : (rule : ℕ → ℕ → ℕ) (c : Change) (d vol : List ℕ) → fileAllowed (c .file) vol ≡ true → loneRefusal d ≡ 0
+pub change-none : (rules : Code → ℕ → ℕ → ℕ) (c : Change) (d vol : List ℕ) → fileAllowed (c .file) vol ≡ true → loneRefusal d ≡ 0
     → changeAllowed (c .place) (length (c .old)) (length (c .new)) (entryIn (c .file) (entriesIn vol)) d ≡ true
-    → Between (length (amendVolume rule c d vol)) → changeRefusal rule c d vol ≡ bare 0
+    → Between (length (amendVolume rules c d vol)) → changeRefusal rules c d vol ≡ bare 0
 unfolding changeRefusal
-change-none rule c d vol file-right lone change total =
-    simp (file-right, lone, change, long-enough (length (amendVolume rule c d vol)) (total .low) (total .high))
+change-none rules c d vol file-right lone change total =
+    simp (file-right, lone, change, long-enough (length (amendVolume rules c d vol)) (total .low) (total .high))
 
 -- ---- what the call gives
 
-module _ (rule : ℕ → ℕ → ℕ) (n : ℕ) (c : Change) (d out : List ℕ) where
-  pub amend-past : length out < n → amendOf rule n c d out ≡ refused (bare 14) out
+module _ (rules : Code → ℕ → ℕ → ℕ) (n : ℕ) (c : Change) (d out : List ℕ) where
+  pub amend-past : length out < n → amendOf rules n c d out ≡ refused (bare 14) out
   unfolding amendOf
   amend-past h = simp (lt-leb n (length out) h)
 
   module _ {vol : List ℕ} (h : n ≤ length out) (is : take n out ≡ vol) where
-    pub amend-is : amendOf rule n c d out ≡ writtenUnless (amendRefusal rule c d vol (readOf vol)) (amendVolume rule c d vol) out
+    pub amend-is : amendOf rules n c d out ≡ writtenUnless (amendRefusal rules c d vol (readOf vol)) (amendVolume rules c d vol) out
     unfolding amendOf
     amend-is =
         simp (le-leb n (length out) h)
-        (ap (λ (t : List ℕ). writtenUnless (amendRefusal rule c d t (readOf t)) (amendVolume rule c d t) out) is)
+        (ap (λ (t : List ℕ). writtenUnless (amendRefusal rules c d t (readOf t)) (amendVolume rules c d t) out) is)
 
-    amend-unread : {r : Refusal} → readOf vol ≡ reading.Refused r → amendOf rule n c d out ≡ refused r out
+    amend-unread : {r : Refusal} → readOf vol ≡ reading.Refused r → amendOf rules n c d out ≡ refused r out
     amend-unread {r} e =
-        amend-is ∙ sym (unless-refused (amendVolume rule c d vol) out
-        (sym (ap (λ (k : Reading). amendRefusal rule c d vol k) e)) (refused-some vol e) refl)
+        amend-is ∙ sym (unless-refused (amendVolume rules c d vol) out
+        (sym (ap (λ (k : Reading). amendRefusal rules c d vol k) e)) (refused-some vol e) refl)
 
     pub amend-read : {p : Parts} → readOf vol ≡ reading.Accepted p
-        → amendOf rule n c d out ≡ writtenUnless (changeRefusal rule c d vol) (amendVolume rule c d vol) out
-    amend-read e = amend-is ∙ ap (λ (k : Reading). writtenUnless (amendRefusal rule c d vol k) (amendVolume rule c d vol) out) e
+        → amendOf rules n c d out ≡ writtenUnless (changeRefusal rules c d vol) (amendVolume rules c d vol) out
+    amend-read e = amend-is ∙ ap (λ (k : Reading). writtenUnless (amendRefusal rules c d vol k) (amendVolume rules c d vol) out) e
 
 -- ---- the claims
 
-module _ (rule : ℕ → ℕ → ℕ) (c : Change) (d vol out : List ℕ) (read : Read vol) where
+module _ (rules : Code → ℕ → ℕ → ℕ) (c : Change) (d vol out : List ℕ) (read : Read vol) where
   -- a number that the tests give
-  number-refused : (k : ℕ) → changeRefusal rule c d vol ≡ bare k → (k ≡ 0 → ⊥)
-      → writtenUnless (changeRefusal rule c d vol) (amendVolume rule c d vol) out ≡ refused (bare k) out
-  number-refused k e some = sym (unless-refused (amendVolume rule c d vol) out (sym e) some refl)
+  number-refused : (k : ℕ) → changeRefusal rules c d vol ≡ bare k → (k ≡ 0 → ⊥)
+      → writtenUnless (changeRefusal rules c d vol) (amendVolume rules c d vol) out ≡ refused (bare k) out
+  number-refused k e some = sym (unless-refused (amendVolume rules c d vol) out (sym e) some refl)
 
   total-low : fileAllowed (c .file) vol ≡ true → loneRefusal d ≡ 0
       → changeAllowed (c .place) (length (c .old)) (length (c .new)) (entryIn (c .file) (entriesIn vol)) d ≡ true
-      → 96 ≤ length (amendVolume rule c d vol)
+      → 96 ≤ length (amendVolume rules c d vol)
   total-low f l s =
       let at = found vol read (c .file) (c .place) (length (c .old)) (length (c .new)) d f l s in
-      let size = length-amended vol read c d at rule in omega arith
+      let size = length-amended vol read c d at rules in omega arith
 
-  first-fails : {k : ℕ} → claim.Fails rule c d vol out k
-      → writtenUnless (changeRefusal rule c d vol) (amendVolume rule c d vol) out ≡ refused (bare k) out
+  first-fails : {k : ℕ} → claim.Fails rules c d vol out k
+      → writtenUnless (changeRefusal rules c d vol) (amendVolume rules c d vol) out ≡ refused (bare k) out
   unfolding changeRefusal
   first-fails (claim.no-file f) = number-refused 10 (simp (missing-fails (c .file) vol f)) (λ z. omega arith)
   first-fails (claim.bad-entry {k} f l) = number-refused _ (simp (file-passes (c .file) vol f, l)) (λ z. omega arith)
@@ -101,31 +102,31 @@ module _ (rule : ℕ → ℕ → ℕ) (c : Change) (d vol out : List ℕ) (read 
       number-refused 21 (simp (file-passes (c .file) vol f, l, wrong-fails c (entryIn (c .file) (entriesIn vol)) d s)) (λ z. omega arith)
   first-fails (claim.too-long f l s h) =
       let change = right-passes c (entryIn (c .file) (entriesIn vol)) d s in
-      number-refused 1 (simp (file-passes (c .file) vol f, l, change, too-long (length (amendVolume rule c d vol)) h)) (λ z. omega arith)
+      number-refused 1 (simp (file-passes (c .file) vol f, l, change, too-long (length (amendVolume rules c d vol)) h)) (λ z. omega arith)
   first-fails (claim.no-room f l s high h) =
       let file = file-passes (c .file) vol f in
       let change = right-passes c (entryIn (c .file) (entriesIn vol)) d s in
-      let none = change-none rule c d vol file l change (record { low = total-low file l change; high = high }) in
-      sym (unless-none (amendVolume rule c d vol) out (sym none) refl (written-short (amendVolume rule c d vol) out h))
+      let none = change-none rules c d vol file l change (record { low = total-low file l change; high = high }) in
+      sym (unless-none (amendVolume rules c d vol) out (sym none) refl (written-short (amendVolume rules c d vol) out h))
 
   -- one of the tests fails, or the call is accepted
-  first-of : (P : Type 0) → ((k : ℕ) → claim.Fails rule c d vol out k → P)
-      → (writtenUnless (changeRefusal rule c d vol) (amendVolume rule c d vol) out ≡ accepted (amendVolume rule c d vol) out → P) → P
+  first-of : (P : Type 0) → ((k : ℕ) → claim.Fails rules c d vol out k → P)
+      → (writtenUnless (changeRefusal rules c d vol) (amendVolume rules c d vol) out ≡ accepted (amendVolume rules c d vol) out → P) → P
   first-of P some none =
       by (fileAllowed (c .file) vol) (loneRefusal d)
       (changeAllowed (c .place) (length (c .old)) (length (c .new)) (entryIn (c .file) (entriesIn vol)) d) refl refl refl
     where
       sized : fileAllowed (c .file) vol ≡ true → loneRefusal d ≡ 0
           → changeAllowed (c .place) (length (c .old)) (length (c .new)) (entryIn (c .file) (entriesIn vol)) d ≡ true
-          → Dec (maxVolumeLength < length (amendVolume rule c d vol)) → Dec (length out < length (amendVolume rule c d vol)) → P
+          → Dec (maxVolumeLength < length (amendVolume rules c d vol)) → Dec (length out < length (amendVolume rules c d vol)) → P
       sized f l s (yes h) room =
           some 1 (claim.too-long (missing-not (c .file) vol f) l (wrong-not c (entryIn (c .file) (entriesIn vol)) d s) h)
       sized f l s (no h) (yes k) =
           some 14 (claim.no-room (missing-not (c .file) vol f) l (wrong-not c (entryIn (c .file) (entriesIn vol)) d s) (omega arith) k)
       sized f l s (no h) (no k) =
-          let passed = change-none rule c d vol f l s (record { low = total-low f l s; high = omega arith }) in
-          let fits : length (amendVolume rule c d vol) ≤ length out = omega arith in
-          none (unless-accepted (changeRefusal rule c d vol) (amendVolume rule c d vol) out (ap (λ (r : Refusal). r .number) passed) fits)
+          let passed = change-none rules c d vol f l s (record { low = total-low f l s; high = omega arith }) in
+          let fits : length (amendVolume rules c d vol) ≤ length out = omega arith in
+          none (unless-accepted (changeRefusal rules c d vol) (amendVolume rules c d vol) out (ap (λ (r : Refusal). r .number) passed) fits)
 
       by : (b : Bool) (k : ℕ) (t : Bool) → fileAllowed (c .file) vol ≡ b → loneRefusal d ≡ k
           → changeAllowed (c .place) (length (c .old)) (length (c .new)) (entryIn (c .file) (entriesIn vol)) d ≡ t → P
@@ -134,13 +135,13 @@ module _ (rule : ℕ → ℕ → ℕ) (c : Change) (d vol out : List ℕ) (read 
       by true zero false f l s =
           some 21 (claim.bad-change (missing-not (c .file) vol f) l (wrong-told c (entryIn (c .file) (entriesIn vol)) d s))
       by true zero true f l s =
-          sized f l s (decLt maxVolumeLength (length (amendVolume rule c d vol))) (decLt (length out) (length (amendVolume rule c d vol)))
+          sized f l s (decLt maxVolumeLength (length (amendVolume rules c d vol))) (decLt (length out) (length (amendVolume rules c d vol)))
 
 pub amend-refused : AmendRefused
-amend-refused rule n c d out r (claim.past-room h) = amend-past rule n c d out h
-amend-refused rule n c d out r (claim.unread h e) = amend-unread rule n c d out h refl e
-amend-refused rule n c d out r (claim.fails h e f) =
-    amend-read rule n c d out h refl e ∙ first-fails rule c d (take n out) out (volume-read (take n out) e .0) f
+amend-refused rules n c d out r (claim.past-room h) = amend-past rules n c d out h
+amend-refused rules n c d out r (claim.unread h e) = amend-unread rules n c d out h refl e
+amend-refused rules n c d out r (claim.fails h e f) =
+    amend-read rules n c d out h refl e ∙ first-fails rules c d (take n out) out (volume-read (take n out) e .0) f
 
 refused-is : {q r : Refusal} {out room : List ℕ} → refused q out ≡ (Refused r, room) → q ≡ r
 refused-is e = ap (λ (p : Writing × List ℕ). writingRefusal (p .0)) e
@@ -150,49 +151,49 @@ accepted-not s out {room} {r} e =
     let answer : Written (length s) ≡ Refused r = ap (λ (p : Writing × List ℕ). p .0) e in
     let z : _≡_ {A = ℕ} 0 1 = cc in omega arith
 
-module _ (rule : ℕ → ℕ → ℕ) (n : ℕ) (c : Change) (d out : List ℕ) {r : Refusal} {room : List ℕ} (e : amendOf rule n c d out ≡ (Refused r, room)) where
-  refuses-read : n ≤ length out → (k : Reading) → readOf (take n out) ≡ k → claim.Refuses rule n c d out r
+module _ (rules : Code → ℕ → ℕ → ℕ) (n : ℕ) (c : Change) (d out : List ℕ) {r : Refusal} {room : List ℕ} (e : amendOf rules n c d out ≡ (Refused r, room)) where
+  refuses-read : n ≤ length out → (k : Reading) → readOf (take n out) ≡ k → claim.Refuses rules n c d out r
   refuses-read h (reading.Refused q) is =
-      subst (claim.Refuses rule n c d out) (refused-is (sym (amend-unread rule n c d out h refl is) ∙ e)) (claim.unread h is)
+      subst (claim.Refuses rules n c d out) (refused-is (sym (amend-unread rules n c d out h refl is) ∙ e)) (claim.unread h is)
   refuses-read h (reading.Accepted p) is =
       let vol : List ℕ = take n out in
       let read = volume-read vol is .0 in
-      let gives : writtenUnless (changeRefusal rule c d vol) (amendVolume rule c d vol) out ≡ (Refused r, room) =
-      sym (amend-read rule n c d out h refl is) ∙ e in
-      first-of rule c d vol out read (claim.Refuses rule n c d out r)
-      (λ k f. subst (claim.Refuses rule n c d out) (refused-is (sym (first-fails rule c d vol out read f) ∙ gives)) (claim.fails h is f))
-      (λ passed. absurd (accepted-not (amendVolume rule c d vol) out (sym passed ∙ gives)))
+      let gives : writtenUnless (changeRefusal rules c d vol) (amendVolume rules c d vol) out ≡ (Refused r, room) =
+      sym (amend-read rules n c d out h refl is) ∙ e in
+      first-of rules c d vol out read (claim.Refuses rules n c d out r)
+      (λ k f. subst (claim.Refuses rules n c d out) (refused-is (sym (first-fails rules c d vol out read f) ∙ gives)) (claim.fails h is f))
+      (λ passed. absurd (accepted-not (amendVolume rules c d vol) out (sym passed ∙ gives)))
 
-  refuses-by : Dec (length out < n) → claim.Refuses rule n c d out r
-  refuses-by (yes h) = subst (claim.Refuses rule n c d out) (refused-is (sym (amend-past rule n c d out h) ∙ e)) (claim.past-room h)
+  refuses-by : Dec (length out < n) → claim.Refuses rules n c d out r
+  refuses-by (yes h) = subst (claim.Refuses rules n c d out) (refused-is (sym (amend-past rules n c d out h) ∙ e)) (claim.past-room h)
   refuses-by (no h) = refuses-read (omega arith) (readOf (take n out)) refl
 
 -- ---- the room
 
 -- where the length passes the room, and where it does not
-module _ (rule : ℕ → ℕ → ℕ) (n : ℕ) (c : Change) (d out : List ℕ) where
+module _ (rules : Code → ℕ → ℕ → ℕ) (n : ℕ) (c : Change) (d out : List ℕ) where
   unfoldable pub amendBy : Bool → Writing × List ℕ
   amendBy b =
       let vol : List ℕ = take n out in
-      cond b (writtenUnless (amendRefusal rule c d vol (readOf vol)) (amendVolume rule c d vol) out) (refused (bare 14) out)
+      cond b (writtenUnless (amendRefusal rules c d vol (readOf vol)) (amendVolume rules c d vol) out) (refused (bare 14) out)
 
-  pub refused-same : {r : Refusal} {room : List ℕ} → amendOf rule n c d out ≡ (Refused r, room) → room ≡ out
+  pub refused-same : {r : Refusal} {room : List ℕ} → amendOf rules n c d out ≡ (Refused r, room) → room ≡ out
   unfolding amendOf amendBy
   refused-same {r} {room} e = by (leb n (length out)) e
     where
       by : (b : Bool) → amendBy b ≡ (Refused r, room) → room ≡ out
-      by true e = unless-same _ (amendVolume rule c d (take n out)) out e
+      by true e = unless-same _ (amendVolume rules c d (take n out)) out e
       by false e = sym (ap (λ (p : Writing × List ℕ). p .1) e)
 
-  written-kept : {k : ℕ} {room : List ℕ} → amendOf rule n c d out ≡ (Written k, room) → (length room ≡ length out) × (drop k room ≡ drop k out)
+  written-kept : {k : ℕ} {room : List ℕ} → amendOf rules n c d out ≡ (Written k, room) → (length room ≡ length out) × (drop k room ≡ drop k out)
   unfolding amendOf amendBy
   written-kept {k} {room} e = by (leb n (length out)) e
     where
       by : (b : Bool) → amendBy b ≡ (Written k, room) → (length room ≡ length out) × (drop k room ≡ drop k out)
       by true e =
           let vol : List ℕ = take n out in
-          let s : List ℕ = amendVolume rule c d vol in
-          let m : Refusal = amendRefusal rule c d vol (readOf vol) in
+          let s : List ℕ = amendVolume rules c d vol in
+          let m : Refusal = amendRefusal rules c d vol (readOf vol) in
           let told = unless-tells m s out e in
           let size = told .length-is in (
             omega (arith, ap length (told .room-is), length-append s (drop (length s) out), length-drop (length s) out, told .fits),
@@ -202,28 +203,28 @@ module _ (rule : ℕ → ℕ → ℕ) (n : ℕ) (c : Change) (d out : List ℕ) 
       by false e = never e
 
 pub room-kept : RoomKept
-room-kept rule n c d out k room e = written-kept rule n c d out e
+room-kept rules n c d out k room e = written-kept rules n c d out e
 
 pub refused-only : RefusedOnly
-refused-only rule n c d out r room e = (refuses-by rule n c d out e (decLt (length out) n), refused-same rule n c d out e)
+refused-only rules n c d out r room e = (refuses-by rules n c d out e (decLt (length out) n), refused-same rules n c d out e)
 
 -- ---- what the tests after those of reading tell
 
-module _ (rule : ℕ → ℕ → ℕ) (c : Change) (d vol : List ℕ) where
+module _ (rules : Code → ℕ → ℕ → ℕ) (c : Change) (d vol : List ℕ) where
   pub record ChangePassed : Type 0 where
     pub file-right : fileAllowed (c .file) vol ≡ true
     pub lone : loneRefusal d ≡ 0
     pub change : changeAllowed (c .place) (length (c .old)) (length (c .new)) (entryIn (c .file) (entriesIn vol)) d ≡ true
-    pub total : Between (length (amendVolume rule c d vol))
+    pub total : Between (length (amendVolume rules c d vol))
 
-  pub change-passed : changeRefusal rule c d vol .number ≡ 0 → ChangePassed
+  pub change-passed : changeRefusal rules c d vol .number ≡ 0 → ChangePassed
   unfolding changeRefusal
   change-passed z =
       let ten = or-none (test 10 (fileAllowed (c .file) vol) 0) _ z in
       let lone = or-none (loneRefusal d) _ (ten .1) in
       let e : List ℕ = entryIn (c .file) (entriesIn vol) in
       let change = test-passed 21 (changeAllowed (c .place) (length (c .old)) (length (c .new)) e d) _ (omega arith) (lone .1) in
-      let one = test-passed 1 (lengthAllowed (length (amendVolume rule c d vol))) 0 (omega arith) (change .1) in
+      let one = test-passed 1 (lengthAllowed (length (amendVolume rules c d vol))) 0 (omega arith) (change .1) in
       record {
         file-right = test-passed 10 (fileAllowed (c .file) vol) 0 (omega arith) (ten .0) .0;
         lone = lone .0;

@@ -13,21 +13,24 @@
 --   amendedList f e list   the list area with the entry e for file f
 --   amendedData w c m d    the data area d after the change c, with m bytes: w is the file's coefficient
 --   amendedSize e vol      the data size of the volume vol, where e is the file's entry as it now is
---   amendedBody rule c e vol, amendVolume rule c e vol     the bytes from 32 on of the volume vol, and all of them, after the change c
--- The rule for the coefficients is any: `rule f v` is that of file f in volume v.
+--   weightIn rules f vol   the coefficient of file f in the volume vol, by the rule of the volume's code
+--   amendedBody rules c e vol, amendVolume rules c e vol   the bytes from 32 on of the volume vol, and all of them, after the change c
+-- The rules for the coefficients are any: `rules k f v` is that of file f in volume v of the code k.
 -- Assumes nothing.
 use mathlib.Core.Path.{_≡_}
 use mathlib.Core.Bool.{cond}
 use mathlib.Core.List.{List, [], _∷_, _++_, map, flatten}
 use Prim.Native.Nat.{ℕ, zero, suc, _+_, _-_, _≤_, max}
 use lib.ListN.{length, take, drop, getD, set, replicate}
+use Rattle.codes.specs.declared.Code.{Code}
 use Rattle.little_endian.specs.Bytes.{toLe}
 use Rattle.md5.specs.Digest.{md5}
 use Rattle.mul_add.specs.MulAdd.{mulAdd}
 use Rattle.entries.specs.Entry.{statusOf, fileSizeOf, isSaved}
 use Rattle.entries.specs.Walk.{entriesOf}
-use Rattle.par1_rules.specs.Layout.{volumeNumberOf, dataSizeOf, listOf, dataOf}
+use Rattle.par1_rules.specs.Layout.{versionOf, volumeNumberOf, dataSizeOf, listOf, dataOf}
 use Rattle.par1_rules.specs.Hashes.{setHash}
+use Rattle.par1_rules.specs.Rules.{codeIn}
 use Rattle.par1_set.specs.Files.{File, noFile}
 
 pub record Change : Type 0 where
@@ -87,15 +90,19 @@ amendedData w c m area =
 abbrev pub amendedSize : List ℕ → List ℕ → ℕ
 amendedSize e vol = max (dataSizeOf vol) (fileSizeOf e)
 
+-- document 02, 2026-13: "amending follows it", the code of the volume
+abbrev pub weightIn : (Code → ℕ → ℕ → ℕ) → ℕ → List ℕ → ℕ
+weightIn rules f vol = rules (codeIn (versionOf vol)) f (volumeNumberOf vol)
+
 -- "only the amended parity bytes, that entry's size and hashes, the set hash, .. the data size and its new tail may differ from before":
 -- at 48 the numbers before the data size stay
-unfoldable pub amendedBody : (ℕ → ℕ → ℕ) → Change → List ℕ → List ℕ → List ℕ
-amendedBody rule c e vol =
+unfoldable pub amendedBody : (Code → ℕ → ℕ → ℕ) → Change → List ℕ → List ℕ → List ℕ
+amendedBody rules c e vol =
     let list : List ℕ = amendedList (c .file) e (listOf vol) in
     let m : ℕ = amendedSize e vol in
-    let area : List ℕ = amendedData (rule (c .file) (volumeNumberOf vol)) c m (dataOf vol) in
+    let area : List ℕ = amendedData (weightIn rules (c .file) vol) c m (dataOf vol) in
     flatten (setHash (entriesOf list .pieces) ∷ take 40 (drop 48 vol) ∷ toLe 8 m ∷ list ∷ area ∷ [])
 
 -- and the control hash: signature, version and program stay
-unfoldable pub amendVolume : (ℕ → ℕ → ℕ) → Change → List ℕ → List ℕ → List ℕ
-amendVolume rule c e vol = let body : List ℕ = amendedBody rule c e vol in flatten (take 16 vol ∷ md5 body ∷ body ∷ [])
+unfoldable pub amendVolume : (Code → ℕ → ℕ → ℕ) → Change → List ℕ → List ℕ → List ℕ
+amendVolume rules c e vol = let body : List ℕ = amendedBody rules c e vol in flatten (take 16 vol ∷ md5 body ∷ body ∷ [])

@@ -6,9 +6,9 @@
 --   changeAllowed p a b e d    whether it is, in the file with the entry e, and d is an entry that the file may then have
 --   entryIn f es               the entry of file f among the entries es
 --   fileAllowed f vol          whether vol is a volume, and f one of its files
---   changeRefusal rule c d vol     the refusal by the tests after those of reading and before the last, with the number 0 where there is none
---   amendRefusal rule c d vol r    that by all tests between the two 14s, where r is what reading the volume gives
---   amendOf rule n c d out     what the call gives: the volume is the first n bytes of out
+--   changeRefusal rules c d vol    the refusal by the tests after those of reading and before the last, with the number 0 where there is none
+--   amendRefusal rules c d vol r   that by all tests between the two 14s, where r is what reading the volume gives
+--   amendOf rules n c d out    what the call gives: the volume is the first n bytes of out
 -- Assumes nothing.
 use mathlib.Core.Bool.{Bool, cond, _&&_, _||_}
 use mathlib.Core.List.{List, []}
@@ -20,6 +20,7 @@ use Rattle.refusals.specs.declared.Refusal.{Refusal}
 use Rattle.lent_bytes.specs.Equal.{equal}
 use Rattle.lent_bytes.specs.Writing.{refused, writtenUnless}
 use Rattle.lent_bytes.specs.declared.Writing.{Writing}
+use Rattle.codes.specs.declared.Code.{Code}
 use Rattle.entries.specs.Entry.{statusOf, fileSizeOf, nameOf}
 use Rattle.entries.specs.Numbering.{savedOf}
 use Rattle.parity.specs.Parity.{isFile}
@@ -52,19 +53,19 @@ abbrev pub fileAllowed : ℕ → List ℕ → Bool
 fileAllowed f vol = leb 1 (volumeNumberOf vol) && isFile (length (savedOf (entriesIn vol))) f
 
 -- "10, for an index too; 16 to 18 for the new entry; 21 ..; 1"
-unfoldable pub changeRefusal : (ℕ → ℕ → ℕ) → Change → List ℕ → List ℕ → Refusal
-changeRefusal rule c d vol =
+unfoldable pub changeRefusal : (Code → ℕ → ℕ → ℕ) → Change → List ℕ → List ℕ → Refusal
+changeRefusal rules c d vol =
     let stretch : Bool = changeAllowed (c .place) (length (c .old)) (length (c .new)) (entryIn (c .file) (entriesIn vol)) d in
-    let short : Bool = lengthAllowed (length (amendVolume rule c d vol)) in
+    let short : Bool = lengthAllowed (length (amendVolume rules c d vol)) in
     orElse (test 10 (fileAllowed (c .file) vol) 0) (orElse (loneRefusal d) (bare (test 21 stretch (test 1 short 0))))
 
 -- "those of reading" come first
-abbrev pub amendRefusal : (ℕ → ℕ → ℕ) → Change → List ℕ → List ℕ → Reading → Refusal
-amendRefusal rule c d vol (reading.Accepted p) = changeRefusal rule c d vol
-amendRefusal rule c d vol (reading.Refused r) = r
+abbrev pub amendRefusal : (Code → ℕ → ℕ → ℕ) → Change → List ℕ → List ℕ → Reading → Refusal
+amendRefusal rules c d vol (reading.Accepted p) = changeRefusal rules c d vol
+amendRefusal rules c d vol (reading.Refused r) = r
 
 -- "14 if the length passes the room; .. ; 14"
-unfoldable pub amendOf : (ℕ → ℕ → ℕ) → ℕ → Change → List ℕ → List ℕ → Writing × List ℕ
-amendOf rule n c d out =
+unfoldable pub amendOf : (Code → ℕ → ℕ → ℕ) → ℕ → Change → List ℕ → List ℕ → Writing × List ℕ
+amendOf rules n c d out =
     let vol : List ℕ = take n out in
-    cond (leb n (length out)) (writtenUnless (amendRefusal rule c d vol (readOf vol)) (amendVolume rule c d vol) out) (refused (bare 14) out)
+    cond (leb n (length out)) (writtenUnless (amendRefusal rules c d vol (readOf vol)) (amendVolume rules c d vol) out) (refused (bare 14) out)

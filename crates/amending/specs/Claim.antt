@@ -1,4 +1,5 @@
--- Request 2026-05: an amended volume is the one written afresh from the files as they are now.
+-- Request 2026-05: an amended volume is the one written afresh from the files as they are now, for each code (document 02, 2026-13: "amending
+-- follows it").
 --
 --   AmendRight c fs        the change c may be made to the files fs and their volumes
 --   entryAfter c fs        the changed file's entry as it now is
@@ -7,7 +8,7 @@
 --   AmendedAfresh          after any run, a volume true at the start equals one written afresh
 --   Kept c k n f g         what an amendment of the volume f to g leaves as it was
 --   AmendedKept            every amendment of a true volume, with a true entry, leaves that
---   Holds p v fs n out     volume v of the files fs stands in the first n bytes of the room
+--   Holds k p v fs n out   volume v of the code k of the files fs stands in the first n bytes of the room
 --   AmendAccepted          a change that may be made is made
 --   Calls, CallsAfresh     after any run of calls, refused ones too, a volume true at the start equals one written afresh
 --   NoSuchFile f vol       10: the volume vol has no file f, or is an index
@@ -30,16 +31,17 @@ use Rattle.refusals.specs.Tests.{bare}
 use Rattle.refusals.specs.declared.Refusal.{Refusal}
 use Rattle.lent_bytes.specs.Writing.{refused, accepted}
 use Rattle.lent_bytes.specs.declared.Writing.the-variants.{Written, Refused}
+use Rattle.codes.specs.declared.Code.{Code}
 use Rattle.entries.specs.Entry.{statusOf, fileSizeOf, nameOf, fileSizeAllowed}
 use Rattle.entries.specs.Numbering.{savedOf}
 use Rattle.par1.specs.Checking.{loneRefusal}
 use Rattle.par1_read.specs.Reading.{entriesIn, readOf}
 use Rattle.par1_read.specs.declared.reading.Parts.{Parts}
 use Rattle.par1_read.specs.declared.reading.Reading.the-variants as reading
-use Rattle.par1_rules.specs.Layout.{version, volumeNumberOf, dataSizeOf, listOf, dataOf}
+use Rattle.par1_rules.specs.Layout.{versionFor, volumeNumberOf, dataSizeOf, listOf, dataOf}
 use Rattle.par1_set.specs.Files.{File, noFile, fileCount, contentsOf, entryFor, listFor, dataSizeFor}
 use Rattle.par1_set.specs.Volume.{volumeFor, VolumeRight}
-use Rattle.parity.specs.Coefficient.{coefficient}
+use Rattle.parity.specs.Coefficient.{ruleOf}
 use Rattle.amending.specs.Amending.{Change, ChangeRight, spliced, changed, placeOf, amended, amendVolume}
 use Rattle.amending.specs.Call.{entryIn, amendOf}
 
@@ -58,7 +60,7 @@ entryAfter c fs = entryFor (changed c (getD fs (placeOf fs (c .file)) noFile))
 pub data Run : List File → List ℕ → List File → List ℕ → Type 0 where
   run-none : {fs : List File} {vol : List ℕ} → Run fs vol fs vol
   run-more : {fs gs : List File} {vol w : List ℕ} (c : Change) → AmendRight c fs
-      → Run (amended c fs) (amendVolume coefficient c (entryAfter c fs) vol) gs w → Run fs vol gs w
+      → Run (amended c fs) (amendVolume ruleOf c (entryAfter c fs) vol) gs w → Run fs vol gs w
 
 -- proved: proofs/Amends.antt, `amended-right`
 abbrev pub AmendedRight : Type 0
@@ -68,8 +70,8 @@ AmendedRight = (v : ℕ) (c : Change) (fs : List File) → VolumeRight v fs → 
 -- proved: proofs/Amends.antt, `amended-afresh`
 abbrev pub AmendedAfresh : Type 0
 AmendedAfresh =
-    (program v : ℕ) (fs gs : List File) (w : List ℕ) → program < 2 ^ 32 → VolumeRight v fs
-    → Run fs (volumeFor version coefficient program v fs) gs w → w ≡ volumeFor version coefficient program v gs
+    (code : Code) (program v : ℕ) (fs gs : List File) (w : List ℕ) → program < 2 ^ 32 → VolumeRight v fs
+    → Run fs (volumeFor (versionFor code) (ruleOf code) program v fs) gs w → w ≡ volumeFor (versionFor code) (ruleOf code) program v gs
 
 -- "only the amended parity bytes, that entry's size and hashes, the set hash, the control hash and, if the greatest size grew, the data
 -- size and its new tail may differ from before": the entry is at this place of the list, and the file grew to this size
@@ -91,21 +93,21 @@ pub record Kept (c : Change) (place grown : ℕ) (before after : List ℕ) : Typ
 -- of a true volume, with the file's true entry; proved: proofs/KeptParts.antt, `amended-kept`
 abbrev pub AmendedKept : Type 0
 AmendedKept =
-    (program v : ℕ) (c : Change) (fs : List File) → program < 2 ^ 32 → VolumeRight v fs → AmendRight c fs
-    → let vol : List ℕ = volumeFor version coefficient program v fs in
-    Kept c (placeOf fs (c .file)) (length (spliced c (contentsOf fs (c .file)))) vol (amendVolume coefficient c (entryAfter c fs) vol)
+    (code : Code) (program v : ℕ) (c : Change) (fs : List File) → program < 2 ^ 32 → VolumeRight v fs → AmendRight c fs
+    → let vol : List ℕ = volumeFor (versionFor code) (ruleOf code) program v fs in
+    Kept c (placeOf fs (c .file)) (length (spliced c (contentsOf fs (c .file)))) vol (amendVolume ruleOf c (entryAfter c fs) vol)
 
 -- ---- the calls
 
-abbrev pub Holds : ℕ → ℕ → List File → ℕ → List ℕ → Type 0
-Holds program v fs n out = (n ≤ length out) × (take n out ≡ volumeFor version coefficient program v fs)
+abbrev pub Holds : Code → ℕ → ℕ → List File → ℕ → List ℕ → Type 0
+Holds code program v fs n out = (n ≤ length out) × (take n out ≡ volumeFor (versionFor code) (ruleOf code) program v fs)
 
 -- proved: proofs/AmendCalls.antt, `amend-accepted`
 abbrev pub AmendAccepted : Type 0
 AmendAccepted =
-    (program v : ℕ) (fs : List File) (c : Change) (n : ℕ) (out : List ℕ) → program < 2 ^ 32 → VolumeRight v fs → Holds program v fs n out
-    → AmendRight c fs → length (volumeFor version coefficient program v (amended c fs)) ≤ length out
-    → amendOf coefficient n c (entryAfter c fs) out ≡ accepted (volumeFor version coefficient program v (amended c fs)) out
+    (code : Code) (program v : ℕ) (fs : List File) (c : Change) (n : ℕ) (out : List ℕ) → program < 2 ^ 32 → VolumeRight v fs → Holds code program v fs n out
+    → AmendRight c fs → length (volumeFor (versionFor code) (ruleOf code) program v (amended c fs)) ≤ length out
+    → amendOf ruleOf n c (entryAfter c fs) out ≡ accepted (volumeFor (versionFor code) (ruleOf code) program v (amended c fs)) out
 
 -- the calls that take the files fs, a volume's length n and the room out to the files gs, the length m and the room w; a call that is
 -- refused may be any
@@ -114,16 +116,16 @@ pub data Calls : List File → ℕ → List ℕ → List File → ℕ → List �
   -- "given true old bytes and entries"
   calls-written : {fs gs : List File} {n k m : ℕ} {out room w : List ℕ} (c : Change)
       → take (length (c .old)) (drop (c .place) (contentsOf fs (c .file))) ≡ c .old
-      → amendOf coefficient n c (entryAfter c fs) out ≡ (Written k, room) → Calls (amended c fs) k room gs m w → Calls fs n out gs m w
+      → amendOf ruleOf n c (entryAfter c fs) out ≡ (Written k, room) → Calls (amended c fs) k room gs m w → Calls fs n out gs m w
   calls-refused : {fs gs : List File} {n m : ℕ} {r : Refusal} {out room w : List ℕ} (c : Change) (d : List ℕ)
-      → amendOf coefficient n c d out ≡ (Refused r, room) → Calls fs n room gs m w → Calls fs n out gs m w
+      → amendOf ruleOf n c d out ≡ (Refused r, room) → Calls fs n room gs m w → Calls fs n out gs m w
 
 -- "After any run of such amendments to a volume true at the start, .. it equals one written afresh from the files as they are now", which
 -- keep the rules; proved: proofs/AmendCalls.antt, `calls-afresh`
 abbrev pub CallsAfresh : Type 0
 CallsAfresh =
-    (program v : ℕ) (fs gs : List File) (n m : ℕ) (out w : List ℕ) → program < 2 ^ 32 → VolumeRight v fs → Holds program v fs n out
-    → Calls fs n out gs m w → VolumeRight v gs × Holds program v gs m w
+    (code : Code) (program v : ℕ) (fs gs : List File) (n m : ℕ) (out w : List ℕ) → program < 2 ^ 32 → VolumeRight v fs → Holds code program v fs n out
+    → Calls fs n out gs m w → VolumeRight v gs × Holds code program v gs m w
 
 -- ---- "Refusals, in this order: 14 if the length passes the room; those of reading; 10, for an index too; 16 to 18 for the new entry; 21 ..;
 -- ---- 1; 14."
@@ -143,34 +145,34 @@ pub data WrongChange (c : Change) (e d : List ℕ) : Type 0 where
   another-size : (fileSizeOf d ≡ fileSizeOf e + (length (c .new) - length (c .old)) → ⊥) → WrongChange c e d
 
 -- of a volume that is read: each test with those before it passed
-pub data Fails (rule : ℕ → ℕ → ℕ) (c : Change) (d vol out : List ℕ) : ℕ → Type 0 where
-  no-file : NoSuchFile (c .file) vol → Fails rule c d vol out 10
-  bad-entry : {k : ℕ} → (NoSuchFile (c .file) vol → ⊥) → loneRefusal d ≡ suc k → Fails rule c d vol out (suc k)
-  bad-change : (NoSuchFile (c .file) vol → ⊥) → loneRefusal d ≡ 0 → WrongChange c (entryIn (c .file) (entriesIn vol)) d → Fails rule c d vol out 21
+pub data Fails (rules : Code → ℕ → ℕ → ℕ) (c : Change) (d vol out : List ℕ) : ℕ → Type 0 where
+  no-file : NoSuchFile (c .file) vol → Fails rules c d vol out 10
+  bad-entry : {k : ℕ} → (NoSuchFile (c .file) vol → ⊥) → loneRefusal d ≡ suc k → Fails rules c d vol out (suc k)
+  bad-change : (NoSuchFile (c .file) vol → ⊥) → loneRefusal d ≡ 0 → WrongChange c (entryIn (c .file) (entriesIn vol)) d → Fails rules c d vol out 21
   too-long : (NoSuchFile (c .file) vol → ⊥) → loneRefusal d ≡ 0 → (WrongChange c (entryIn (c .file) (entriesIn vol)) d → ⊥)
-      → maxVolumeLength < length (amendVolume rule c d vol) → Fails rule c d vol out 1
+      → maxVolumeLength < length (amendVolume rules c d vol) → Fails rules c d vol out 1
   no-room : (NoSuchFile (c .file) vol → ⊥) → loneRefusal d ≡ 0 → (WrongChange c (entryIn (c .file) (entriesIn vol)) d → ⊥)
-      → length (amendVolume rule c d vol) ≤ maxVolumeLength → length out < length (amendVolume rule c d vol) → Fails rule c d vol out 14
+      → length (amendVolume rules c d vol) ≤ maxVolumeLength → length out < length (amendVolume rules c d vol) → Fails rules c d vol out 14
 
-pub data Refuses (rule : ℕ → ℕ → ℕ) (n : ℕ) (c : Change) (d out : List ℕ) : Refusal → Type 0 where
-  past-room : length out < n → Refuses rule n c d out (bare 14)
-  unread : {r : Refusal} → n ≤ length out → readOf (take n out) ≡ reading.Refused r → Refuses rule n c d out r
-  fails : {p : Parts} {k : ℕ} → n ≤ length out → readOf (take n out) ≡ reading.Accepted p → Fails rule c d (take n out) out k
-      → Refuses rule n c d out (bare k)
+pub data Refuses (rules : Code → ℕ → ℕ → ℕ) (n : ℕ) (c : Change) (d out : List ℕ) : Refusal → Type 0 where
+  past-room : length out < n → Refuses rules n c d out (bare 14)
+  unread : {r : Refusal} → n ≤ length out → readOf (take n out) ≡ reading.Refused r → Refuses rules n c d out r
+  fails : {p : Parts} {k : ℕ} → n ≤ length out → readOf (take n out) ≡ reading.Accepted p → Fails rules c d (take n out) out k
+      → Refuses rules n c d out (bare k)
 
 -- proved: proofs/Refusals.antt, `amend-refused`
 abbrev pub AmendRefused : Type 0
 AmendRefused =
-    (rule : ℕ → ℕ → ℕ) (n : ℕ) (c : Change) (d out : List ℕ) (r : Refusal) → Refuses rule n c d out r → amendOf rule n c d out ≡ refused r out
+    (rules : Code → ℕ → ℕ → ℕ) (n : ℕ) (c : Change) (d out : List ℕ) (r : Refusal) → Refuses rules n c d out r → amendOf rules n c d out ≡ refused r out
 
 -- proved: proofs/Refusals.antt, `refused-only`
 abbrev pub RefusedOnly : Type 0
 RefusedOnly =
-    (rule : ℕ → ℕ → ℕ) (n : ℕ) (c : Change) (d out : List ℕ) (r : Refusal) (room : List ℕ) → amendOf rule n c d out ≡ (Refused r, room)
-    → Refuses rule n c d out r × (room ≡ out)
+    (rules : Code → ℕ → ℕ → ℕ) (n : ℕ) (c : Change) (d out : List ℕ) (r : Refusal) (room : List ℕ) → amendOf rules n c d out ≡ (Refused r, room)
+    → Refuses rules n c d out r × (room ≡ out)
 
 -- proved: proofs/Refusals.antt, `room-kept`
 abbrev pub RoomKept : Type 0
 RoomKept =
-    (rule : ℕ → ℕ → ℕ) (n : ℕ) (c : Change) (d out : List ℕ) (k : ℕ) (room : List ℕ) → amendOf rule n c d out ≡ (Written k, room)
+    (rules : Code → ℕ → ℕ → ℕ) (n : ℕ) (c : Change) (d out : List ℕ) (k : ℕ) (room : List ℕ) → amendOf rules n c d out ≡ (Written k, room)
     → (length room ≡ length out) × (drop k room ≡ drop k out)

@@ -5,10 +5,10 @@
 --   testsRefusal ok p a b e d  the refusal by the tests 10, 16 to 18 and 21
 --   PartsFit p a f q n         what is known where these tests have passed: the volume has the parts p, the entry of file f starts a bytes into
 --                              the list, q is the place, and the file has n bytes now
---   planFrom rule p a f q n    what an amendment then changes: the places and sizes of the volume after it
---   sizedPlan rule p a f q n   that, or 1, where the volume gets too long
---   planFor rule c d vol       what the amendment of the volume vol changes
---   planOf rule c d vol        that, or the refusal by the tests between the two 14s
+--   planFrom rules p a f q n   what an amendment then changes: the places and sizes of the volume after it
+--   sizedPlan rules p a f q n  that, or 1, where the volume gets too long
+--   planFor rules c d vol      what the amendment of the volume vol changes
+--   planOf rules c d vol       that, or the refusal by the tests between the two 14s
 --   cleared n m t              the room t with zeros from n to m
 --   summed w n m old new t     w times the old and the new bytes added from n on, in the data that ends at m
 --   hashedSet l t              the set hash of a list of l bytes made new
@@ -27,6 +27,7 @@ use Rattle.refusals.specs.declared.Refusal.{Refusal}
 use Rattle.little_endian.specs.Bytes.{toLe}
 use Rattle.md5.specs.Digest.{md5}
 use Rattle.mul_add.specs.MulAdd.{mulAdd}
+use Rattle.codes.specs.declared.Code.{Code}
 use Rattle.entries.specs.Entry.{fileSizeOf}
 use Rattle.entries.specs.Numbering.{savedOf}
 use Rattle.entries.specs.Walk.{entriesOf}
@@ -59,28 +60,28 @@ pub record PartsFit (p : Parts) (from file place size : ℕ) : Type 0 where
   pub file-small : file < 256
   pub number-small : p .number < 256
 
-abbrev pub planFrom : (ℕ → ℕ → ℕ) → Parts → ℕ → ℕ → ℕ → ℕ → Plan
-planFrom rule p from file place size =
+abbrev pub planFrom : (Code → ℕ → ℕ → ℕ) → Parts → ℕ → ℕ → ℕ → ℕ → Plan
+planFrom rules p from file place size =
     record {
       «entry_at» = 96 + from;
       «list_size» = p .«list_size»;
       «data_size» = max (p .«data_size») size;
       «stretch_at» = 96 + p .«list_size» + place;
-      weight = rule file (p .number);
+      weight = rules (p .code) file (p .number);
       total = 96 + p .«list_size» + max (p .«data_size») size;
     }
 
-unfoldable pub sizedPlan : (ℕ → ℕ → ℕ) → Parts → ℕ → ℕ → ℕ → ℕ → Planned
-sizedPlan rule p from file place size =
-    cond (lengthAllowed (96 + p .«list_size» + max (p .«data_size») size)) (Amend (planFrom rule p from file place size)) (Refused (bare 1))
+unfoldable pub sizedPlan : (Code → ℕ → ℕ → ℕ) → Parts → ℕ → ℕ → ℕ → ℕ → Planned
+sizedPlan rules p from file place size =
+    cond (lengthAllowed (96 + p .«list_size» + max (p .«data_size») size)) (Amend (planFrom rules p from file place size)) (Refused (bare 1))
 
-abbrev pub planFor : (ℕ → ℕ → ℕ) → Change → List ℕ → List ℕ → Plan
-planFor rule c d vol =
-    planFrom rule (partsFrom vol (length (savedOf (entriesIn vol)))) (spanIn (entriesIn vol) (c .file - 1) .from) (c .file) (c .place) (fileSizeOf d)
+abbrev pub planFor : (Code → ℕ → ℕ → ℕ) → Change → List ℕ → List ℕ → Plan
+planFor rules c d vol =
+    planFrom rules (partsFrom vol (length (savedOf (entriesIn vol)))) (spanIn (entriesIn vol) (c .file - 1) .from) (c .file) (c .place) (fileSizeOf d)
 
-unfoldable pub planOf : (ℕ → ℕ → ℕ) → Change → List ℕ → List ℕ → Planned
-planOf rule c d vol =
-    let r : Refusal = amendRefusal rule c d vol (readOf vol) in cond (eqb (r .number) 0) (Amend (planFor rule c d vol)) (Refused r)
+unfoldable pub planOf : (Code → ℕ → ℕ → ℕ) → Change → List ℕ → List ℕ → Planned
+planOf rules c d vol =
+    let r : Refusal = amendRefusal rules c d vol (readOf vol) in cond (eqb (r .number) 0) (Amend (planFor rules c d vol)) (Refused r)
 
 -- ---- the writes
 

@@ -1,6 +1,6 @@
 // Volumes kept current while their files change (document 02, 2026-05).
 ghost use mathlib.Core.Path.{_≡_};
-ghost use Rattle.parity.specs.Coefficient.{coefficient};
+ghost use Rattle.parity.specs.Coefficient.{ruleOf};
 ghost use Rattle.amending.specs.Call.{changeOf, amendOf};
 
 mod finding;
@@ -24,7 +24,7 @@ pub fn amend(
     entry: &[u8],
 ) -> Writing
     ensures { λ r. ⌜ (r, now (volume .exit))
-        ≡ amendOf coefficient length (changeOf file place (now (old .entry)) (now (new .entry))) (now (entry .entry)) (now (volume .entry)) ⌝ }
+        ≡ amendOf ruleOf length (changeOf file place (now (old .entry)) (now (new .entry))) (now (entry .entry)) (now (volume .entry)) ⌝ }
 {
     if (volume.len() as u64) < length {
         return Writing::Refused(bare(refusals::NO_ROOM));

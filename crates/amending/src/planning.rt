@@ -4,7 +4,7 @@ ghost use Prim.Native.Nat.{_+_, _-_, max};
 ghost use mathlib.Core.Bool.{_&&_};
 ghost use lib.Dec.{leb, eqb};
 ghost use Rattle.entries.specs.Entry.{nameOf};
-ghost use Rattle.parity.specs.Coefficient.{coefficient};
+ghost use Rattle.parity.specs.Coefficient.{ruleOf};
 ghost use Rattle.parity.specs.Parity.{isFile};
 ghost use Rattle.par1_read.specs.Reading.{readOf};
 ghost use Rattle.par1_read.specs.declared.reading.Reading.the-variants.{Accepted};
@@ -46,7 +46,7 @@ pub(crate) fn plan_for(
     entry: &[u8],
 ) -> Planned
     ensures { λ r. ⌜ r
-        ≡ planOf coefficient (changeOf file place (now (old .entry)) (now (new .entry))) (now (entry .entry)) (now (volume .entry)) ⌝ }
+        ≡ planOf ruleOf (changeOf file place (now (old .entry)) (now (new .entry))) (now (entry .entry)) (now (volume .entry)) ⌝ }
 {
     match par1::read(volume) {
         Reading::Accepted(parts) => plan_read(volume, parts, file, place, old, new, entry),
@@ -66,7 +66,7 @@ fn plan_read(
 ) -> Planned
     requires { ⌜ readOf (now volume) ≡ Accepted parts ⌝ }
     ensures { λ r. ⌜ r
-        ≡ planOf coefficient (changeOf file place (now (old .entry)) (now (new .entry))) (now (entry .entry)) (now (volume .entry)) ⌝ }
+        ≡ planOf ruleOf (changeOf file place (now (old .entry)) (now (new .entry))) (now (entry .entry)) (now (volume .entry)) ⌝ }
 {
     let list = layout::part(volume, layout::HEADER_LENGTH, parts.list_size as usize);
     let span = finding::entry_of(list, file);
@@ -96,7 +96,7 @@ fn plan_read(
 // `size` bytes now; or 1, where the volume gets too long.
 fn sized_plan(parts: Parts, from: usize, file: u64, place: u64, size: u64) -> Planned
     requires { ⌜ PartsFit parts from file place size ⌝ }
-    ensures { λ r. ⌜ r ≡ sizedPlan coefficient parts from file place size ⌝ }
+    ensures { λ r. ⌜ r ≡ sizedPlan ruleOf parts from file place size ⌝ }
 {
     let list_size = parts.list_size as usize;
     let data_size = greater(parts.data_size, size);
@@ -104,12 +104,13 @@ fn sized_plan(parts: Parts, from: usize, file: u64, place: u64, size: u64) -> Pl
     if refusals::MAX_VOLUME_LENGTH - data_start < data_size as usize {
         return Planned::Refused(bare(refusals::SIZE));
     }
+    let code = parts.code;
     Planned::Amend(Plan {
         entry_at: layout::HEADER_LENGTH + from,
         list_size,
         data_size,
         stretch_at: data_start + place as usize,
-        weight: parity::coefficient_of(file as u8, parts.number as u8),
+        weight: parity::coefficient_of(code, file as u8, parts.number as u8),
         total: data_start + data_size as usize,
     })
 }

@@ -1,7 +1,7 @@
 -- `amending::planning::plan_for` meets its contract, by what reading gave.
 -- Assumes nothing.
 use mathlib.Core.Path.{sym, _∙_}
-use Rattle.parity.specs.Coefficient.{coefficient}
+use Rattle.parity.specs.Coefficient.{ruleOf}
 use Rattle.amending.proofs.PlanLaws.{plan-unread}
 use borrow.Author.Needs.{needs}
 use Rattle.amending.proofs.planning.plan_for.Statement.{statement}
@@ -11,7 +11,7 @@ plan-read-requires : tie.Need-plan-read-requires
 plan-read-requires c κs = sym (c .before .before .before .read .ensures) ∙ c .before .parts .given .1
 
 returns-2 : tie.Need-returns-2
-returns-2 c = plan-unread coefficient _ _ _ (sym (c .before .before .before .read .ensures) ∙ c .before .refusal .given .1)
+returns-2 c = plan-unread ruleOf _ _ _ (sym (c .before .before .before .read .ensures) ∙ c .before .refusal .given .1)
 
 pub plan-for-spec : {M : Type 1} → statement M
 plan-for-spec =

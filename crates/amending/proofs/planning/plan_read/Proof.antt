@@ -6,7 +6,7 @@ use mathlib.Core.List.{List}
 use Prim.Native.Nat.{ℕ, _-_}
 use lib.ListN.{length}
 use denote.Ref.{now}
-use Rattle.parity.specs.Coefficient.{coefficient}
+use Rattle.parity.specs.Coefficient.{ruleOf}
 use Rattle.par1_read.specs.Reading.{entriesIn}
 use Rattle.amending.specs.Call.{changeOf, entryIn, fileAllowed}
 use Rattle.amending.specs.Plan.{spanIn, testsRefusal, PartsFit, sizedPlan}
@@ -45,7 +45,7 @@ returns c =
     let t = c .before .before in
     let k = t .before .before .before .before .before .before .before .before .before in
     let a = k .args in
-    plan-refused coefficient (changeOf (a .file) (a .place) (now (a .old)) (now (a .new))) (now (a .entry)) (now (a .volume)) (k .pre)
+    plan-refused ruleOf (changeOf (a .file) (a .place) (now (a .old)) (now (a .new))) (now (a .entry)) (now (a .volume)) (k .pre)
     (tests-are t) (c .if1 .taken)
 
 sized-plan-requires : tie.Need-sized-plan-requires
@@ -55,7 +55,7 @@ sized-plan-requires c κs =
     let k = e .before .before .before .before .before .before in
     let a = k .args in
     subst (PartsFit (a .parts) (e .entry-of .result .from) (a .file) (a .place)) (sym (c .read64 .ensures))
-    (parts-fit coefficient (changeOf (a .file) (a .place) (now (a .old)) (now (a .new))) (now (a .entry)) (now (a .volume)) (k .pre)
+    (parts-fit ruleOf (changeOf (a .file) (a .place) (now (a .old)) (now (a .new))) (now (a .entry)) (now (a .volume)) (k .pre)
     (tests-are t) (c .before .if1 .left) (start-is e))
 
 returns-2 : tie.Need-returns-2
@@ -65,8 +65,8 @@ returns-2 c =
     let k = e .before .before .before .before .before .before in
     let a = k .args in
     c .sized-plan .ensures
-    ∙ ap (sizedPlan coefficient (a .parts) (e .entry-of .result .from) (a .file) (a .place)) (c .before .read64 .ensures)
-    ∙ plan-sized coefficient (changeOf (a .file) (a .place) (now (a .old)) (now (a .new))) (now (a .entry)) (now (a .volume)) (k .pre)
+    ∙ ap (sizedPlan ruleOf (a .parts) (e .entry-of .result .from) (a .file) (a .place)) (c .before .read64 .ensures)
+    ∙ plan-sized ruleOf (changeOf (a .file) (a .place) (now (a .old)) (now (a .new))) (now (a .entry)) (now (a .volume)) (k .pre)
     (tests-are t) (c .before .before .if1 .left) (start-is e)
 
 pub plan-read-spec : {M : Type 1} → statement M
