@@ -23,7 +23,7 @@ use Rattle.entries.specs.Walk.{entriesOf}
 use Rattle.parity.proofs.Changes.{stretched}
 use Rattle.par1_read.specs.Reading.{entriesIn}
 use Rattle.par1_rules.specs.Hashes.{setHash}
-use Rattle.par1_rules.specs.Layout.{volumeNumberOf, listSizeOf, dataSizeOf, listOf, dataOf}
+use Rattle.par1_rules.specs.Layout.{listSizeOf, dataSizeOf, listOf, dataOf}
 use Rattle.amending.specs.Amending.{Change, placeIn, amendedList, amendedData, amendedSize, weightIn, amendedBody, amendVolume}
 use Rattle.amending.specs.Call.{amendOf}
 use Rattle.amending.specs.Plan.{planFor, planOf, patched}
