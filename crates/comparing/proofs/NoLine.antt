@@ -23,7 +23,8 @@ use Rattle.entries.specs.Entry.{lengthOf}
 use Rattle.entries.specs.Walk.{entriesOf, totalsOf, walkedTo, walkOf}
 use Rattle.entries.specs.declared.Totals.{Totals}
 use Rattle.entries.specs.declared.Walked.the-variants as walked
-use Rattle.par1_rules.specs.Layout.{programOf, volumeNumberOf, dataSizeOf, listOf, dataOf}
+use Rattle.par1_rules.specs.Layout.{versionOf, programOf, volumeNumberOf, dataSizeOf, listOf, dataOf}
+use Rattle.par1_rules.specs.Rules.{codeIn}
 use Rattle.par1_read.specs.Reading.{entriesIn}
 use Rattle.par1_read.proofs.ReadingLaws.{Passed, read-tells}
 use Rattle.par1_write.specs.VolumeWriting.{volumeBytes}
@@ -142,6 +143,9 @@ module _ (f g : List ℕ) (c : Compared f g) (none : linesOf f g ≡ []) where
   no-member : (l : Line) → List·Memᴰ l (linesOf f g) → ⊥
   no-member l m = List·Memᴰ·not-nil (subst (List·Memᴰ l) none m)
 
+  same-version : versionOf f ≡ versionOf g
+  same-version = stable (versionOf f) (versionOf g) (λ d. no-member (head version-field) (head-named f g c version-field .1 d))
+
   same-program : programOf f ≡ programOf g
   same-program = stable (programOf f) (programOf g) (λ d. no-member (head program-field) (head-named f g c program-field .1 d))
 
@@ -204,8 +208,9 @@ module _ (f g : List ℕ) (c : Compared f g) (none : linesOf f g ≡ []) where
       let two = read-tells g (c .accepted-two .0) (c .accepted-two .1) .tests in
       let list : listOf f ≡ listOf g = list-joined f one ∙ ap flatten same-entries ∙ sym (list-joined g two) in
       sym (volume-again f (c .bytes-one) one)
-      ∙ ap₂ (λ (p n : ℕ). volumeBytes p n (listOf f) (dataOf f)) same-program same-number
-      ∙ ap₂ (λ (l d : List ℕ). volumeBytes (programOf g) (volumeNumberOf g) l d) list same-bytes
+      ∙ ap (λ (v : ℕ). volumeBytes (codeIn v) (programOf f) (volumeNumberOf f) (listOf f) (dataOf f)) same-version
+      ∙ ap₂ (λ (p n : ℕ). volumeBytes (codeIn (versionOf g)) p n (listOf f) (dataOf f)) same-program same-number
+      ∙ ap₂ (λ (l d : List ℕ). volumeBytes (codeIn (versionOf g)) (programOf g) (volumeNumberOf g) l d) list same-bytes
       ∙ volume-again g (c .bytes-two) two
 
 -- ---- the claim
