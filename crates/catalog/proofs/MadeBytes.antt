@@ -4,11 +4,12 @@ use mathlib.Core.List.{List, [], _∷_, _++_, flatten}
 use Prim.Native.Nat.{ℕ, zero, suc, _+_, _<_}
 use native.Mathlib.Omega.{arith}
 use lib.ListN.{length, replicate}
+use Rattle.codes.specs.declared.Code.{Code}
 use Rattle.cut_lists.specs.All.{All, all-none, all-more}
 use Rattle.little_endian.specs.Bytes.{Bytes, toLe, numbers}
 use Rattle.little_endian.proofs.Numbers.{bytes-append, bytes-toLe}
 use Rattle.md5.specs.Digest.{output, md5}
-use Rattle.par1_rules.specs.Layout.{signature, version}
+use Rattle.par1_rules.specs.Layout.{signature, versionFor}
 use Rattle.par1_rules.specs.Hashes.{setHash}
 use Rattle.entries.specs.Walk.{entriesOf}
 use Rattle.par1_write.specs.VolumeWriting.{bodyBytes, headBytes, volumeBytes}
@@ -55,10 +56,10 @@ bytes-entry m status name b =
     bytes-flatten (all-more (bytes-toLe 8 (56 + length name)) (all-more (bytes-toLe 8 status) (all-more (bytes-toLe 8 (length m))
     (all-more (bytes-md5 m) (all-more (bytes-md5 _) (all-more b all-none))))))
 
-pub bytes-volume : (program number : ℕ) (list area : List ℕ) → Bytes list → Bytes area → Bytes (volumeBytes program number list area)
+pub bytes-volume : (c : Code) (program number : ℕ) (list area : List ℕ) → Bytes list → Bytes area → Bytes (volumeBytes c program number list area)
 unfolding volumeBytes bodyBytes headBytes
-bytes-volume program number list area b c =
+bytes-volume c program number list area b d =
     let body : List ℕ = bodyBytes (length (entriesOf list .pieces)) number list area in
-    bytes-append (headBytes program body) body
-    (bytes-flatten (all-more (bytes-toLe 8 signature) (all-more (bytes-toLe 4 version) (all-more (bytes-toLe 4 program) (all-more (bytes-md5 body) all-none)))))
-    (bytes-flatten (all-more (bytes-set _) (all-more (bytes-numbers _) (all-more b (all-more c all-none)))))
+    bytes-append (headBytes c program body) body
+    (bytes-flatten (all-more (bytes-toLe 8 signature) (all-more (bytes-toLe 4 (versionFor c)) (all-more (bytes-toLe 4 program) (all-more (bytes-md5 body) all-none)))))
+    (bytes-flatten (all-more (bytes-set _) (all-more (bytes-numbers _) (all-more b (all-more d all-none)))))

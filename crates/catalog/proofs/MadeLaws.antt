@@ -15,6 +15,7 @@ use lib.Dec.{eqb}
 use lib.ListN.{length, take, drop, replicate, length-append, length-map, length-replicate, length-drop}
 use lib.Seq.{take-at, take-add, length-take-le}
 use borrow.Author.Tests.{leb-true, le-leb, eqb-true, eq-eqb, ne-eqb}
+use Rattle.codes.specs.declared.Code.the-variants.{Powers}
 use Rattle.computed_tests.proofs.Tests.{and-both}
 use Rattle.cut_lists.specs.All.{All, all-none, all-more}
 use Rattle.cut_lists.specs.Pieces.{Cut, before}
@@ -227,10 +228,10 @@ pub record MadeFile (rs : List (List ℕ)) (number size : ℕ) (f : List ℕ) : 
   pub bytes : Bytes f
 
 abbrev pub madeIndex : List (List ℕ) → List ℕ
-madeIndex rs = volumeBytes 0 0 (madeList rs) []
+madeIndex rs = volumeBytes Powers 0 0 (madeList rs) []
 
 abbrev pub madeVolume : List (List ℕ) → List ℕ → List ℕ
-madeVolume rs r = volumeBytes 0 (numberOf r) (madeList rs) (replicate (greatestSize rs) 0)
+madeVolume rs r = volumeBytes Powers 0 (numberOf r) (madeList rs) (replicate (greatestSize rs) 0)
 
 -- the volume of the row r
 pub record VolumeMade (rs : List (List ℕ)) (r : List ℕ) : Type 0 where
@@ -256,13 +257,13 @@ module _ (rs : List (List ℕ)) (allowed : entryRowsAllowed 0 rs ≡ true) (few 
 
   made-file : (number : ℕ) (area : List ℕ) → number < 2 ^ 64 → Bytes area → length area ≤ maxFileSize
       → numberAllowed number (length (savedRows rs)) ≡ true → dataAllowed number (greatestSize rs) (length area) ≡ true
-      → MadeFile rs number (length area) (volumeBytes 0 number (madeList rs) area)
+      → MadeFile rs number (length area) (volumeBytes Powers 0 number (madeList rs) area)
   made-file number area small b short number-right data-right =
       let list : List ℕ = madeList rs in
-      let f : List ℕ = volumeBytes 0 number list area in
+      let f : List ℕ = volumeBytes Powers 0 number list area in
       let saved : length (savedOf (madeEntries rs)) ≡ length (savedRows rs) = ap length (saved-made all-made) ∙ length-map (savedRows rs) (λ r. madeEntry r) in
-      let back : ReadBack f 0 number list area =
-      volume-back 0 number list area (omega arith) small
+      let back : ReadBack f Powers 0 number list area =
+      volume-back Powers 0 number list area (omega arith) small
       (record {
         totals-of = totalsOf (madeEntries rs);
         walk-is = walk-made;
@@ -274,12 +275,12 @@ module _ (rs : List (List ℕ)) (allowed : entryRowsAllowed 0 rs ≡ true) (few 
       }) in
       let t = told f (back .read-is) in
       record {
-        parts = partsFor 0 number list area;
+        parts = partsFor Powers 0 number list area;
         read = back .read-is;
         entries-are = ap (λ (l : List ℕ). entriesOf l .pieces) (back .list-is) ∙ ap (λ (c : Cut). c .pieces) (entries-made all-made);
         number-is = sym (t .number-is);
         size-is = sym (t .size-is);
-        bytes = bytes-volume 0 number list area (bytes-list rs) b;
+        bytes = bytes-volume Powers 0 number list area (bytes-list rs) b;
       }
 
   pub index-made : MadeFile rs 0 0 (madeIndex rs)

@@ -9,17 +9,18 @@ use lib.Dec.{eqb}
 use lib.ListN.{length, length-map}
 use borrow.Author.Tests.{eqb-false}
 use Rattle.cut_lists.specs.All.{All, all-none, all-more}
+use Rattle.codes.specs.declared.Code.{Code}
 use Rattle.mul_add.specs.Once.{count}
 use Rattle.mul_add.proofs.Counts.{count-same}
 use Rattle.par1.specs.Claim.{ReadBack}
 use Rattle.par1_read.specs.Reading.{entriesIn}
-use Rattle.par1_rules.specs.Layout.{version, volumeNumberOf}
+use Rattle.par1_rules.specs.Layout.{versionFor, volumeNumberOf}
 use Rattle.par1_set.specs.Files.{File, entryFor, listFor}
 use Rattle.par1_set.specs.Volume.{dataFor, volumeFor, VolumeRight}
 use Rattle.par1_set.proofs.FileEntries.{set-listed}
 use Rattle.par1_set.proofs.SetLaws.{set-read-back}
 use Rattle.par1_set.proofs.Sets.{volume-set}
-use Rattle.parity.specs.Coefficient.{coefficient}
+use Rattle.parity.specs.Coefficient.{ruleOf}
 use Rattle.entries.specs.Walk.{entriesOf}
 use Rattle.catalog.specs.Rows.{numberOf, rowsFor, volumeRow}
 use Rattle.catalog.specs.Claim.{SetAdded}
@@ -28,12 +29,12 @@ use Rattle.catalog.proofs.OrderLaws.{Other, Distinct, distinct-none, di
 use Rattle.catalog.proofs.ReadLaws.{told, volume-row-number}
 use Rattle.catalog.proofs.RunLaws.{afresh}
 
-module _ (program : ℕ) (small : program < 2 ^ 32) (fs : List File) where
+module _ (codeAt : ℕ → Code) (program : ℕ) (small : program < 2 ^ 32) (fs : List File) where
   abbrev volume : ℕ → List ℕ
-  volume w = volumeFor version coefficient program w fs
+  volume w = volumeFor (versionFor (codeAt w)) (ruleOf (codeAt w)) program w fs
 
-  back : (w : ℕ) → VolumeRight w fs → ReadBack (volume w) program w (listFor fs) (dataFor coefficient w fs)
-  back w right = set-read-back (volume-set right coefficient) program small (omega (arith, right .volume-high))
+  back : (w : ℕ) → VolumeRight w fs → ReadBack (volume w) (codeAt w) program w (listFor fs) (dataFor (ruleOf (codeAt w)) w fs)
+  back w right = set-read-back (volume-set right (ruleOf (codeAt w))) (codeAt w) program small (omega (arith, right .volume-high))
 
   number-is : (w : ℕ) → VolumeRight w fs → volumeNumberOf (volume w) ≡ w
   number-is w right = sym (told (volume w) (back w right .read-is) .number-is)
@@ -84,19 +85,19 @@ module _ (program : ℕ) (small : program < 2 ^ 32) (fs : List File) where
       ap length (entries-are v first ∙ ap (λ c. c .pieces) (listed .entries-are)) ∙ length-map fs (λ x. entryFor x)
 
 pub set-added : SetAdded
-set-added program v fs ws out small first rights once few fits =
-    let n = length-entries program small fs v first in
-    let vs : List (List ℕ) = map (volume program small fs) ws in
-    let inside : In (record { file = volume program small fs v; volumes = vs }) = record {
+set-added codeAt program v fs ws out small first rights once few fits =
+    let n = length-entries codeAt program small fs v first in
+    let vs : List (List ℕ) = map (volume codeAt program small fs) ws in
+    let inside : In (record { file = volume codeAt program small fs v; volumes = vs }) = record {
       parts = _;
-      read = back program small fs v first .read-is;
+      read = back codeAt program small fs v first .read-is;
       few = omega (arith, n);
       each = all-mapped rights;
-      once = distinct program small fs rights once;
+      once = distinct codeAt program small fs rights once;
     } in
-    afresh inside vs (Permᴰ·refl vs) out (omega (arith, n, length-map ws (volume program small fs))) .0
+    afresh inside vs (Permᴰ·refl vs) out (omega (arith, n, length-map ws (volume codeAt program small fs))) .0
   where
     all-mapped : {ws : List ℕ} → All (λ w. VolumeRight w fs) ws
-        → All (VolumeIn (rowsFor (entriesIn (volume program small fs v)))) (map (volume program small fs) ws)
+        → All (VolumeIn (rowsFor (entriesIn (volume codeAt program small fs v)))) (map (volume codeAt program small fs) ws)
     all-mapped all-none = all-none
-    all-mapped (all-more {x = w} right a) = all-more (in-set program small fs v w first right) (all-mapped a)
+    all-mapped (all-more {x = w} right a) = all-more (in-set codeAt program small fs v w first right) (all-mapped a)

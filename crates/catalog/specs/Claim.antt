@@ -6,7 +6,7 @@
 --   Loaded es rows w       loading the entries es into the records rows gives w
 --   Stands h room          a catalog with h in it stands in the room: its bytes, what further calls answer, and that it equals a new one
 --   AfterRun               so it does after any run, refused calls included
---   SetAdded               all volumes of a set are added to a catalog opened from one of them
+--   SetAdded               all volumes of a set, of either code, are added to a catalog opened from one of them
 --   Moved r rs with        the rows with are the rows rs, with the row r in its place
 --   Kept b room n          what changing the catalog b leaves as it was in the room, where the changed one has n bytes
 --   OpenKept               an accepted opening writes the rows of the list and leaves the room past them
@@ -40,16 +40,17 @@ use Rattle.little_endian.specs.Bytes.{Bytes}
 use Rattle.lent_bytes.specs.Writing.{refused}
 use Rattle.lent_bytes.specs.declared.Writing.{Writing}
 use Rattle.lent_bytes.specs.declared.Writing.the-variants.{Written, Refused}
+use Rattle.codes.specs.declared.Code.{Code}
 use Rattle.entries.specs.Entry.{fileSizeOf, md5Of}
 use Rattle.entries.specs.Numbering.{fileNumber}
 use Rattle.par1_read.specs.Reading.{entriesIn, readOf}
 use Rattle.par1_read.specs.declared.reading.Parts.{Parts}
 use Rattle.par1_read.specs.declared.reading.Reading.the-variants as reading
 use Rattle.mul_add.specs.Once.{count}
-use Rattle.par1_rules.specs.Layout.{version, volumeNumberOf}
+use Rattle.par1_rules.specs.Layout.{versionFor, volumeNumberOf}
 use Rattle.par1_set.specs.Files.{File}
 use Rattle.par1_set.specs.Volume.{volumeFor, VolumeRight}
-use Rattle.parity.specs.Coefficient.{coefficient}
+use Rattle.parity.specs.Coefficient.{ruleOf}
 use Rattle.catalog.specs.Rows.{numberOf, rowsFor, volumeRow, catalogBytes}
 use Rattle.catalog.specs.Catalog.{entryCount, volumeCount, catalogLength, entryRows, volumeRows, savedRows, isCatalog}
 use Rattle.catalog.specs.Calls.{openOf, addOf, dropOf, loadOf}
@@ -99,13 +100,13 @@ AfterRun =
     (f out room : List ℕ) (n : ℕ) → openOf f out ≡ (Written n, room) → (cs : List Call)
     → Stands (heldRun (newlyOpened f) room cs) (roomAfter room cs)
 
--- so that there are such runs: the volumes of a set that keeps the rules, written by our calls, are all added, whatever their order, to a
--- catalog opened from one of them; proved: proofs/SetRuns.antt, `set-added`
+-- so that there are such runs: the volumes of a set that keeps the rules, written by our calls, each of any code, are all added, whatever their
+-- order, to a catalog opened from one of them; proved: proofs/SetRuns.antt, `set-added`
 abbrev pub SetAdded : Type 0
 SetAdded =
-    (program v : ℕ) (fs : List File) (ws out : List ℕ) → program < 2 ^ 32 → VolumeRight v fs → All (λ w. VolumeRight w fs) ws
+    (codeAt : ℕ → Code) (program v : ℕ) (fs : List File) (ws out : List ℕ) → program < 2 ^ 32 → VolumeRight v fs → All (λ w. VolumeRight w fs) ws
     → ((k : ℕ) → count k ws ≤ 1) → length fs ≤ maxEntries → 16 + 28 * (length fs + length ws) ≤ length out
-    → let volume : ℕ → List ℕ = λ w. volumeFor version coefficient program w fs in
+    → let volume : ℕ → List ℕ = λ w. volumeFor (versionFor (codeAt w)) (ruleOf (codeAt w)) program w fs in
     All IsWritten (answers out (opening (volume v) ∷ map adding (map volume ws)))
 
 -- ---- "Adding or dropping a volume changes only its row, the count and what must move; volume rows ascend by number. Room past the resulting
