@@ -96,7 +96,7 @@ module _ {f g : List ℕ} (a : AlikeButMarks f g) where
   parts-same saved =
       let list-size : listSizeOf f ≡ listSizeOf g = later 8 40 (omega arith) in
       let data-start : dataStartOf f ≡ dataStartOf g = later 8 48 (omega arith) in
-      simp (first 4 12 (omega arith), later 8 16 (omega arith), later 8 24 (omega arith), list-size, data-start, data-size)
+      simp (first 4 8 (omega arith), first 4 12 (omega arith), later 8 16 (omega arith), later 8 24 (omega arith), list-size, data-start, data-size)
 
   from-same : (n : ℕ) (set : List ℕ) (w : Walked) → readFrom f n (controlHash f) set w ≡ readFrom g n (controlHash g) set w
   unfolding readFrom refusalFrom

@@ -11,6 +11,7 @@ use mathlib.Core.List.{List, [], _∷_, map, foldr, flatten}
 use Prim.Native.Nat.{ℕ, _+_, _-_, _^_, _<_, max}
 use native.Mathlib.Omega.{arith}
 use lib.ListN.{length, take, drop, getD, length-append, length-map, List·getD-map}
+use Rattle.codes.specs.declared.Code.{Code}
 use Rattle.cut_lists.specs.All.{All, all-none, all-more}
 use Rattle.entries.specs.Entry.{statusOf, isSaved, isCounted, fileSizeAllowed, nameAllowed}
 use Rattle.entries.specs.Walk.{entriesOf}
@@ -22,7 +23,7 @@ use Rattle.little_endian.proofs.Numbers.{length-toLe}
 use Rattle.md5.specs.Digest.{md5}
 use Rattle.par1.proofs.CheckingLaws.{lone-tells}
 use Rattle.par1_rules.specs.Hashes.{md5First}
-use Rattle.par1_rules.specs.Layout.{version, listOf}
+use Rattle.par1_rules.specs.Layout.{versionFor, listOf}
 use Rattle.par1_set.specs.Claim.{FileBack}
 use Rattle.par1_set.specs.Files.{File, noFile, savedFiles, fileCount, contentsOf, entryFor, entriesFor, listFor, dataSizeFor, FileRight}
 use Rattle.par1_set.specs.Volume.{bytesFor, dataFor, VolumeRight, IndexRight}
@@ -32,7 +33,7 @@ use Rattle.par1_set.proofs.SetLaws.{SetPassed, set-back, set-passed, set-read-b
 use Rattle.par1_set.proofs.Sets.{volume-set, index-set}
 use Rattle.par1_write.specs.EntryWriting.{entryBytes}
 use Rattle.par1_write.proofs.EntryWritingLaws.{length-entry}
-use Rattle.parity.specs.Coefficient.{coefficient}
+use Rattle.parity.specs.Coefficient.{ruleOf}
 use Rattle.parity.specs.Parity.{parity}
 use Rattle.checked_mark.specs.Claim.{Remarked, SomeMarked}
 use Rattle.checked_mark.specs.Marks.{unmarked, Pairs, pairs-none, pairs-more, EntryAlike, SizeRight, ListsAlike, rest-same, entry-more, FileAlike}
@@ -134,10 +135,10 @@ module _ {fs gs : List File} (ps : Pairs FileAlike fs gs) where
       (kept-same (λ x. length (x .contents)) (λ x. isCounted (x .status)) (λ x y a. ap length (a .contents-same))
       (λ x y a. saved-same _ _ (a .status-alike)) ps)
 
-  data-same : (v : ℕ) → dataFor coefficient v fs ≡ dataFor coefficient v gs
-  data-same v =
-      ap (λ (n : ℕ). parity coefficient n (contentsOf fs) v (dataSizeFor fs)) count-is
-      ∙ ap₂ (λ (X : ℕ → List ℕ) (m : ℕ). parity coefficient (fileCount gs) X v m) contents-are data-size
+  data-same : (rule : ℕ → ℕ → ℕ) (v : ℕ) → dataFor rule v fs ≡ dataFor rule v gs
+  data-same rule v =
+      ap (λ (n : ℕ). parity rule n (contentsOf fs) v (dataSizeFor fs)) count-is
+      ∙ ap₂ (λ (X : ℕ → List ℕ) (m : ℕ). parity rule (fileCount gs) X v m) contents-are data-size
 
 -- ---- volumes and indices
 
@@ -146,22 +147,22 @@ statuses-are all-none = refl
 statuses-are (all-more b bs) = ap₂ _∷_ (b .status-is) (statuses-are bs)
 
 module _ {v : ℕ} {fs gs : List File} {area : List ℕ} (one : SetPassed v fs area) (two : SetPassed v gs area) (ps : Pairs FileAlike fs gs)
-    (program : ℕ) (p : program < 2 ^ 32) (small : v < 2 ^ 64) where
+    (code : Code) (program : ℕ) (p : program < 2 ^ 32) (small : v < 2 ^ 64) where
   statuses-same : listFor fs ≡ listFor gs → map (λ x. x .status) fs ≡ map (λ x. x .status) gs
   statuses-same e =
       let same : entriesFor fs ≡ entriesFor gs =
       ap (λ c. c .pieces) (sym (entries-of (set-back one)) ∙ ap (λ (s : List ℕ). entriesOf s) e ∙ entries-of (set-back two)) in
       sym (statuses-are (set-back one)) ∙ ap (λ (es : List (List ℕ)). map (λ e. statusOf e) es) same ∙ statuses-are (set-back two)
 
-  set-alike : Remarked (bytesFor version program v fs area) (bytesFor version program v gs area) fs gs
+  set-alike : Remarked (bytesFor (versionFor code) program v fs area) (bytesFor (versionFor code) program v gs area) fs gs
   set-alike =
       record {
         alike =
-            rw (← bytes-are (set-back one) v area program, ← bytes-are (set-back two) v area program)
-            (volume-alike program v area (lists-alike (set-back one) (set-back two) ps) p small (set-passed one));
+            rw (← bytes-are (set-back one) v area code program, ← bytes-are (set-back two) v area code program)
+            (volume-alike code program v area (lists-alike (set-back one) (set-back two) ps) p small (set-passed one));
         differ = λ e.
             statuses-same
-            (sym (set-read-back one program p small .list-is) ∙ ap (λ (f : List ℕ). listOf f) e ∙ set-read-back two program p small .list-is);
+            (sym (set-read-back one code program p small .list-is) ∙ ap (λ (f : List ℕ). listOf f) e ∙ set-read-back two code program p small .list-is);
       }
 
 -- ---- the claim
@@ -188,14 +189,14 @@ index-right ps r =
 pub some-marked : SomeMarked
 some-marked =
     record {
-      volumes = λ program v fs gs p right ps.
+      volumes = λ code program v fs gs p right ps.
           let other = volume-right ps right in
-          let area : List ℕ = dataFor coefficient v fs in
-          let two : SetPassed v gs area = rw (data-same ps v) (volume-set other coefficient) in
-          let made : Remarked (bytesFor version program v fs area) (bytesFor version program v gs area) fs gs =
-          set-alike (volume-set right coefficient) two ps program p (omega (arith, right .volume-high)) in
-          (other, subst (λ (d : List ℕ). Remarked (bytesFor version program v fs area) (bytesFor version program v gs d) fs gs) (data-same ps v) made);
-      indices = λ program fs gs comment p right ps.
+          let area : List ℕ = dataFor (ruleOf code) v fs in
+          let two : SetPassed v gs area = rw (data-same ps (ruleOf code) v) (volume-set other (ruleOf code)) in
+          let made : Remarked (bytesFor (versionFor code) program v fs area) (bytesFor (versionFor code) program v gs area) fs gs =
+          set-alike (volume-set right (ruleOf code)) two ps code program p (omega (arith, right .volume-high)) in
+          (other, subst (λ (d : List ℕ). Remarked (bytesFor (versionFor code) program v fs area) (bytesFor (versionFor code) program v gs d) fs gs) (data-same ps (ruleOf code) v) made);
+      indices = λ code program fs gs comment p right ps.
           let other = index-right ps right in
-          (other, set-alike (index-set right) (index-set other) ps program p (omega arith));
+          (other, set-alike (index-set right) (index-set other) ps code program p (omega arith));
     }

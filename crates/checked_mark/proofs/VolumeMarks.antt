@@ -9,6 +9,7 @@ use mathlib.Core.Path.{_≡_, refl, sym, ap, ap₂, _∙_, subst}
 use mathlib.Core.List.{List, [], _∷_, _++_, append-assoc, append-nil, flatten}
 use Prim.Native.Nat.{ℕ, _+_, _^_, _<_}
 use lib.ListN.{length, take, drop, length-append}
+use Rattle.codes.specs.declared.Code.{Code}
 use Rattle.entries.specs.Walk.{entriesOf, walkOf}
 use Rattle.entries.specs.declared.Walked.{Walked}
 use Rattle.lent_bytes.specs.Writing.{writtenUnless}
@@ -23,7 +24,7 @@ use Rattle.md5.specs.Digest.{md5}
 use Rattle.par1.proofs.ReadWritten.{ListPassed, list-passed, volume-back, volume-written}
 use Rattle.par1_read.proofs.ReadingLaws.{read-tells}
 use Rattle.par1_rules.specs.Hashes.{setHash}
-use Rattle.par1_rules.specs.Layout.{signature, version}
+use Rattle.par1_rules.specs.Layout.{signature, versionFor}
 use Rattle.par1_rules.proofs.HashLaws.{length-md5, length-set-hash}
 use Rattle.par1_write.specs.VolumeWriting.{numberBytes, bodyBytes, headBytes, volumeBytes, walkRefusal, writeVolumeOf}
 use Rattle.par1_write.proofs.VolumeWritingLaws.{VolumePassed, length-volume}
@@ -41,17 +42,17 @@ lists-length (entry-more {e} {g} {s} {t} z a l) =
 
 -- ---- the parts of a written file
 
-module _ (program number : ℕ) (list area : List ℕ) where
+module _ (code : Code) (program number : ℕ) (list area : List ℕ) where
   abbrev body : List ℕ
   body = bodyBytes (length (entriesOf list .pieces)) number list area
 
   abbrev first : List ℕ
-  first = flatten (toLe 8 signature ∷ toLe 4 version ∷ toLe 4 program ∷ [])
+  first = flatten (toLe 8 signature ∷ toLe 4 (versionFor code) ∷ toLe 4 program ∷ [])
 
   abbrev header : List ℕ
   header = setHash (entriesOf list .pieces) ++ numberBytes number (length (entriesOf list .pieces)) (length list) (length area)
 
-  volume-parts : At (volumeBytes program number list area) 0 (first ∷ md5 body ∷ header ∷ list ∷ area ∷ [])
+  volume-parts : At (volumeBytes code program number list area) 0 (first ∷ md5 body ∷ header ∷ list ∷ area ∷ [])
   unfolding volumeBytes headBytes bodyBytes flatten
   volume-parts = record { joined = simp (append-assoc, append-nil) }
 
@@ -62,16 +63,16 @@ module _ (program number : ℕ) (list area : List ℕ) where
   length-header : length header ≡ 64
   length-header = simp (length-append, length-set-hash, length-numbers)
 
-  first-is : take 16 (volumeBytes program number list area) ≡ first
+  first-is : take 16 (volumeBytes code program number list area) ≡ first
   first-is = at-part 16 length-first volume-parts
 
-  header-is : take 64 (drop 32 (volumeBytes program number list area)) ≡ header
+  header-is : take 64 (drop 32 (volumeBytes code program number list area)) ≡ header
   header-is = at-part 64 length-header (at-next 16 (length-md5 body) (at-next 16 length-first volume-parts))
 
 -- ---- two of them
 
-module _ (program number : ℕ) (area : List ℕ) {s t : List ℕ} (l : ListsAlike s t) where
-  header-same : header program number s area ≡ header program number t area
+module _ (code : Code) (program number : ℕ) (area : List ℕ) {s t : List ℕ} (l : ListsAlike s t) where
+  header-same : header code program number s area ≡ header code program number t area
   header-same =
       let es = walked-alike l .entries-alike in
       ap₂ (λ (n k : ℕ). setHash (entriesOf s .pieces) ++ numberBytes number n k (length area)) (count-same es) (lists-length l)
@@ -86,19 +87,19 @@ module _ (program number : ℕ) (area : List ℕ) {s t : List ℕ} (l : ListsAli
       }
 
   pub volume-alike : program < 2 ^ 32 → number < 2 ^ 64 → ListPassed number s (length area)
-      → AlikeButMarks (volumeBytes program number s area) (volumeBytes program number t area)
+      → AlikeButMarks (volumeBytes code program number s area) (volumeBytes code program number t area)
   volume-alike p v passed =
-      let one = volume-back program number s area p v passed in
-      let two = volume-back program number t area p v (passed-alike passed) in
-      let right = read-tells (volumeBytes program number s area) _ (one .read-is) .tests .control-is in
-      let other = read-tells (volumeBytes program number t area) _ (two .read-is) .tests .control-is in
+      let one = volume-back code program number s area p v passed in
+      let two = volume-back code program number t area p v (passed-alike passed) in
+      let right = read-tells (volumeBytes code program number s area) _ (one .read-is) .tests .control-is in
+      let other = read-tells (volumeBytes code program number t area) _ (two .read-is) .tests .control-is in
       record {
         length-same =
-            length-volume program number s area
+            length-volume code program number s area
             ∙ ap (λ (n : ℕ). 96 + n + length area) (lists-length l)
-            ∙ sym (length-volume program number t area);
-        first-same = first-is program number s area ∙ sym (first-is program number t area);
-        header-same = header-is program number s area ∙ header-same ∙ sym (header-is program number t area);
+            ∙ sym (length-volume code program number t area);
+        first-same = first-is code program number s area ∙ sym (first-is code program number t area);
+        header-same = header-is code program number s area ∙ header-same ∙ sym (header-is code program number t area);
         lists-alike = rw (one .list-is, two .list-is) l;
         data-same = one .data-is ∙ sym (two .data-is);
         controls-alike = (λ e. other, λ e. right);
@@ -106,30 +107,30 @@ module _ (program number : ℕ) (area : List ℕ) {s t : List ℕ} (l : ListsAli
 
 -- ---- the claim
 
-module _ (program number : ℕ) (area out : List ℕ) {s t : List ℕ} (l : ListsAlike s t) where
+module _ (code : Code) (program number : ℕ) (area out : List ℕ) {s t : List ℕ} (l : ListsAlike s t) where
   abbrev one : Writing × List ℕ
-  one = writeVolumeOf program number s area out
+  one = writeVolumeOf code program number s area out
 
   abbrev two : Writing × List ℕ
-  two = writeVolumeOf program number t area out
+  two = writeVolumeOf code program number t area out
 
   answers-same : one .0 ≡ two .0
   unfolding writeVolumeOf
   answers-same =
       let n = lists-length l in
-      let sizes : length (volumeBytes program number s area) ≡ length (volumeBytes program number t area) =
-      length-volume program number s area ∙ ap (λ (n : ℕ). 96 + n + length area) n ∙ sym (length-volume program number t area) in
-      answer-same (walkRefusal number (walkOf s) (length s) (length area)) (volumeBytes program number s area) (volumeBytes program number t area) out sizes
-      ∙ ap₂ (λ (w : Walked) (n : ℕ). writtenUnless (walkRefusal number w n (length area)) (volumeBytes program number t area) out .0) (walk-same l) n
+      let sizes : length (volumeBytes code program number s area) ≡ length (volumeBytes code program number t area) =
+      length-volume code program number s area ∙ ap (λ (n : ℕ). 96 + n + length area) n ∙ sym (length-volume code program number t area) in
+      answer-same (walkRefusal number (walkOf s) (length s) (length area)) (volumeBytes code program number s area) (volumeBytes code program number t area) out sizes
+      ∙ ap₂ (λ (w : Walked) (n : ℕ). writtenUnless (walkRefusal number w n (length area)) (volumeBytes code program number t area) out .0) (walk-same l) n
 
   files-alike : program < 2 ^ 32 → number < 2 ^ 64 → (n : ℕ) → one .0 ≡ Written n → AlikeButMarks (take n (one .1)) (take n (two .1))
   unfolding writeVolumeOf
   files-alike p v n e =
       let told : one ≡ (Written n, one .1) = ap (λ (w : Writing). (w, one .1)) e in
       let other : two ≡ (Written n, two .1) = ap (λ (w : Writing). (w, two .1)) (sym answers-same ∙ e) in
-      let none = unless-tells (walkRefusal number (walkOf s) (length s) (length area)) (volumeBytes program number s area) out told .none in
-      rw (volume-written program number s area out n (one .1) told, volume-written program number t area out n (two .1) other)
-      (volume-alike program number area l p v (list-passed number s (length area) none))
+      let none = unless-tells (walkRefusal number (walkOf s) (length s) (length area)) (volumeBytes code program number s area) out told .none in
+      rw (volume-written code program number s area out n (one .1) told, volume-written code program number t area out n (two .1) other)
+      (volume-alike code program number area l p v (list-passed number s (length area) none))
 
 pub written-alike : WrittenAlike
-written-alike program number s t area out p v l = (answers-same program number area out l, files-alike program number area out l p v)
+written-alike code program number s t area out p v l = (answers-same code program number area out l, files-alike code program number area out l p v)

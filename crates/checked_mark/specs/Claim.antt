@@ -23,6 +23,7 @@ use mathlib.Core.Logic.{_⊎_}
 use Prim.Native.Nat.{ℕ, _+_, _^_, _<_}
 use lib.ListN.{take, drop}
 use Rattle.catalog.specs.Calls.{openOf, addOf}
+use Rattle.codes.specs.declared.Code.{Code}
 use Rattle.entries.specs.Numbering.{fileNumber}
 use Rattle.entries.specs.Walk.{firstOf}
 use Rattle.entries.specs.declared.Item.{Item}
@@ -35,11 +36,11 @@ use Rattle.md5sum_text.specs.Import.{importInto}
 use Rattle.par1.specs.Checking.{checkOf}
 use Rattle.par1_read.specs.Reading.{entriesIn, readOf}
 use Rattle.par1_read.specs.declared.reading.Reading.{Reading}
-use Rattle.par1_rules.specs.Layout.{version, controlHashOf}
+use Rattle.par1_rules.specs.Layout.{versionFor, controlHashOf}
 use Rattle.par1_set.specs.Files.{File}
 use Rattle.par1_set.specs.Volume.{volumeFor, indexFor, VolumeRight, IndexRight}
 use Rattle.par1_write.specs.VolumeWriting.{writeVolumeOf}
-use Rattle.parity.specs.Coefficient.{coefficient}
+use Rattle.parity.specs.Coefficient.{ruleOf}
 use Rattle.running_read.specs.Claim.{readSteps}
 use Rattle.running_read.specs.Running.{startRead, endAnswer}
 use Rattle.checked_mark.specs.Marks.{unmarked, Pairs, EntryAlike, ListsAlike, AlikeButMarks, FileAlike}
@@ -92,9 +93,9 @@ CheckedAlike = (e g m : List ℕ) → EntryAlike e g → checkOf e m ≡ checkOf
 -- proved: proofs/VolumeMarks.antt, `written-alike`
 abbrev pub WrittenAlike : Type 0
 WrittenAlike =
-    (program number : ℕ) (s t area out : List ℕ) → program < 2 ^ 32 → number < 2 ^ 64 → ListsAlike s t
-    → let one = writeVolumeOf program number s area out in
-    let two = writeVolumeOf program number t area out in
+    (code : Code) (program number : ℕ) (s t area out : List ℕ) → program < 2 ^ 32 → number < 2 ^ 64 → ListsAlike s t
+    → let one = writeVolumeOf code program number s area out in
+    let two = writeVolumeOf code program number t area out in
     (one .0 ≡ two .0) × ((n : ℕ) → one .0 ≡ Written n → AlikeButMarks (take n (one .1)) (take n (two .1)))
 
 pub record Remarked (f g : List ℕ) (fs gs : List File) : Type 0 where
@@ -104,7 +105,8 @@ pub record Remarked (f g : List ℕ) (fs gs : List File) : Type 0 where
 
 -- proved: proofs/SetMarks.antt, `some-marked`
 pub record SomeMarked : Type 0 where
-  pub volumes : (program v : ℕ) (fs gs : List File) → program < 2 ^ 32 → VolumeRight v fs → Pairs FileAlike fs gs
-      → VolumeRight v gs × Remarked (volumeFor version coefficient program v fs) (volumeFor version coefficient program v gs) fs gs
-  pub indices : (program : ℕ) (fs gs : List File) (comment : List ℕ) → program < 2 ^ 32 → IndexRight fs comment → Pairs FileAlike fs gs
-      → IndexRight gs comment × Remarked (indexFor version program fs comment) (indexFor version program gs comment) fs gs
+  pub volumes : (code : Code) (program v : ℕ) (fs gs : List File) → program < 2 ^ 32 → VolumeRight v fs → Pairs FileAlike fs gs
+      → let volume : List File → List ℕ = λ hs. volumeFor (versionFor code) (ruleOf code) program v hs in
+      VolumeRight v gs × Remarked (volume fs) (volume gs) fs gs
+  pub indices : (code : Code) (program : ℕ) (fs gs : List File) (comment : List ℕ) → program < 2 ^ 32 → IndexRight fs comment → Pairs FileAlike fs gs
+      → IndexRight gs comment × Remarked (indexFor (versionFor code) program fs comment) (indexFor (versionFor code) program gs comment) fs gs
