@@ -12,6 +12,7 @@ use mathlib.Core.List.{List, [], _∷_, _++_}
 use Prim.Native.Nat.{ℕ, _<_, _≤_}
 use native.Mathlib.Omega.{arith}
 use lib.ListN.{length, replicate, length-replicate}
+use Rattle.codes.specs.declared.Code.{Code}
 use Rattle.jobs.specs.Claim.{lendLimit}
 use Rattle.little_endian.specs.Bytes.{Bytes}
 use Rattle.mul_add.specs.MulAdd.{mulAdd, mulAddAll, sumBytes}
@@ -22,9 +23,9 @@ use Rattle.par1_set.specs.Calls.{writeSet}
 use Rattle.par1_set.specs.Files.{File, fileCount, contentsOf, dataSizeFor}
 use Rattle.par1_set.specs.Volume.{dataFor}
 use Rattle.par1_set.proofs.Sets.{set-written}
-use Rattle.parity.specs.Coefficient.{coefficient}
+use Rattle.parity.specs.Coefficient.{ruleOf}
 use Rattle.parity.specs.Parity.{isFile}
-use Rattle.parity.proofs.Coefficients.{coefficient-byte}
+use Rattle.parity.proofs.Coefficients.{rule-byte}
 use Rattle.parity.proofs.Files.{isFile-inside}
 use Rattle.parity.proofs.Volumes.{volume-shares}
 use Rattle.mul_add_sums.specs.Adding.{AddsAll, at-once, none, more}
@@ -63,42 +64,42 @@ share-files n ks ls once k h = isFile-inside n k (by (isFile n k) (once k) (coun
 -- ---- two boxes
 
 pub some-buffer : SomeBuffer
-some-buffer v fs ks = (_, all-given (λ f. coefficient f v) (contentsOf fs) _ _)
+some-buffer code v fs ks = (_, all-given (λ f. ruleOf code f v) (contentsOf fs) _ _)
 
-module _ (v : ℕ) (fs : List File) (short : dataSizeFor fs < lendLimit) where
+module _ (code : Code) (v : ℕ) (fs : List File) (short : dataSizeFor fs < lendLimit) where
   -- what a box holds, in one equation
   abbrev share : List ℕ → List ℕ
-  share ks = mulAddAll (λ f. coefficient f v) (contentsOf fs) ks (replicate (dataSizeFor fs) 0)
+  share ks = mulAddAll (λ f. ruleOf code f v) (contentsOf fs) ks (replicate (dataSizeFor fs) 0)
 
-  box-is : (ks : List ℕ) {b : List ℕ} → Box v fs ks b → b ≡ share ks
-  box-is ks p = all-answer (λ f. coefficient f v) (contentsOf fs) (omega (arith, length-replicate {A = ℕ} (dataSizeFor fs) 0)) p
+  box-is : (ks : List ℕ) {b : List ℕ} → Box code v fs ks b → b ≡ share ks
+  box-is ks p = all-answer (λ f. ruleOf code f v) (contentsOf fs) (omega (arith, length-replicate {A = ℕ} (dataSizeFor fs) 0)) p
 
-  box-length : (ks : List ℕ) {b : List ℕ} → Box v fs ks b → length b ≡ dataSizeFor fs
-  box-length ks p = ap length (box-is ks p) ∙ length-mulAddAll (λ f. coefficient f v) (contentsOf fs) ks _ ∙ length-replicate (dataSizeFor fs) 0
+  box-length : (ks : List ℕ) {b : List ℕ} → Box code v fs ks b → length b ≡ dataSizeFor fs
+  box-length ks p = ap length (box-is ks p) ∙ length-mulAddAll (λ f. ruleOf code f v) (contentsOf fs) ks _ ∙ length-replicate (dataSizeFor fs) 0
 
-  box-bytes : (ks ls : List ℕ) {b : List ℕ} → fileCount fs < 256 → Once (isFile (fileCount fs)) (ks ++ ls) → Box v fs ls b → Bytes b
+  box-bytes : (ks ls : List ℕ) {b : List ℕ} → fileCount fs < 256 → Once (isFile (fileCount fs)) (ks ++ ls) → Box code v fs ls b → Bytes b
   box-bytes ks ls few once p =
       subst Bytes (sym (box-is ls p))
-      (mulAddAll-bytes (λ f. coefficient f v) (contentsOf fs) ls _
-      (λ k h. let file = share-files (fileCount fs) ks ls once k h in coefficient-byte k v (omega arith)) (zeros-bytes (dataSizeFor fs)))
+      (mulAddAll-bytes (λ f. ruleOf code f v) (contentsOf fs) ls _
+      (λ k h. let file = share-files (fileCount fs) ks ls once k h in rule-byte code k v (omega arith)) (zeros-bytes (dataSizeFor fs)))
 
 pub two-boxes : TwoBoxes
-two-boxes v fs ks ls one two short once p q =
-    ap₂ sumBytes (box-is v fs short ks p) (box-is v fs short ls q) ∙ volume-shares (fileCount fs) (contentsOf fs) v (dataSizeFor fs) ks ls once
+two-boxes code v fs ks ls one two short once p q =
+    ap₂ sumBytes (box-is code v fs short ks p) (box-is code v fs short ls q) ∙ volume-shares code (fileCount fs) (contentsOf fs) v (dataSizeFor fs) ks ls once
 
 pub merged-written : MergedWritten
-merged-written program v fs ks ls one two merged room out small right writable once p q sum list-fits fits =
+merged-written code program v fs ks ls one two merged room out small right writable once p q sum list-fits fits =
     let short : dataSizeFor fs < lendLimit = omega (arith, right .length-right) in
     let few : fileCount fs < 256 = omega (arith, right .volume-high) in
-    let l₁ : length one ≡ dataSizeFor fs = box-length v fs short ks p in
-    let l₂ : length two ≡ dataSizeFor fs = box-length v fs short ls q in
-    let parity-is : merged ≡ dataFor coefficient v fs =
-    one-answer 1 two one merged (omega arith) sum ∙ mulAdd-one one two (l₂ ∙ sym l₁) (box-bytes v fs short ks ls few once q)
-    ∙ two-boxes v fs ks ls one two short once p q in
-    let made = set-written program v fs (ks ++ ls) room out small right writable once list-fits fits in
+    let l₁ : length one ≡ dataSizeFor fs = box-length code v fs short ks p in
+    let l₂ : length two ≡ dataSizeFor fs = box-length code v fs short ls q in
+    let parity-is : merged ≡ dataFor (ruleOf code) v fs =
+    one-answer 1 two one merged (omega arith) sum ∙ mulAdd-one one two (l₂ ∙ sym l₁) (box-bytes code v fs short ks ls few once q)
+    ∙ two-boxes code v fs ks ls one two short once p q in
+    let made = set-written code program v fs (ks ++ ls) room out small right writable once list-fits fits in
     record {
       coefficients-are = made .coefficients-are;
       data-is = parity-is;
-      volume-is = ap (λ (d : List ℕ). writeSet program v fs d room out) (parity-is ∙ sym (made .data-is)) ∙ made .volume-is;
+      volume-is = ap (λ (d : List ℕ). writeSet code program v fs d room out) (parity-is ∙ sym (made .data-is)) ∙ made .volume-is;
       read-back = rw parity-is (made .read-back);
     }

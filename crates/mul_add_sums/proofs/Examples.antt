@@ -7,12 +7,13 @@ use native.Mathlib.Omega.{arith}
 use lib.ListN.{length}
 use borrow.Author.Tests.{ne-eqb, le-leb, lt-leb}
 use Rattle.cut_lists.specs.All.{all-none, all-more}
+use Rattle.codes.specs.declared.Code.the-variants.{Powers}
 use Rattle.entries.specs.Entry.{isCounted}
 use Rattle.gf256.specs.Field.{product, power}
 use Rattle.gf256.specs.Polynomial.{coeff, sumBelow, polyProduct, remainder}
 use Rattle.mul_add.specs.MulAdd.{mulAdd, sumBytes}
 use Rattle.mul_add.specs.Once.{count, Once}
-use Rattle.par1_rules.specs.Layout.{version}
+use Rattle.par1_rules.specs.Layout.{versionFor}
 use Rattle.par1_set.specs.Volume.{dataFor, volumeFor}
 use Rattle.par1_set.proofs.Examples.{p6, p6-list, p6-right}
 use Rattle.par1_set.proofs.FileEntries.{files-back}
@@ -25,11 +26,11 @@ use Rattle.mul_add_sums.specs.Adding.{Adds, at-once, in-chunks, none, mo
 use Rattle.mul_add_sums.specs.Claim.{Box, VolumeMerged}
 use Rattle.mul_add_sums.proofs.Boxes.{two-boxes, merged-written}
 
-one-box : Box 2 p6 (1 ∷ []) (1 ∷ 2 ∷ [])
+one-box : Box Powers 2 p6 (1 ∷ []) (1 ∷ 2 ∷ [])
 unfolding flatten pushOf mulAddAt mulAdd coefficient product power isCounted sumBelow polyProduct remainder coeff
 one-box = more (in-chunks ((1 ∷ []) ∷ (2 ∷ []) ∷ []) refl refl) (none refl)
 
-other-box : Box 2 p6 (2 ∷ []) (6 ∷ 0 ∷ [])
+other-box : Box Powers 2 p6 (2 ∷ []) (6 ∷ 0 ∷ [])
 unfolding mulAdd coefficient product power isCounted sumBelow polyProduct remainder coeff
 other-box = more (at-once refl) (none refl)
 
@@ -53,19 +54,19 @@ split (suc (suc (suc k))) =
 -- so the premises of TwoBoxes can be met
 their-sum : sumBytes (1 ∷ 2 ∷ []) (6 ∷ 0 ∷ []) ≡ dataFor coefficient 2 p6
 unfolding isCounted
-their-sum = two-boxes 2 p6 (1 ∷ []) (2 ∷ []) (1 ∷ 2 ∷ []) (6 ∷ 0 ∷ []) (omega arith) split one-box other-box
+their-sum = two-boxes Powers 2 p6 (1 ∷ []) (2 ∷ []) (1 ∷ 2 ∷ []) (6 ∷ 0 ∷ []) (omega arith) split one-box other-box
 
 -- the head of 96 bytes, the list and the data
-length-volume : length (volumeFor version coefficient 1 2 p6) ≡ 272
+length-volume : length (volumeFor (versionFor Powers) coefficient 1 2 p6) ≡ 272
 unfolding isCounted
 length-volume =
     let right = p6-right 2 (omega arith) (omega arith) in
-    let size = length-bytes (files-back (right .files-right) (omega (arith, p6-list))) 2 (dataFor coefficient 2 p6) 1 in
+    let size = length-bytes (files-back (right .files-right) (omega (arith, p6-list))) 2 (dataFor coefficient 2 p6) Powers 1 in
     omega (arith, size, p6-list, length-data coefficient 2 p6)
 
 -- so the premises of MergedWritten can be met, by any rooms that are long enough
-their-volume : (room out : List ℕ) → 174 ≤ length room → 272 ≤ length out → VolumeMerged 1 2 p6 (7 ∷ 2 ∷ []) room out
+their-volume : (room out : List ℕ) → 174 ≤ length room → 272 ≤ length out → VolumeMerged Powers 1 2 p6 (7 ∷ 2 ∷ []) room out
 their-volume room out list-fits fits =
-    merged-written 1 2 p6 (1 ∷ []) (2 ∷ []) (1 ∷ 2 ∷ []) (6 ∷ 0 ∷ []) (7 ∷ 2 ∷ []) room out (omega arith) (p6-right 2 (omega arith) (omega arith))
+    merged-written Powers 1 2 p6 (1 ∷ []) (2 ∷ []) (1 ∷ 2 ∷ []) (6 ∷ 0 ∷ []) (7 ∷ 2 ∷ []) room out (omega arith) (p6-right 2 (omega arith) (omega arith))
     (all-more (omega arith) (all-more (omega arith) (all-more (omega arith) all-none))) split one-box other-box merged
     (omega (arith, p6-list)) (omega (arith, length-volume))

@@ -8,10 +8,10 @@
 --   EitherOrder      two fragments in either order
 --   JobsInTurn       two running mul_adds at the same time, their pushes in turns of any kind: as one after the other
 --   SumCalled        the sum of two equally long buffers is a call: one is added to the other with the weight 1
---   Box v fs ks b    a box that has folded its share ks of the saved files, for volume v of the files fs, holds b
+--   Box code v fs ks b   a box that has folded its share ks of the saved files, for volume v of the files fs by the code, holds b
 --   SomeBuffer       each box, whatever its share, holds a buffer
 --   TwoBoxes         two boxes whose shares are the saved files, once each: their buffers, summed, are the full parity
---   VolumeMerged program v fs merged room out    what write_volume makes of the merged buffer
+--   VolumeMerged code program v fs merged room out    what write_volume makes of the merged buffer
 --   MergedWritten    the two buffers summed by a call, and handed to write_volume, give the volume
 -- What excludes an empty reading: for every weight, fragment, buffer and way of cutting there is a buffer after it of which `Adds` holds, from C for
 -- every weight that is a byte, and there are no two (`OneAnswer`); a share may be any list of files, none too, and has its buffer (`SomeBuffer`); n
@@ -26,6 +26,7 @@ use mathlib.Core.List.{List, _++_}
 use Prim.Native.Nat.{ℕ, _^_, _<_, _≤_}
 use lib.Bits.{bitXor}
 use lib.ListN.{length, getD, replicate}
+use Rattle.codes.specs.declared.Code.{Code}
 use Rattle.cut_lists.specs.All.{All}
 use Rattle.gf256.specs.declared.ByteAnswer.the-variants.{Byte}
 use Rattle.jobs.specs.Claim.{lendLimit}
@@ -34,11 +35,11 @@ use Rattle.little_endian.specs.Bytes.{Bytes}
 use Rattle.mul_add.specs.MulAdd.{mulAdd, sumBytes}
 use Rattle.mul_add.specs.Once.{Once}
 use Rattle.par1.specs.Claim.{ReadBack}
-use Rattle.par1_rules.specs.Layout.{version}
+use Rattle.par1_rules.specs.Layout.{versionFor}
 use Rattle.par1_set.specs.Calls.{writeSet}
 use Rattle.par1_set.specs.Files.{File, fileCount, contentsOf, listFor, dataSizeFor, Writable}
 use Rattle.par1_set.specs.Volume.{dataFor, volumeFor, VolumeRight}
-use Rattle.parity.specs.Coefficient.{coefficient, coefficientAnswer}
+use Rattle.parity.specs.Coefficient.{ruleOf, coefficientAnswer}
 use Rattle.parity.specs.Parity.{isFile}
 use Rattle.running_mul_add.specs.Running.{startMulAdd}
 use Rattle.mul_add_sums.specs.Adding.{Adds, AddsAll, Turn, inTurn, firsts, seconds}
@@ -85,35 +86,35 @@ SumCalled =
 -- ---- two boxes
 
 -- "each folds its share once with the volume's factors into zeros of the data size": the files are those of condition 2 (par1_set)
-abbrev pub Box : ℕ → List File → List ℕ → List ℕ → Type 0
-Box v fs ks b = AddsAll (λ f. coefficient f v) (contentsOf fs) ks (replicate (dataSizeFor fs) 0) b
+abbrev pub Box : Code → ℕ → List File → List ℕ → List ℕ → Type 0
+Box code v fs ks b = AddsAll (λ f. ruleOf code f v) (contentsOf fs) ks (replicate (dataSizeFor fs) 0) b
 
 -- proved: proofs/Boxes.antt, `some-buffer`
 abbrev pub SomeBuffer : Type 0
-SomeBuffer = (v : ℕ) (fs : List File) (ks : List ℕ) → (b : List ℕ) × Box v fs ks b
+SomeBuffer = (code : Code) (v : ℕ) (fs : List File) (ks : List ℕ) → (b : List ℕ) × Box code v fs ks b
 
 -- "if the saved files are split between two boxes, .. the two buffers summed are the full parity": each saved file stands in one of the shares,
 -- once, and nothing else does; proved: proofs/Boxes.antt, `two-boxes`
 abbrev pub TwoBoxes : Type 0
 TwoBoxes =
-    (v : ℕ) (fs : List File) (ks ls one two : List ℕ) → dataSizeFor fs < lendLimit → Once (isFile (fileCount fs)) (ks ++ ls)
-    → Box v fs ks one → Box v fs ls two → sumBytes one two ≡ dataFor coefficient v fs
+    (code : Code) (v : ℕ) (fs : List File) (ks ls one two : List ℕ) → dataSizeFor fs < lendLimit → Once (isFile (fileCount fs)) (ks ++ ls)
+    → Box code v fs ks one → Box code v fs ls two → sumBytes one two ≡ dataFor (ruleOf code) v fs
 
-pub record VolumeMerged (program v : ℕ) (fs : List File) (merged room out : List ℕ) : Type 0 where
+pub record VolumeMerged (code : Code) (program v : ℕ) (fs : List File) (merged room out : List ℕ) : Type 0 where
   -- `coefficient` of each saved file gives "the volume's factors"
-  pub coefficients-are : (f : ℕ) → isFile (fileCount fs) f ≡ true → coefficientAnswer f v ≡ Byte (coefficient f v)
+  pub coefficients-are : (f : ℕ) → isFile (fileCount fs) f ≡ true → coefficientAnswer code f v ≡ Byte (ruleOf code f v)
   -- "the full parity"
-  pub data-is : merged ≡ dataFor coefficient v fs
+  pub data-is : merged ≡ dataFor (ruleOf code) v fs
   -- `write_entry` of each file and `write_volume` of their list and the merged buffer give the volume of condition 2
-  pub volume-is : writeSet program v fs merged room out ≡ accepted (volumeFor version coefficient program v fs) out
+  pub volume-is : writeSet code program v fs merged room out ≡ accepted (volumeFor (versionFor code) (ruleOf code) program v fs) out
   -- `read` of it gives the parts
-  pub read-back : ReadBack (volumeFor version coefficient program v fs) program v (listFor fs) merged
+  pub read-back : ReadBack (volumeFor (versionFor code) (ruleOf code) program v fs) code program v (listFor fs) merged
 
 -- the buffer of one box is added to that of the other with the weight 1, at once or as it comes, in chunks; the rest is as in `SetWritten` of
 -- par1_set; proved: proofs/Boxes.antt, `merged-written`
 abbrev pub MergedWritten : Type 0
 MergedWritten =
-    (program v : ℕ) (fs : List File) (ks ls one two merged room out : List ℕ) → program < 2 ^ 32 → VolumeRight v fs → All Writable fs
-    → Once (isFile (fileCount fs)) (ks ++ ls) → Box v fs ks one → Box v fs ls two → Adds 1 two one merged
-    → length (listFor fs) ≤ length room → length (volumeFor version coefficient program v fs) ≤ length out
-    → VolumeMerged program v fs merged room out
+    (code : Code) (program v : ℕ) (fs : List File) (ks ls one two merged room out : List ℕ) → program < 2 ^ 32 → VolumeRight v fs → All Writable fs
+    → Once (isFile (fileCount fs)) (ks ++ ls) → Box code v fs ks one → Box code v fs ls two → Adds 1 two one merged
+    → length (listFor fs) ≤ length room → length (volumeFor (versionFor code) (ruleOf code) program v fs) ≤ length out
+    → VolumeMerged code program v fs merged room out
