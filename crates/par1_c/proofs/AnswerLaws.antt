@@ -31,7 +31,8 @@ use Rattle.par1_read.proofs.RangeLaws.{refusal-within}
 use Rattle.par1_read.proofs.ReadingLaws.{refusalOf, partsOf, read-accepted, read-refused}
 use Rattle.par1_write.specs.VolumeWriting.{writeVolumeOf}
 use Rattle.par1_write.proofs.VolumeWritingLaws.{volume-within}
-use Rattle.parity.specs.Coefficient.{coefficient}
+use Rattle.codes.specs.declared.Code.{Code}
+use Rattle.parity.specs.Coefficient.{ruleOf}
 use Rattle.lent_bytes.specs.declared.Writing.{Writing}
 use Rattle.lent_bytes.specs.declared.Writing.the-variants.{Written, Refused}
 use Rattle.amending.specs.Amending.{Change}
@@ -77,19 +78,19 @@ read-within f out = by (refusalOf f .number) refl
 pub read-answerable : (f out : List ℕ) → length f < 2 ^ 64 → Answerable (readInto (readOf f) out .0)
 read-answerable f out h = answerable (length f) _ h (read-within f out)
 
-pub volume-answerable : (program number : ℕ) (list area out : List ℕ) → length list < 2 ^ 64
-    → Answerable (withRefusal (writeVolumeOf program number list area out) .0)
-volume-answerable program number list area out h = answerable (length list) _ h (volume-within program number list area out)
+pub volume-answerable : (c : Code) (program number : ℕ) (list area out : List ℕ) → length list < 2 ^ 64
+    → Answerable (withRefusal (writeVolumeOf c program number list area out) .0)
+volume-answerable c program number list area out h = answerable (length list) _ h (volume-within c program number list area out)
 
 read-end-answerable : (b out : List ℕ) → Answerable (readEnded b out .0)
 read-end-answerable b out = let w = ended-within b out in record { number-most = w .0; place-most = w .1 }
 
 module _ (n : ℕ) (c : Change) (d out : List ℕ) (h : length out < 2 ^ 64) where
-  amend-answerable : (w : Writing) (t : List ℕ) → amendOf coefficient n c d out ≡ (w, t) → Answerable (lengthTold w)
+  amend-answerable : (w : Writing) (t : List ℕ) → amendOf ruleOf n c d out ≡ (w, t) → Answerable (lengthTold w)
   amend-answerable (Written k) t e =
-      let most = accepted-most coefficient n c d out e in record { number-most = omega arith; place-most = omega arith }
+      let most = accepted-most ruleOf n c d out e in record { number-most = omega arith; place-most = omega arith }
   amend-answerable (Refused r) t e =
-      let most = refused-most coefficient n c d out e in
+      let most = refused-most ruleOf n c d out e in
       record { number-most = omega (arith, most .number-most); place-most = omega (arith, most .place-most) }
 
 compare-answerable : (f g out : List ℕ) → Answerable (lengthTold (written (comparisonOf f g) out .0))
@@ -154,16 +155,16 @@ pub read-asked : (f out : List ℕ) {r : Refusal} {t : List ℕ} → length f < 
     → (r .number < 32) × (r .place < 2 ^ 59)
 read-asked f out h e = asked (ap (λ (p : Refusal × List ℕ). p .0) e) (read-answerable f out h)
 
-pub volume-asked : (program number : ℕ) (list area out : List ℕ) {r : Refusal} {t : List ℕ} → length list < 2 ^ 64
-    → (r, t) ≡ withRefusal (writeVolumeOf program number list area out) → (r .number < 32) × (r .place < 2 ^ 59)
-volume-asked program number list area out h e =
-    asked (ap (λ (p : Refusal × List ℕ). p .0) e) (volume-answerable program number list area out h)
+pub volume-asked : (c : Code) (program number : ℕ) (list area out : List ℕ) {r : Refusal} {t : List ℕ} → length list < 2 ^ 64
+    → (r, t) ≡ withRefusal (writeVolumeOf c program number list area out) → (r .number < 32) × (r .place < 2 ^ 59)
+volume-asked c program number list area out h e =
+    asked (ap (λ (p : Refusal × List ℕ). p .0) e) (volume-answerable c program number list area out h)
 
 pub read-end-asked : (b out : List ℕ) {r : Refusal} {s t : List ℕ} → (r, s, t) ≡ readEnded b out → (r .number < 32) × (r .place < 2 ^ 59)
 read-end-asked b out e = asked (ap (λ (p : Refusal × List ℕ × List ℕ). p .0) e) (read-end-answerable b out)
 
 pub amend-asked : (n : ℕ) (c : Change) (d out : List ℕ) {w : Writing} {t : List ℕ} {r : Refusal} → length out < 2 ^ 64
-    → (w, t) ≡ amendOf coefficient n c d out → r ≡ lengthTold w → (r .number < 32) × (r .place < 2 ^ 59)
+    → (w, t) ≡ amendOf ruleOf n c d out → r ≡ lengthTold w → (r .number < 32) × (r .place < 2 ^ 59)
 amend-asked n c d out {w} {t} h e is = asked is (amend-answerable n c d out h w t (sym e))
 
 -- the same of a call that tells its length
@@ -202,13 +203,13 @@ pub read-told : ReadTold
 read-told f out h = told _ (read-answerable f out h)
 
 pub volume-told : VolumeTold
-volume-told program number list area out h = told _ (volume-answerable program number list area out h)
+volume-told c program number list area out h = told _ (volume-answerable c program number list area out h)
 
 pub read-end-told : ReadEndTold
 read-end-told b out = told _ (read-end-answerable b out)
 
 pub amend-told : AmendTold
-amend-told n c d out h = told _ (amend-answerable n c d out h (amendOf coefficient n c d out .0) (amendOf coefficient n c d out .1) refl)
+amend-told n c d out h = told _ (amend-answerable n c d out h (amendOf ruleOf n c d out .0) (amendOf ruleOf n c d out .1) refl)
 
 pub compare-told : CompareTold
 compare-told f g out = told _ (compare-answerable f g out)

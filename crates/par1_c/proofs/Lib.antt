@@ -1,6 +1,7 @@
 pub mod AnswerLaws
 pub mod ReplayLaws
 mod CallLaws
+pub mod CodeCalls
 mod Determined
 mod HashWalks
 mod LoadLaws

@@ -16,7 +16,8 @@ use borrow.Author.Tests.{eqb-true, eqb-false, leb-true, le-leb, lt-leb, eq-eqb, 
 use lib.Dec.{eqb, leb}
 use lib.ListN.{getD, length, drop, drop-of-length-le}
 use Rattle.lent_bytes.proofs.WritingLaws.{written-fits, unless-none, unless-refused, numbered-as}
-use Rattle.parity.specs.Coefficient.{coefficient}
+use Rattle.codes.specs.declared.Code.{Code}
+use Rattle.parity.specs.Coefficient.{ruleOf}
 use Rattle.inventory.specs.Model.{Change, addFile, removeFile, addVolume, removeVolume, quarantine, release}
 use Rattle.inventory.specs.Query.{Queried}
 use Rattle.inventory.specs.Steps.{zeros, fresh, refusedOpening, openStep, outcome, accepted, withFiles, withVolumes, afterChange, changeStep}
@@ -36,6 +37,7 @@ use Rattle.refusals.specs.Tests.{bare}
 use Rattle.number_sets.proofs.Words.{words-none, words-inserted, words-removed}
 use Rattle.par1_c.specs.Claim.{OnBytes, OpenedOnBytes, ChangedOnBytes, CountedOnBytes, QueriedOnBytes}
 use Rattle.par1_c.proofs.CallLaws.{changed-same, counted-same}
+use Rattle.par1_c.proofs.CodeCalls.{by-code}
 
 -- an accepted outcome is stored, and a refused one leaves the bytes
 stored : (n : ℕ) (changed s : Inventory) → Held changed → Held s → let o = accepted n changed s in (n, inventoryBytes (o .next)) ≡ storedBy o (inventoryBytes s)
@@ -83,7 +85,7 @@ held-change : (c : Change) (s : Inventory) (k : ℕ) → Held s → Held (afterC
 unfolding afterChange
 held-change addFile s k h = with-files s _ h (words-inserted k (s .files) (h .files))
 held-change removeFile s k h = with-files s _ h (words-removed k (s .files) (h .files))
-held-change addVolume s k h = with-volumes s _ _ h (words-inserted k (s .volumes) (h .volumes)) (h .quarantined)
+held-change (addVolume c) s k h = with-volumes s _ _ h (words-inserted k (s .volumes) (h .volumes)) (h .quarantined)
 held-change removeVolume s k h =
     with-volumes s _ _ h (words-removed k (s .volumes) (h .volumes)) (words-removed k (s .quarantined) (h .quarantined))
 held-change quarantine s k h =
@@ -103,33 +105,33 @@ counted-on-bytes s h out = sym (counted-same (inventoryBytes s) out (sym (loaded
 pub queried-on-bytes : QueriedOnBytes
 queried-on-bytes s h f out r out′ q = (
   q .answer,
-  subst (λ (i : Inventory). Queried coefficient i f out (q .answer) out′) (loaded-back s h) (q .queried),
+  subst (λ (i : Inventory). Queried ruleOf i f out (q .answer) out′) (loaded-back s h) (q .queried),
   q .number-is,
 )
 
 -- ---- opening
 
 -- the sizes in bytes are read as they were
-opened-same : (n : ℕ) (sizes : List ℕ) → ((j : ℕ) → getD sizes j 0 < 2 ^ 64) → openedBy n (numbers sizes) ≡ openStep n sizes
+opened-same : (c : Code) (n : ℕ) (sizes : List ℕ) → ((j : ℕ) → getD sizes j 0 < 2 ^ 64) → openedBy c n (numbers sizes) ≡ openStep c n sizes
 unfolding openedBy
-opened-same n sizes small = elim (decLe n 254) [
+opened-same c n sizes small = elim (decLe n 254) [
   | yes few ↦ elim (ℕ-discrete (length sizes) n) [
     | yes same ↦
         let whole : length (numbers sizes) ≡ 8 * n = omega (arith, length-numbers sizes) in
         let back : numbersAt n (numbers sizes) 0 ≡ sizes =
         ap₂ (λ (k : ℕ) (b : List ℕ). numbersAt k b 0) (sym same) (sym (append-nil (numbers sizes))) ∙ numbers-back [] sizes [] small in
-        simp (le-leb n 254 few, eq-eqb (length (numbers sizes)) (8 * n) whole) (ap (openStep n) back)
+        simp (le-leb n 254 few, eq-eqb (length (numbers sizes)) (8 * n) whole) (ap (openStep c n) back)
     | no other ↦
-        simp (le-leb n 254 few, ne-eqb (length (numbers sizes)) (8 * n) (λ e. other (omega (arith, length-numbers sizes)))) (open-miscounted n sizes other)
+        simp (le-leb n 254 few, ne-eqb (length (numbers sizes)) (8 * n) (λ e. other (omega (arith, length-numbers sizes)))) (open-miscounted c n sizes other)
   ]
   | no many ↦
       let above : 254 < n = omega arith in
-      simp (lt-leb n 254 above) (open-out-of-range n sizes (simp (lt-leb n 254 above, and-false)))
+      simp (lt-leb n 254 above) (open-out-of-range c n sizes (simp (lt-leb n 254 above, and-false)))
 ]
 
-held-opened : (n : ℕ) (sizes : List ℕ) → Held (openStep n sizes .next)
+held-opened : (c : Code) (n : ℕ) (sizes : List ℕ) → Held (openStep c n sizes .next)
 unfolding openStep
-held-opened n sizes = by (oneTo 254 n && eqb (length sizes) n) (allBelow n (λ i. leb (getD sizes i 0) 16777216)) refl
+held-opened c n sizes = by (oneTo 254 n && eqb (length sizes) n) (allBelow n (λ i. leb (getD sizes i 0) 16777216)) refl
   where
     none : Held zeros
     none = record {
@@ -141,7 +143,7 @@ held-opened n sizes = by (oneTo 254 n && eqb (length sizes) n) (allBelow n (λ i
     }
 
     by : (a b : Bool) → (oneTo 254 n && eqb (length sizes) n) ≡ a
-        → Held (cond a (cond b (outcome (fresh n sizes) 0) (refusedOpening 1)) (refusedOpening 10) .next)
+        → Held (cond a (cond b (outcome (fresh c n sizes) 0) (refusedOpening 1)) (refusedOpening 10) .next)
     by true true e =
         let few : n ≤ 254 = leb-true n 254 (and-both (leb 1 n) (leb n 254) (and-both (oneTo 254 n) (eqb (length sizes) n) e .0) .1) in
         record {
@@ -155,4 +157,7 @@ held-opened n sizes = by (oneTo 254 n && eqb (length sizes) n) (allBelow n (λ i
     by false b e = none
 
 pub opened-on-bytes : OpenedOnBytes
-opened-on-bytes n sizes out small = (ap (λ (o : Outcome). storedBy o out) (opened-same n sizes small), held-opened n sizes)
+opened-on-bytes c n sizes out small = (
+  by-code c (λ d. storedBy (openedBy d n (numbers sizes)) out) out ∙ ap (λ (o : Outcome). storedBy o out) (opened-same c n sizes small),
+  held-opened c n sizes,
+)

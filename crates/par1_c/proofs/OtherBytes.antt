@@ -1,4 +1,4 @@
--- Bytes of another length than an inventory's are refused by every call on one.
+-- Bytes of another length than an inventory's, or of no code, are refused by every call on one.
 --
 --   others-refused    with 10, and nothing changes
 -- Assumes nothing.
@@ -9,7 +9,7 @@ use Rattle.inventory.specs.declared.Inventory.{Inventory}
 use Rattle.inventory.specs.declared.Outcome.{Outcome}
 use Rattle.inventory.proofs.Refused.{change-refused, count-refused, zeros-none}
 use Rattle.inventory_bytes.specs.Inventories.{inventoryOf, storedBy, countedInto}
-use Rattle.inventory_bytes.proofs.BackLaws.{inventory-none}
+use Rattle.inventory_bytes.proofs.BackLaws.{other-bytes}
 use Rattle.lent_bytes.specs.Writing.{writtenUnless}
 use Rattle.par1_c.specs.Claim.{OthersRefused}
 
@@ -24,4 +24,4 @@ others-refused b other = (
 )
   where
     none : inventoryOf b ≡ zeros
-    none = inventory-none b other
+    none = other-bytes b other

@@ -1,5 +1,6 @@
--- From C a refusal and its place are read off one number; each call on the bytes of an inventory is the call on the inventory, and leaves the
--- bytes of what that call hands back; and the query, which is promised by a relation, has one answer.
+-- From C a refusal and its place are read off one number; a call that is told the number of a code is the call by that code; each call on the
+-- bytes of an inventory is the call on the inventory, and leaves the bytes of what that call hands back; and the query, which is promised by a
+-- relation, has one answer.
 --
 --   ReadTold             the refusal of a file that is read is told by its answer
 --   VolumeTold           so is that of a volume that is written
@@ -11,24 +12,29 @@
 --   OpenTold, AddTold, DropTold     and that of a call on a catalog, or the catalog's new length
 --   LoadTold             and that of a load, or the number of entries
 --   ReplayTold           and that of a replay, or the length of its text
+--   ByCode               a call that is told the number of a code is the call by that code
+--   OtherCode            the four of them refuse with 10 what is the number of no code, and nothing changes
 --   OnBytes step s k     a call that changes s: its number, and the bytes of the inventory that it hands back, which bytes can hold again
 --   OpenedOnBytes        an opening with the bytes of the sizes is one with the sizes, and bytes can hold what it gives
 --   ChangedOnBytes       so are the calls that add, remove, set aside and take back
 --   CountedOnBytes       so is a count
 --   QueriedOnBytes       so is a query
---   OthersRefused        bytes of another length are refused with 10 by each of them, and nothing changes
+--   OthersRefused        bytes of another length, or of no code, are refused with 10 by each of them, and nothing changes
 --   QueryDetermined      what a query promises determines its number and the bytes lent to it
 --   ReplayDetermined     so does what a replay promises
 -- Assumes nothing.
 use mathlib.Core.Path.{_≡_}
-use mathlib.Core.Bool.{Bool}
+use mathlib.Core.Bool.{Bool, false}
+use mathlib.Core.Logic.{_⊎_, _≢_}
 use mathlib.Core.List.{List}
 use Prim.Native.Nat.{ℕ, _^_, _<_}
 use lib.ListN.{length, getD}
 use Rattle.answer_bytes.specs.Results.{readInto}
 use Rattle.job_bytes.specs.Reads.{readEnded}
 use Rattle.lent_bytes.specs.Writing.{written, withRefusal}
-use Rattle.parity.specs.Coefficient.{coefficient}
+use Rattle.codes.specs.Codes.{isCode, codeNumber}
+use Rattle.codes.specs.declared.Code.{Code}
+use Rattle.parity.specs.Coefficient.{ruleOf}
 use Rattle.par1_read.specs.Reading.{readOf}
 use Rattle.par1_write.specs.VolumeWriting.{writeVolumeOf}
 use Rattle.inventory.specs.Recoverable.{State}
@@ -39,7 +45,7 @@ use Rattle.inventory.specs.declared.Answer.{Answer}
 use Rattle.inventory.specs.declared.Inventory.{Inventory}
 use Rattle.inventory.specs.declared.Outcome.{Outcome}
 use Rattle.inventory_bytes.specs.Claim.{Held}
-use Rattle.inventory_bytes.specs.Inventories.{inventoryBytes, storedBy, countedInto}
+use Rattle.inventory_bytes.specs.Inventories.{codeIn, inventoryBytes, storedBy, countedInto}
 use Rattle.little_endian.specs.Bytes.{numbers}
 use Rattle.amending.specs.Amending as amending
 use Rattle.amending.specs.Call.{amendOf}
@@ -51,7 +57,8 @@ use Rattle.catalog.specs.declared.records.Row.{Row}
 use Rattle.par1_c.specs.Answers.{lengthTold, Told}
 use Rattle.replay.specs.Replay.{replayOf}
 use Rattle.par1_c.specs.Replays.{ReplayInto}
-use Rattle.par1_c.specs.Inventories.{openInto, changedBy, countInto, QueryInto}
+use Rattle.par1_c.specs.Codes.{byCode, coefficientInto, volumeInto}
+use Rattle.par1_c.specs.Inventories.{openInto, changedBy, addedBy, countInto, QueryInto}
 
 -- a list has fewer than 2^59 entries, so 64 bits hold the answer; the file's length is a u64; proved: proofs/AnswerLaws.antt, `read-told`
 abbrev pub ReadTold : Type 0
@@ -60,7 +67,8 @@ ReadTold = (f out : List ℕ) → length f < 2 ^ 64 → Told (readInto (readOf f
 -- the list's length is a u64; proved: proofs/AnswerLaws.antt, `volume-told`
 abbrev pub VolumeTold : Type 0
 VolumeTold =
-    (program number : ℕ) (list area out : List ℕ) → length list < 2 ^ 64 → Told (withRefusal (writeVolumeOf program number list area out) .0)
+    (c : Code) (program number : ℕ) (list area out : List ℕ) → length list < 2 ^ 64
+    → Told (withRefusal (writeVolumeOf c program number list area out) .0)
 
 -- proved: proofs/AnswerLaws.antt, `read-end-told`
 abbrev pub ReadEndTold : Type 0
@@ -69,7 +77,7 @@ ReadEndTold = (b out : List ℕ) → Told (readEnded b out .0)
 -- the room's length is a u64; proved: proofs/AnswerLaws.antt, `amend-told`
 abbrev pub AmendTold : Type 0
 AmendTold =
-    (n : ℕ) (c : amending.Change) (d out : List ℕ) → length out < 2 ^ 64 → Told (lengthTold (amendOf coefficient n c d out .0))
+    (n : ℕ) (c : amending.Change) (d out : List ℕ) → length out < 2 ^ 64 → Told (lengthTold (amendOf ruleOf n c d out .0))
 
 -- any two files have fewer than 2^59 bytes of lines; proved: proofs/AnswerLaws.antt, `compare-told`
 abbrev pub CompareTold : Type 0
@@ -103,6 +111,19 @@ LoadTold = (b : List ℕ) (rows : List Row) → Told (lengthTold (loadOf b rows 
 abbrev pub ReplayTold : Type 0
 ReplayTold = (d : State → ℕ → Bool) (log out : List ℕ) → Told (lengthTold (written (replayOf d log) out .0))
 
+-- of both codes, and whatever the call; proved: proofs/CodeCalls.antt, `by-code`
+abbrev pub ByCode : Type 0
+ByCode = (c : Code) (call : Code → ℕ × List ℕ) (lent : List ℕ) → byCode (codeNumber c) call lent ≡ call c
+
+-- whatever else they are told; proved: proofs/CodeCalls.antt, `other-code`
+abbrev pub OtherCode : Type 0
+OtherCode =
+    (k : ℕ) → ((c : Code) → k ≢ codeNumber c)
+    → ((f v : ℕ) (out : List ℕ) → coefficientInto k f v out ≡ (10, out))
+    × ((program number : ℕ) (list area out : List ℕ) → volumeInto k program number list area out ≡ (10, out))
+    × ((n : ℕ) (s out : List ℕ) → openInto k n s out ≡ (10, out))
+    × ((v : ℕ) (b : List ℕ) → addedBy k v b ≡ (10, b))
+
 pub record OnBytes (step : Inventory → ℕ → Outcome) (s : Inventory) (k : ℕ) : Type 0 where
   pub gives : changedBy step k (inventoryBytes s) ≡ (step s k .number, inventoryBytes (step s k .next))
   pub held : Held (step s k .next)
@@ -110,10 +131,10 @@ pub record OnBytes (step : Inventory → ℕ → Outcome) (s : Inventory) (k : �
 -- each size is a u64; proved: proofs/OnBytes.antt, `opened-on-bytes`
 abbrev pub OpenedOnBytes : Type 0
 OpenedOnBytes =
-    (n : ℕ) (sizes out : List ℕ) → ((j : ℕ) → getD sizes j 0 < 2 ^ 64)
-    → (openInto n (numbers sizes) out ≡ storedBy (openStep n sizes) out) × Held (openStep n sizes .next)
+    (c : Code) (n : ℕ) (sizes out : List ℕ) → ((j : ℕ) → getD sizes j 0 < 2 ^ 64)
+    → (openInto (codeNumber c) n (numbers sizes) out ≡ storedBy (openStep c n sizes) out) × Held (openStep c n sizes .next)
 
--- proved: proofs/OnBytes.antt, `changed-on-bytes`
+-- the addition of a volume is told the number of its code (ByCode); proved: proofs/OnBytes.antt, `changed-on-bytes`
 abbrev pub ChangedOnBytes : Type 0
 ChangedOnBytes = (s : Inventory) → Held s → (c : Change) (k : ℕ) → OnBytes (changeStep c) s k
 
@@ -125,12 +146,12 @@ CountedOnBytes = (s : Inventory) → Held s → (out : List ℕ) → countInto (
 abbrev pub QueriedOnBytes : Type 0
 QueriedOnBytes =
     (s : Inventory) → Held s → (f : ℕ) (out : List ℕ) (r : ℕ) (out′ : List ℕ) → QueryInto (inventoryBytes s) f out r out′
-    → (a : Answer) × Queried coefficient s f out a out′ × (r ≡ answerNumber a)
+    → (a : Answer) × Queried ruleOf s f out a out′ × (r ≡ answerNumber a)
 
 -- "10: .. a sheet that no calls give": bytes that are no inventory are none; proved: proofs/OtherBytes.antt, `others-refused`
 abbrev pub OthersRefused : Type 0
 OthersRefused =
-    (b : List ℕ) → (length b ≡ 136 → ⊥)
+    (b : List ℕ) → (length b ≢ 144) ⊎ (isCode (codeIn b) ≡ false)
     → ((c : Change) (k : ℕ) → changedBy (changeStep c) k b ≡ (10, b))
     × ((out : List ℕ) → countInto b out ≡ (10, out))
     × ((f : ℕ) (out : List ℕ) (r : ℕ) (out′ : List ℕ) → QueryInto b f out r out′ → (r ≡ 10) × (out′ ≡ out))

@@ -1,4 +1,5 @@
 pub mod Answers
 pub mod Claim
+pub mod Codes
 pub mod Inventories
 pub mod Replays

@@ -1,21 +1,28 @@
-// The calls on inventories in lent bytes. Bytes of another length than an inventory's are loaded as the inventory of zeros, which every call
-// refuses with 10.
+// The calls on inventories in lent bytes. Bytes of another length than an inventory's, or of no code, are loaded as the inventory of zeros,
+// which every call refuses with 10.
 ghost use mathlib.Core.Path.{_≡_};
-ghost use Rattle.inventory.specs.Model.{addFile, removeFile, addVolume, removeVolume, quarantine, release};
+ghost use Rattle.inventory.specs.Model.{addFile, removeFile, removeVolume, quarantine, release};
 ghost use Rattle.inventory.specs.Steps.{changeStep};
-ghost use Rattle.par1_c.specs.Inventories.{openInto, changedBy, countInto, QueryInto};
+ghost use Rattle.par1_c.specs.Inventories.{openInto, changedBy, addedBy, countInto, QueryInto};
+use codes::code_of;
+use codes::is_code;
 use inventory_bytes::answer_number;
 use inventory_bytes::loaded;
 use inventory_bytes::opened;
 use inventory_bytes::store;
 use inventory_bytes::store_count;
+use refusals::OUT_OF_RANGE;
 
-// Opens an inventory of n files, whose sizes are n numbers, over the first 136 bytes of `out`.
+// Opens an inventory for volumes of a code, of n files, whose sizes are n numbers, over the first 144 bytes of `out`.
 #[no_mangle]
-pub extern "C" fn par1_open(n: u64, sizes: &[u8], out: &mut [u8]) -> u32
-    ensures { λ r. ⌜ (r, now (out .exit)) ≡ openInto n (now (sizes .entry)) (now (out .entry)) ⌝ }
+pub extern "C" fn par1_open(code: u32, n: u64, sizes: &[u8], out: &mut [u8]) -> u32
+    ensures { λ r. ⌜ (r, now (out .exit)) ≡ openInto code n (now (sizes .entry)) (now (out .entry)) ⌝ }
 {
-    store(opened(n, sizes), out)
+    let number = code as u64;
+    if !is_code(number) {
+        return OUT_OF_RANGE;
+    }
+    store(opened(code_of(number), n, sizes), out)
 }
 
 // Adds a file to what is present.
@@ -34,12 +41,19 @@ pub extern "C" fn par1_remove_file(inventory: &mut [u8], file: u64) -> u32
     store(loaded(inventory).remove_file(file), inventory)
 }
 
-// Adds a volume to what is present.
+// Adds a volume of a code to what is present.
 #[no_mangle]
-pub extern "C" fn par1_add_volume(inventory: &mut [u8], volume: u64) -> u32
-    ensures { λ r. ⌜ (r, now (inventory .exit)) ≡ changedBy (changeStep addVolume) volume (now (inventory .entry)) ⌝ }
+pub extern "C" fn par1_add_volume(inventory: &mut [u8], code: u32, volume: u64) -> u32
+    ensures { λ r. ⌜ (r, now (inventory .exit)) ≡ addedBy code volume (now (inventory .entry)) ⌝ }
 {
-    store(loaded(inventory).add_volume(volume), inventory)
+    let number = code as u64;
+    if !is_code(number) {
+        return OUT_OF_RANGE;
+    }
+    store(
+        loaded(inventory).add_volume(code_of(number), volume),
+        inventory,
+    )
 }
 
 // Removes a volume from what is present or in quarantine.

@@ -5,17 +5,17 @@ ghost use mathlib.Core.Path.{_≡_};
 ghost use Prim.Native.Nat.{_^_, _<_};
 ghost use Rattle.gf256.specs.Answer.{inverseAnswer};
 ghost use Rattle.md5.specs.Digest.{digestInto};
-ghost use Rattle.parity.specs.Coefficient.{coefficient, coefficientAnswer};
+ghost use Rattle.parity.specs.Coefficient.{ruleOf};
 ghost use Rattle.mul_add.specs.MulAdd.{mulAdd};
 ghost use Rattle.par1.specs.Checking.{checkOf};
 ghost use Rattle.par1_write.specs.EntryWriting.{writeEntryOf};
 ghost use Rattle.par1_read.specs.Reading.{readOf};
-ghost use Rattle.par1_write.specs.VolumeWriting.{writeVolumeOf};
 ghost use Rattle.answer_bytes.specs.Results.{byteInto, readInto, entryInto};
 ghost use Rattle.entries.specs.Walk.{firstOf};
-ghost use Rattle.lent_bytes.specs.Writing.{withRefusal, withNumber};
+ghost use Rattle.lent_bytes.specs.Writing.{withNumber};
 ghost use Rattle.amending.specs.Call.{changeOf, amendOf};
 ghost use Rattle.par1_c.specs.Answers.{answerOf, answered, lengthTold, answeredLength};
+ghost use Rattle.par1_c.specs.Codes.{coefficientInto, volumeInto};
 
 mod catalogs;
 mod hash;
@@ -28,9 +28,12 @@ mod texts;
 use answer_bytes::put_answer;
 use answer_bytes::put_entry;
 use answer_bytes::put_reading;
+use codes::code_of;
+use codes::is_code;
 use lent_bytes::Writing;
 use lent_bytes::refusal_of;
 use par1::Refusal;
+use refusals::OUT_OF_RANGE;
 
 // The MD5 of `bytes` over the first 16 bytes of `out`.
 #[no_mangle]
@@ -48,12 +51,16 @@ pub extern "C" fn par1_inverse(x: u8, out: &mut [u8]) -> u32
     put_answer(gf256::inverse(x), out)
 }
 
-// The coefficient of a file in a volume over the first byte of `out`.
+// The coefficient of a file in a volume of a code over the first byte of `out`.
 #[no_mangle]
-pub extern "C" fn par1_coefficient(file: u64, volume: u64, out: &mut [u8]) -> u32
-    ensures { λ r. ⌜ (r, now (out .exit)) ≡ byteInto (coefficientAnswer file volume) (now (out .entry)) ⌝ }
+pub extern "C" fn par1_coefficient(code: u32, file: u64, volume: u64, out: &mut [u8]) -> u32
+    ensures { λ r. ⌜ (r, now (out .exit)) ≡ coefficientInto code file volume (now (out .entry)) ⌝ }
 {
-    put_answer(parity::coefficient(file, volume), out)
+    let number = code as u64;
+    if !is_code(number) {
+        return OUT_OF_RANGE;
+    }
+    put_answer(parity::coefficient(code_of(number), file, volume), out)
 }
 
 // Adds weight times the fragment to the buffer, byte by byte, as far as both go.
@@ -64,7 +71,7 @@ pub extern "C" fn par1_mul_add(weight: u8, fragment: &[u8], buffer: &mut [u8])
     mul_add::mul_add(weight, fragment, buffer)
 }
 
-// The parts of an index file or volume over the first 56 bytes of `out`.
+// The parts of an index file or volume over the first 64 bytes of `out`.
 #[no_mangle]
 pub extern "C" fn par1_read(file: &[u8], out: &mut [u8]) -> u64
     ensures { λ r. ⌜ (r, now (out .exit)) ≡ answered (readInto (readOf (now (file .entry))) (now (out .entry))) ⌝ }
@@ -88,19 +95,23 @@ pub extern "C" fn par1_write_entry(contents: &[u8], status: u64, name: &[u8], ou
     refusal_of(par1::write_entry(contents, status, name, out)).number
 }
 
-// Writes a volume, or an index where the number is 0, over the first bytes of `out`.
+// Writes a volume of a code, or an index of it where the number is 0, over the first bytes of `out`.
 #[no_mangle]
 pub extern "C" fn par1_write_volume(
+    code: u32,
     program: u32,
     number: u64,
     list: &[u8],
     data: &[u8],
     out: &mut [u8],
 ) -> u64
-    ensures { λ r. ⌜ (r, now (out .exit))
-        ≡ answered (withRefusal (writeVolumeOf program number (now (list .entry)) (now («data» .entry)) (now (out .entry)))) ⌝ }
+    ensures { λ r. ⌜ (r, now (out .exit)) ≡ volumeInto code program number (now (list .entry)) (now («data» .entry)) (now (out .entry)) ⌝ }
 {
-    answer(refusal_of(par1::write_volume(program, number, list, data, out)))
+    let kind = code as u64;
+    if !is_code(kind) {
+        return OUT_OF_RANGE as u64;
+    }
+    answer(refusal_of(par1::write_volume(code_of(kind), program, number, list, data, out)))
 }
 
 // Amends the volume in the first `length` bytes of `volume`; the value of the answer is its new length.
@@ -116,7 +127,7 @@ pub extern "C" fn par1_amend(
 ) -> u64
     ensures { λ r. ⌜ (r, now (volume .exit))
         ≡ answeredLength
-        (amendOf coefficient length (changeOf file place (now (old .entry)) (now (new .entry))) (now (entry .entry)) (now (volume .entry))) ⌝ }
+        (amendOf ruleOf length (changeOf file place (now (old .entry)) (now (new .entry))) (now (entry .entry)) (now (volume .entry))) ⌝ }
 {
     answer(length_told(amending::amend(volume, length, file, place, old, new, entry)))
 }

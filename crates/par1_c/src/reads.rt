@@ -24,7 +24,7 @@ pub extern "C" fn par1_read_push(job: &mut [u8], bytes: &[u8]) -> u32
     push_read(job, bytes)
 }
 
-// Ends a running read: the parts of the file over the first 56 bytes of `out`.
+// Ends a running read: the parts of the file over the first 64 bytes of `out`.
 #[no_mangle]
 pub extern "C" fn par1_read_end(job: &mut [u8], out: &mut [u8]) -> u64
     ensures { λ r. ⌜ (r, now (job .exit), now (out .exit)) ≡ answeredEnd (readEnded (now (job .entry)) (now (out .entry))) ⌝ }

@@ -1,11 +1,29 @@
 -- `par1_c::inventories::par1_open` meets its contract.
 -- Assumes nothing.
+use Rattle.par1_c.proofs.CodeCalls.{known-told, unknown-told}
 use borrow.Author.Needs.{needs}
 use Rattle.par1_c.proofs.inventories.par1_open.Statement.{statement}
 use Rattle.par1_c.proofs.inventories.par1_open.Tie as tie
 
 returns : tie.Need-returns
-returns c = let p = c .before .before in rw (p .before .before .opened .ensures) at (p .store .ensures)
+returns c = unknown-told _ _ _ (c .before .is-code .ensures) (c .if1 .taken)
+
+returns-2 : tie.Need-returns-2
+returns-2 c =
+    let p = c .before .before in
+    let k = p .before .before .before in
+    let i = k .before in
+    known-told _ _ _ (i .before .is-code .ensures) (i .if1 .left) (k .code-of .ensures)
+    (rw (p .before .before .opened .ensures) at (p .store .ensures))
 
 pub par1-open-spec : {M : Type 1} → statement M
-par1-open-spec = tie.close (tie.spec (λ c κs. search needs) (λ c κs. search needs) (λ c. search needs) returns)
+par1-open-spec =
+    tie.close
+    (tie.spec
+    (λ c κs. search needs)
+    returns
+    (λ c κs. search needs)
+    (λ c κs. search needs)
+    (λ c κs. search needs)
+    (λ c. search needs)
+    returns-2)

@@ -2,7 +2,7 @@
 -- Assumes nothing.
 use mathlib.Core.Path.{subst}
 use denote.Ref.{now}
-use Rattle.parity.specs.Coefficient.{coefficient}
+use Rattle.parity.specs.Coefficient.{ruleOf}
 use Rattle.inventory.specs.Query.{Queried}
 use Rattle.inventory.specs.declared.Inventory.{Inventory}
 use borrow.Author.Needs.{needs}
@@ -16,7 +16,7 @@ returns c =
     let a = l .before .before .before .args in
     record {
       answer = q .query .result;
-      queried = subst (λ (s : Inventory). Queried coefficient s (a .file) (now (a .out)) (q .query .result) (q .query .last .1 .1 .0))
+      queried = subst (λ (s : Inventory). Queried ruleOf s (a .file) (now (a .out)) (q .query .result) (q .query .last .1 .1 .0))
           (l .loaded .ensures) (q .query .ensures);
       number-is = c .answer-number .ensures;
     }
