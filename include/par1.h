@@ -28,13 +28,14 @@ enum {
     PAR1_ACCEPTED = 0,
     PAR1_SIZE = 1,          /* the length of a file or volume, or a size, is out of range */
     PAR1_SIGNATURE = 2,     /* the first eight bytes differ */
-    PAR1_VERSION = 3,       /* the version is not 65,536 */
+    PAR1_VERSION = 3,       /* the version is neither 65,536 nor 131,328 */
     PAR1_LAYOUT = 4,        /* list or data does not lie where it must */
     PAR1_CONTROL_HASH = 5,  /* the control hash differs */
     PAR1_VOLUME_NUMBER = 7, /* too many files, or the volume number does not go with them */
     PAR1_SET_HASH = 8,      /* the set hash differs */
     PAR1_DATA_SIZE = 9,     /* the data's size is odd in an index, or in a volume not the greatest file size among the saved entries */
-    PAR1_OUT_OF_RANGE = 10, /* a number is out of range, no calls give the inventory, 0 has no inverse, or an index is to be amended or added */
+    PAR1_OUT_OF_RANGE = 10, /* a number is out of range, there is no such code, no calls give the inventory, 0 has no inverse, or an index is to be
+                               amended or added */
     PAR1_ALREADY = 11,      /* present already, or not present, or not in quarantine */
     PAR1_UNDETERMINED = 12, /* what is present does not determine the file */
     PAR1_PRESENT = 13,      /* the file is present */
@@ -53,8 +54,15 @@ enum {
     PAR1_ENTRIES = 26,      /* more than 1,024 entries for a catalog */
     PAR1_QUARANTINED = 27,  /* the volume is in quarantine */
     PAR1_EVENT = 28,        /* a line of a log has another shape; only in the text of a replay */
+    PAR1_OTHER_CODE = 29,   /* the volume is of the other code than the inventory */
     PAR1_CATALOG = 30       /* the catalog ends early, or no list and volumes give it */
 };
+
+/* By which coefficients volumes are made. Par 1.0's own, which any client reads, are powers, in files of version 65,536: there are files and volumes
+ * that do not come back though the volumes are as many as the missing files. With Cauchy coefficients, in files of version 131,328, any volumes will
+ * do: as many of them as missing files of size 1 or more bring all back. Programs that know Par 1.0 alone refuse that version. A call that is told
+ * any other number as a code refuses with 10. */
+enum { PAR1_POWERS = 0, PAR1_CAUCHY = 1 };
 
 /* An answer that has more to say than a number: the number, and a value that goes with it. The value of a refusal 16 to 18 is the place of the entry
  * in its list, from 1, and 0 where it stands in none; of 22 and 23 it is the line's number, from 1; of any other refusal it is 0, so that a refusal
@@ -68,9 +76,9 @@ typedef uint64_t par1_answer;
 /* How many bytes the results take. A weight is a byte. */
 enum {
     PAR1_MD5_BYTES = 16,
-    PAR1_PARTS_BYTES = 56,
+    PAR1_PARTS_BYTES = 64,
     PAR1_ENTRY_BYTES = 24,
-    PAR1_INVENTORY_BYTES = 136,
+    PAR1_INVENTORY_BYTES = 144,
     PAR1_COUNT_BYTES = 24,
     PAR1_WEIGHTS = 255,
     PAR1_WEIGHTS_BYTES = PAR1_WEIGHTS
@@ -96,7 +104,8 @@ enum {
     PAR1_PARTS_SAVED = 24,
     PAR1_PARTS_LIST_SIZE = 32,
     PAR1_PARTS_DATA_START = 40,
-    PAR1_PARTS_DATA_SIZE = 48
+    PAR1_PARTS_DATA_SIZE = 48,
+    PAR1_PARTS_CODE = 56 /* PAR1_POWERS or PAR1_CAUCHY */
 };
 
 /* Where the numbers stand that par1_entry writes, and those that par1_count writes. */
@@ -113,19 +122,20 @@ uint32_t par1_md5(const uint8_t *bytes, size_t bytes_len, uint8_t *out, size_t o
  * `out` has no byte. */
 uint32_t par1_inverse(uint8_t x, uint8_t *out, size_t out_len);
 
-/* The coefficient of a file in a volume, f to the power v - 1, into the first byte of `out`. Refuses with 10 where file or volume is 0 or
- * their sum is above 255, then with 14 where `out` has no byte. */
-uint32_t par1_coefficient(uint64_t file, uint64_t volume, uint8_t *out, size_t out_len);
+/* The coefficient of a file in a volume by a code into the first byte of `out`: of PAR1_POWERS f to the power v - 1, of PAR1_CAUCHY the inverse of f
+ * exclusive-or (256 - v). Refuses with 10 where there is no such code, or file or volume is 0 or their sum is above 255, then with 14 where `out` has
+ * no byte. */
+uint32_t par1_coefficient(uint32_t code, uint64_t file, uint64_t volume, uint8_t *out, size_t out_len);
 
 /* Adds weight times the fragment to the buffer, byte by byte, for as many bytes as both have. Refuses nothing. With the weight 1 it sums two
  * buffers: where the saved files are split between two boxes, and each adds its share with the volume's coefficients to zeros of the data size, the
  * buffers summed are the volume's data. */
 void par1_mul_add(uint8_t weight, const uint8_t *fragment, size_t fragment_len, uint8_t *buffer, size_t buffer_len);
 
-/* What an index file or volume holds, into the first 56 bytes of `out`: seven numbers, at PAR1_PARTS_..: program identifier, volume number
- * (0 for an index), entries, saved entries, list size, data start, data size. The list starts at byte 96. Refuses, in this order, with 1: the
- * length is not 96 to 33,554,432; 2 to 5; 16, 17 or 18: an entry breaks a rule, the first that does, with its place, and the first of its
- * rules; 19: the number of entries differs; 7 to 9; 14: `out` is shorter. */
+/* What an index file or volume holds, into the first 64 bytes of `out`: eight numbers, at PAR1_PARTS_..: program identifier, volume number (0 for an
+ * index), entries, saved entries, list size, data start, data size, the code that its version stands for. The list starts at byte 96. Refuses, in
+ * this order, with 1: the length is not 96 to 33,554,432; 2 to 5; 16, 17 or 18: an entry breaks a rule, the first that does, with its place, and the
+ * first of its rules; 19: the number of entries differs; 7 to 9; 14: `out` is shorter. */
 par1_answer par1_read(const uint8_t *file, size_t file_len, uint8_t *out, size_t out_len);
 
 /* What the first entry of a list, or of what is left of one, says, into the first 24 bytes of `out`: three numbers, at PAR1_ENTRY_..: its
@@ -141,24 +151,25 @@ uint32_t par1_entry(const uint8_t *list, size_t list_len, uint8_t *out, size_t o
 uint32_t par1_write_entry(const uint8_t *contents, size_t contents_len, uint64_t status, const uint8_t *name, size_t name_len, uint8_t *out,
                           size_t out_len);
 
-/* Writes a volume, or an index where number is 0, from its list of entries and its data, over the first 96 + list_len + data_len bytes of
- * `out`. Refuses, in this order, with 16, 17 or 18: an entry breaks a rule, the first that does, with its place, and the first of its rules
- * (bytes after the last entry that are none are 16 at the place after it); 7: more than 254 saved entries, or a volume with none, or its
- * number and the saved entries are above 255 together; 9: data_len is odd in an index, or in a volume not the greatest file size among the
- * saved entries; 1: the whole is above 33,554,432 bytes; 14: `out` is shorter. Whether the data is the parity of the files is the caller's. */
-par1_answer par1_write_volume(uint32_t program, uint64_t number, const uint8_t *list, size_t list_len, const uint8_t *data, size_t data_len,
-                              uint8_t *out, size_t out_len);
+/* Writes a volume, or an index where number is 0, of a code from its list of entries and its data, over the first 96 + list_len + data_len bytes of
+ * `out`. Of the code only the version is written, in an index too. Refuses, in this order, with 10: there is no such code; 16, 17 or 18: an entry
+ * breaks a rule, the first that does, with its place, and the first of its rules (bytes after the last entry that are none are 16 at the place after
+ * it); 7: more than 254 saved entries, or a volume with none, or its number and the saved entries are above 255 together; 9: data_len is odd in an
+ * index, or in a volume not the greatest file size among the saved entries; 1: the whole is above 33,554,432 bytes; 14: `out` is shorter. Whether the
+ * data is the parity of the files by the code's coefficients is the caller's. */
+par1_answer par1_write_volume(uint32_t code, uint32_t program, uint64_t number, const uint8_t *list, size_t list_len, const uint8_t *data,
+                              size_t data_len, uint8_t *out, size_t out_len);
 
 /* Amends a volume where it stands, for a file that has changed. `volume` is the room that it lies in, `length` its present length there. The file
  * with number `file` had the bytes `old` from `place` on and now has the bytes `new_`; `entry` is its entry as it now is. Either both are equally
  * long and inside the file, or `old` is empty, `place` is the file's size, and `new_` goes on its end. The value is the volume's new length, which
  * is greater where the file grows past the greatest size among the saved entries, else the same.
  *
- * Where the data grows it gets zeros on its end; then it gains the file's coefficient times `old` and times `new_` from `place` on. The entry's
- * size and hashes, the set hash, the control hash and the data size are put right, and nothing else changes. So after any run of accepted
- * amendments, given true old bytes and entries, the volume is the one that par1_write_volume writes from the files as they are now. Whether they are
- * true is the caller's: `old` is not held against the data, nor `entry` against the file. An inventory that was opened before is opened again: it
- * knows which files are empty.
+ * Where the data grows it gets zeros on its end; then it gains the file's coefficient, by the volume's own code, times `old` and times `new_` from
+ * `place` on. The entry's size and hashes, the set hash, the control hash and the data size are put right, and nothing else changes. So after any run
+ * of accepted amendments, given true old bytes and entries, the volume is the one that par1_write_volume writes from the files as they are now.
+ * Whether they are true is the caller's: `old` is not held against the data, nor `entry` against the file. An inventory that was opened before is
+ * opened again: it knows which files are empty.
  *
  * For a file whose status par1_write_entry does not write (old volumes carry 2 and 3), write the entry with 0 or 1 and put the volume's 8 bytes of
  * status over its bytes 8 to 15.
@@ -230,10 +241,11 @@ struct par1_row {
 par1_answer par1_catalog_open(const uint8_t *file, size_t file_len, uint8_t *out, size_t out_len);
 
 /* Adds a volume to the catalog in the room `catalog`: its row goes between those of lower and of greater numbers, the greater ones move up by a row,
- * and the number of volumes is one more; nothing else changes. The value is the new length. Names, and bits of status but that of saved, are not in
- * the rows. Refuses, in this order, with 1 to 5, 16 to 19, 7 to 9: as par1_read of the volume, with the place in the list; 30; 10: its number is 0 (an
- * index) or above 255 - n, n being the saved files of the catalog; 25: its list gives other entry rows; 26: its list has more than 1,024 entries, which
- * 25 forestalls; 11: a volume of its number is there; 14: the room is shorter than the new length. */
+ * and the number of volumes is one more; nothing else changes. The value is the new length. Names, bits of status but that of saved, and the
+ * code are not in the rows: volumes of either code go into one catalog, one of each number. Refuses, in this order, with 1 to 5, 16 to 19, 7 to 9: as
+ * par1_read of the volume, with the place in the list; 30; 10: its number is 0 (an index) or above 255 - n, n being the saved files of the catalog; 25:
+ * its list gives other entry rows; 26: its list has more than 1,024 entries, which 25 forestalls; 11: a volume of its number is there; 14: the room is
+ * shorter than the new length. */
 par1_answer par1_catalog_add(uint8_t *catalog, size_t catalog_len, const uint8_t *volume, size_t volume_len);
 
 /* Drops a volume: its row goes, the greater ones move down by a row, and the number of volumes is one less; nothing else changes, so that the bytes of
@@ -303,25 +315,27 @@ uint32_t par1_read_start(uint8_t *job, size_t job_len);
 /* Takes the next bytes of the file, any number of them; more than 33,554,432 in all are refused at the end. Refuses with 20. */
 uint32_t par1_read_push(uint8_t *job, size_t job_len, const uint8_t *bytes, size_t bytes_len);
 
-/* What the file holds whose bytes were pushed, into the first 56 bytes of `out`, as par1_read has it; the reading is over. Refuses with 20,
+/* What the file holds whose bytes were pushed, into the first 64 bytes of `out`, as par1_read has it; the reading is over. Refuses with 20,
  * then as par1_read, 14 last; that ends the reading too. */
 par1_answer par1_read_end(uint8_t *job, size_t job_len, uint8_t *out, size_t out_len);
 
-/* An inventory says what of a set of n files and their volumes is present, and which volumes are in quarantine: held, but set aside. It is 136
- * bytes, 17 numbers: n; the files present, the volumes present, the files of size 1 or more, the volumes in quarantine, four words each, number k
- * being bit k mod 64 of word k div 64. No volume is both present and in quarantine. Every call on one refuses with 10, first of all, bytes of another
- * length or that no calls give. */
+/* An inventory says what of a set of n files and their volumes is present, and which volumes are in quarantine: held, but set aside. Its volumes are
+ * all of one code. It is 144 bytes, 18 numbers: n; the files present, the volumes present, the files of size 1 or more, the volumes in quarantine, four
+ * words each, number k being bit k mod 64 of word k div 64; the code. No volume is both present and in quarantine. Every call on one refuses with 10,
+ * first of all, bytes of another length or that no calls give. */
 
-/* Opens an inventory of n files, whose sizes are n numbers, nothing present, into the first 136 bytes of `inventory`. Refuses with 10 where n
- * is not 1 to 254 or the sizes are not n numbers, with 1 where a size is above 16,777,216, then with 14 where `inventory` is shorter. */
-uint32_t par1_open(uint64_t n, const uint8_t *sizes, size_t sizes_len, uint8_t *inventory, size_t inventory_len);
+/* Opens an inventory of n files, whose sizes are n numbers, and of volumes of this code, nothing present, into the first 144 bytes of `inventory`.
+ * Refuses with 10 where there is no such code, n is not 1 to 254 or the sizes are not n numbers, with 1 where a size is above 16,777,216, then with 14
+ * where `inventory` is shorter. */
+uint32_t par1_open(uint32_t code, uint64_t n, const uint8_t *sizes, size_t sizes_len, uint8_t *inventory, size_t inventory_len);
 
-/* Adds a file or a volume to what is present, or removes it: changes the 136 bytes in place. Refuses with 10 where the number is out of
- * range (files 1 to n, volumes 1 to 255 - n); then an addition with 27 where the volume is in quarantine, and with 11 where it is present already; a
- * removal with 11 where it is neither present nor in quarantine. A volume that is removed from quarantine is then neither. */
+/* Adds a file or a volume to what is present, or removes it: changes the 144 bytes in place. A volume is added with its code, which par1_read tells.
+ * Refuses with 10 where the number is out of range (files 1 to n, volumes 1 to 255 - n), or there is no such code; then the addition of a volume with 29
+ * where it is of the other code than the inventory, with 27 where it is in quarantine, and an addition with 11 where it is present already; a removal
+ * with 11 where it is neither present nor in quarantine. A volume that is removed from quarantine is then neither. */
 uint32_t par1_add_file(uint8_t *inventory, size_t inventory_len, uint64_t file);
 uint32_t par1_remove_file(uint8_t *inventory, size_t inventory_len, uint64_t file);
-uint32_t par1_add_volume(uint8_t *inventory, size_t inventory_len, uint64_t volume);
+uint32_t par1_add_volume(uint8_t *inventory, size_t inventory_len, uint32_t code, uint64_t volume);
 uint32_t par1_remove_volume(uint8_t *inventory, size_t inventory_len, uint64_t volume);
 
 /* Puts a volume that is present into quarantine, say because a file rebuilt with it differs from its entry (15); and takes it back. For every query
@@ -336,15 +350,17 @@ uint32_t par1_count(const uint8_t *inventory, size_t inventory_len, uint8_t *out
 
 /* Whether a file comes back from what is present. 0: it does, and its 255 weights are the first 255 bytes of `out`, file f's at f - 1,
  * volume v's at n + v - 1: par1_mul_add of each fragment present with its weight, in any order, into zeros of the file's size gives the
- * file. 13: it is present. 12: it is undetermined, what is present does not determine it. Refuses with 10 where the file is not 1 to n, and
+ * file. 13: it is present. 12: it is undetermined, what is present does not determine it; of an inventory of PAR1_CAUCHY it is so exactly where fewer
+ * volumes are present than files of size 1 or more are missing, and the file is one of these. Refuses with 10 where the file is not 1 to n, and
  * with 14, after 13 and 12, where `out` is shorter. Takes 68 KiB of stack. */
 uint32_t par1_query(const uint8_t *inventory, size_t inventory_len, uint64_t file, uint8_t *out, size_t out_len);
 
 /* Replays a log of arrivals, as text over the first bytes of `out`: what the program par_replay prints. The value is the length of the text.
  *
- * The first line of a log is the number of files and their sizes, which opens an inventory with nothing present: `2 2 1`. Each further line is an
- * event: `F 7` and `V 4` add file 7 and volume 4, `f 7` and `v 4` remove them. Numbers are decimal without leading zeros, single spaces stand between,
- * and byte 10 ends each line. Nothing is written for the first line where it is accepted; then, for each event, a line ended by byte 10:
+ * The first line of a log is the number of files and their sizes, which opens an inventory of PAR1_POWERS with nothing present: `2 2 1`. Each further
+ * line is an event: `F 7` and `V 4` add file 7 and volume 4, `f 7` and `v 4` remove them. Numbers are decimal without leading zeros, single spaces
+ * stand between, and byte 10 ends each line. Nothing is written for the first line where it is accepted; then, for each event, a line ended by byte
+ * 10:
  *
  *   2 3 24       the files that are missing and come back from what is present then, ascending, empty ones too
  *   none         there is no such file

@@ -1,7 +1,7 @@
-//! Amending a volume in its room, written from document 02 (2026-05) alone: the list with the new entry, the data with both stretches added, and
-//! the volume written from these.
+//! Amending a volume in its room, written from document 02 (2026-05, 2026-13) alone: the list with the new entry, the data with both stretches
+//! added by the factor of the volume's own code, and the volume written from these.
 
-use crate::field;
+use crate::field::{self, Code};
 use crate::par1::{self, test, Entry, Refusal};
 
 /// What has changed in a file: from `place` on it had the bytes `old` and now has `new`, and `entry` is its entry as it now is.
@@ -48,7 +48,7 @@ fn amended_data(data: &[u8], size: u64, coefficient: u8, a: &Amendment) -> Vec<u
 pub fn amend(room: &[u8], length: u64, a: &Amendment) -> Result<Vec<u8>, Refusal> {
     test(14, length <= room.len() as u64)?;
     let volume = &room[..length as usize];
-    let [program, number, _, saved, _, start, _] = par1::read(volume)?;
+    let [program, number, _, saved, _, start, _, code] = par1::read(volume)?;
     test(10, number != 0 && a.file != 0 && a.file <= saved)?;
     let entry = par1::lone_entry(&a.entry)?;
     let (list, data) = (&volume[96..start as usize], &volume[start as usize..]);
@@ -57,6 +57,7 @@ pub fn amend(room: &[u8], length: u64, a: &Amendment) -> Result<Vec<u8>, Refusal
     test(21, size_given(former.size, a) == Some(entry.size) && same)?;
     let list = [&list[..at], &a.entry, &list[at + a.entry.len()..]].concat();
     let size = par1::data_size(&par1::entries(&list)?);
-    let coefficient = field::coefficient(a.file as u8, number as u8);
-    par1::write_volume(program as u32, number, &list, &amended_data(data, size, coefficient, a))
+    let code = Code::of(code).expect("the code of a file that was read");
+    let coefficient = field::coefficient(code, a.file as u8, number as u8);
+    par1::write_volume(code, program as u32, number, &list, &amended_data(data, size, coefficient, a))
 }

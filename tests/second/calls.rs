@@ -1,25 +1,26 @@
 //! The C library's calls. Each room that a call writes has guard bytes on both sides; those of mul_add's buffer are where it is compared.
 
 use crate::amend::Amendment;
+use crate::inventory::Change;
 use std::sync::atomic::{AtomicU64, Ordering};
 
 extern "C" {
     fn par1_md5(bytes: *const u8, bytes_len: usize, out: *mut u8, out_len: usize) -> u32;
     fn par1_inverse(x: u8, out: *mut u8, out_len: usize) -> u32;
-    fn par1_coefficient(file: u64, volume: u64, out: *mut u8, out_len: usize) -> u32;
+    fn par1_coefficient(code: u32, file: u64, volume: u64, out: *mut u8, out_len: usize) -> u32;
     fn par1_read(file: *const u8, file_len: usize, out: *mut u8, out_len: usize) -> u64;
     fn par1_entry(list: *const u8, list_len: usize, out: *mut u8, out_len: usize) -> u32;
     fn par1_write_entry(contents: *const u8, contents_len: usize, status: u64, name: *const u8, name_len: usize, out: *mut u8, out_len: usize) -> u32;
-    fn par1_write_volume(program: u32, number: u64, list: *const u8, list_len: usize, data: *const u8, data_len: usize, out: *mut u8, out_len: usize) -> u64;
+    fn par1_write_volume(code: u32, program: u32, number: u64, list: *const u8, list_len: usize, data: *const u8, data_len: usize, out: *mut u8, out_len: usize) -> u64;
     fn par1_amend(volume: *mut u8, volume_len: usize, length: u64, file: u64, place: u64, old: *const u8, old_len: usize, new: *const u8, new_len: usize, entry: *const u8, entry_len: usize) -> u64;
     fn par1_compare(one: *const u8, one_len: usize, two: *const u8, two_len: usize, out: *mut u8, out_len: usize) -> u64;
     fn par1_export(file: *const u8, file_len: usize, out: *mut u8, out_len: usize) -> u64;
     fn par1_import(file: *const u8, file_len: usize, text: *const u8, text_len: usize, out: *mut u8, out_len: usize) -> u64;
     fn par1_check(entry: *const u8, entry_len: usize, contents: *const u8, contents_len: usize) -> u32;
-    fn par1_open(n: u64, sizes: *const u8, sizes_len: usize, out: *mut u8, out_len: usize) -> u32;
+    fn par1_open(code: u32, n: u64, sizes: *const u8, sizes_len: usize, out: *mut u8, out_len: usize) -> u32;
     fn par1_add_file(inventory: *mut u8, len: usize, file: u64) -> u32;
     fn par1_remove_file(inventory: *mut u8, len: usize, file: u64) -> u32;
-    fn par1_add_volume(inventory: *mut u8, len: usize, volume: u64) -> u32;
+    fn par1_add_volume(inventory: *mut u8, len: usize, code: u32, volume: u64) -> u32;
     fn par1_remove_volume(inventory: *mut u8, len: usize, volume: u64) -> u32;
     fn par1_quarantine(inventory: *mut u8, len: usize, volume: u64) -> u32;
     fn par1_release(inventory: *mut u8, len: usize, volume: u64) -> u32;
@@ -28,6 +29,10 @@ extern "C" {
     fn par1_replay(log: *const u8, log_len: usize, out: *mut u8, out_len: usize) -> u64;
     fn par1_mul_add(weight: u8, fragment: *const u8, fragment_len: usize, buffer: *mut u8, buffer_len: usize);
 }
+
+/// The numbers of the codes: PAR1_POWERS and PAR1_CAUCHY of include/par1.h.
+pub const POWERS: u32 = 0;
+pub const CAUCHY: u32 = 1;
 
 const GUARD: usize = 32;
 
@@ -71,8 +76,8 @@ pub fn inverse(x: u8, room: &[u8]) -> (u32, Vec<u8>) {
     lent(room, |out, len| unsafe { par1_inverse(x, out, len) })
 }
 
-pub fn coefficient(file: u64, volume: u64, room: &[u8]) -> (u32, Vec<u8>) {
-    lent(room, |out, len| unsafe { par1_coefficient(file, volume, out, len) })
+pub fn coefficient(code: u32, file: u64, volume: u64, room: &[u8]) -> (u32, Vec<u8>) {
+    lent(room, |out, len| unsafe { par1_coefficient(code, file, volume, out, len) })
 }
 
 pub fn mul_add(weight: u8, fragment: &[u8], buffer: &mut [u8]) {
@@ -96,9 +101,9 @@ pub fn write_entry(contents: &[u8], status: u64, name: &[u8], room: &[u8]) -> (u
     lent(room, |out, len| unsafe { par1_write_entry(m.as_ptr(), m.len(), status, n.as_ptr(), n.len(), out, len) })
 }
 
-pub fn write_volume(program: u32, number: u64, list: &[u8], data: &[u8], room: &[u8]) -> (u64, Vec<u8>) {
+pub fn write_volume(code: u32, program: u32, number: u64, list: &[u8], data: &[u8], room: &[u8]) -> (u64, Vec<u8>) {
     let (l, d) = (list, data);
-    lent(room, |out, len| unsafe { par1_write_volume(program, number, l.as_ptr(), l.len(), d.as_ptr(), d.len(), out, len) })
+    lent(room, |out, len| unsafe { par1_write_volume(code, program, number, l.as_ptr(), l.len(), d.as_ptr(), d.len(), out, len) })
 }
 
 pub fn amend(room: &[u8], length: u64, a: &Amendment) -> (u64, Vec<u8>) {
@@ -121,25 +126,22 @@ pub fn import(file: &[u8], text: &[u8], room: &[u8]) -> (u64, Vec<u8>) {
     lent(room, |out, len| unsafe { par1_import(file.as_ptr(), file.len(), text.as_ptr(), text.len(), out, len) })
 }
 
-pub fn open(n: u64, sizes: &[u8], room: &[u8]) -> (u32, Vec<u8>) {
-    lent(room, |out, len| unsafe { par1_open(n, sizes.as_ptr(), sizes.len(), out, len) })
+pub fn open(code: u32, n: u64, sizes: &[u8], room: &[u8]) -> (u32, Vec<u8>) {
+    lent(room, |out, len| unsafe { par1_open(code, n, sizes.as_ptr(), sizes.len(), out, len) })
 }
 
-/// Adding or removing a file or a volume: the number, and the inventory after it.
-pub fn change(inventory: &[u8], volume: bool, add: bool, number: u64) -> (u32, Vec<u8>) {
-    let call = match (volume, add) {
-        (false, true) => par1_add_file,
-        (false, false) => par1_remove_file,
-        (true, true) => par1_add_volume,
-        (true, false) => par1_remove_volume,
-    };
-    lent(inventory, |bytes, len| unsafe { call(bytes, len, number) })
-}
-
-/// Setting a volume aside, or taking it back.
-pub fn set_aside(inventory: &[u8], aside: bool, number: u64) -> (u32, Vec<u8>) {
-    let call = if aside { par1_quarantine } else { par1_release };
-    lent(inventory, |bytes, len| unsafe { call(bytes, len, number) })
+/// A change of an inventory: the number, and the inventory after it.
+pub fn change(inventory: &[u8], change: Change, number: u64) -> (u32, Vec<u8>) {
+    lent(inventory, |bytes, len| unsafe {
+        match change {
+            Change::AddFile => par1_add_file(bytes, len, number),
+            Change::RemoveFile => par1_remove_file(bytes, len, number),
+            Change::AddVolume(code) => par1_add_volume(bytes, len, code, number),
+            Change::RemoveVolume => par1_remove_volume(bytes, len, number),
+            Change::SetAside => par1_quarantine(bytes, len, number),
+            Change::TakeBack => par1_release(bytes, len, number),
+        }
+    })
 }
 
 pub fn count(inventory: &[u8], room: &[u8]) -> (u32, Vec<u8>) {

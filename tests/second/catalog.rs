@@ -94,7 +94,7 @@ impl Catalog {
 
 /// "opened from one accepted file's list, with no volumes". Tests those of reading, 26; the caller tests 14.
 pub fn open(file: &[u8]) -> Result<Vec<u8>, Refusal> {
-    let [.., start, _] = par1::read(file)?;
+    let [.., start, _, _] = par1::read(file)?;
     let list = list(file, start)?;
     test(26, list.len() <= MOST_ENTRIES)?;
     Ok(Catalog { entries: entry_rows(&list), volumes: vec![] }.bytes())
@@ -102,7 +102,7 @@ pub fn open(file: &[u8]) -> Result<Vec<u8>, Refusal> {
 
 /// Tests those of reading, 30, 10, 25, 26, 11; the caller tests 14.
 pub fn add(catalog: &[u8], volume: &[u8]) -> Result<Vec<u8>, Refusal> {
-    let [_, number, .., start, size] = par1::read(volume)?;
+    let [_, number, .., start, size, _] = par1::read(volume)?;
     let mut next = Catalog::parse(catalog)?;
     test(10, next.in_range(number))?;
     let list = list(volume, start)?;

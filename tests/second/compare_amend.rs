@@ -1,7 +1,8 @@
-//! Runs of amendments (document 02, 2026-05): sets of files that change and grow, with refused calls between; after each amendment each volume must
+//! Runs of amendments (document 02, 2026-05), of volumes of both codes: sets of files that change and grow, with refused calls between; after each amendment each volume must
 //! be the one that is written afresh from the files as they are now, and differ from what it was only where the document allows it.
 
 use crate::amend::Amendment;
+use crate::field::{Code, CODES};
 use crate::files::{afresh, file, list, saved, File};
 use crate::{calls, expected, rounds, small, Counts, Random};
 
@@ -26,6 +27,7 @@ pub fn answers(counts: &mut Counts, what: &str, room: &[u8], length: u64, a: &Am
 
 /// A volume in its room.
 struct Volume {
+    code: Code,
     number: u64,
     room: Vec<u8>,
     length: usize,
@@ -78,8 +80,8 @@ fn changed_elsewhere(before: &Volume, after: &[u8], files: &[File], a: &Amendmen
 
 /// An amendment of one volume, in rooms that hold it and in one that is a byte short.
 fn amended(counts: &mut Counts, random: &mut Random, volume: &mut Volume, files: &[File], a: &Amendment) {
-    let fresh = afresh(files, volume.number);
-    let what = format!("volume {} of {} files", volume.number, files.len());
+    let fresh = afresh(volume.code, files, volume.number);
+    let what = format!("{:?} volume {} of {} files", volume.code, volume.number, files.len());
     if fresh.len() > volume.length {
         resize(volume, fresh.len(), random);
         let short = &volume.room[..fresh.len() - 1];
@@ -114,13 +116,13 @@ fn varied(counts: &mut Counts, random: &mut Random, volume: &Volume, a: &Amendme
     amend(counts, "with one thing changed", &volume.room, length, &a);
 }
 
-/// A run over three volumes of one set, the greatest number among them.
+/// A run over four volumes of one set, of both codes, the greatest number among them.
 fn amendments(counts: &mut Counts, random: &mut Random, mut files: Vec<File>, steps: usize) {
     let n = saved(&files).len();
-    let numbers = [1, 1 + random.below(255 - n) as u64, 255 - n as u64];
-    let mut volumes = numbers.map(|number| {
-        let room = afresh(&files, number);
-        Volume { number, length: room.len(), room }
+    let [one, any, last] = [1, 1 + random.below(255 - n) as u64, 255 - n as u64];
+    let mut volumes = [(Code::Powers, one), (Code::Cauchy, any), (CODES[random.below(2)], any), (CODES[random.below(2)], last)].map(|(code, number)| {
+        let room = afresh(code, &files, number);
+        Volume { code, number, length: room.len(), room }
     });
     for _ in 0..steps {
         let a = change(&mut files, 1 + random.below(n), random);
@@ -144,9 +146,9 @@ fn set(random: &mut Random, files: usize, unsaved: usize) -> Vec<File> {
 }
 
 /// The longest file that there is: grown to 16,777,216 bytes in one step, and changed at both of its ends.
-fn longest(counts: &mut Counts, random: &mut Random) {
+fn longest(counts: &mut Counts, random: &mut Random, code: Code) {
     let mut files = vec![file(random, 5, true), file(random, 0, false)];
-    let mut volume = Volume { number: 254, room: afresh(&files, 254), length: 0 };
+    let mut volume = Volume { code, number: 254, room: afresh(code, &files, 254), length: 0 };
     volume.length = volume.room.len();
     for (place, old, new) in [(5, 0, 16_777_211), (16_777_213, 3, 3), (0, 1, 1), (16_777_216, 0, 0)] {
         let old = files[0].contents[place..place + old].to_vec();
@@ -176,6 +178,8 @@ pub fn run(counts: &mut Counts, random: &mut Random) {
     let most = set(random, 254, 0);
     amendments(counts, random, most, 3);
     if !small() {
-        longest(counts, random);
+        for code in CODES {
+            longest(counts, random, code);
+        }
     }
 }

@@ -5,6 +5,7 @@ use crate::amend::Amendment;
 use crate::compare_amend::{accepted, amend, answers};
 use crate::compare_faults::{at, put, LENGTH};
 use crate::compare_par1::rehashed;
+use crate::field::{Code, CODES};
 use crate::files::{afresh, File};
 use crate::par1::VOLUME_LIMIT;
 use crate::{calls, small, Counts, Random};
@@ -27,8 +28,8 @@ fn files(name: &[u8]) -> Vec<File> {
 }
 
 /// These bytes go on the end of file 2, by which volume 7 grows; the room has ten bytes more than the volume.
-fn growth(files: &[File], new: &[u8]) -> Call {
-    let volume = afresh(files, 7);
+fn growth(code: Code, files: &[File], new: &[u8]) -> Call {
+    let volume = afresh(code, files, 7);
     let mut file = files[2].clone();
     let place = file.contents.len() as u64;
     file.contents.extend(new);
@@ -59,7 +60,7 @@ type Fault = (u32, &'static str, u64, fn(&mut Call));
 /// Where entry 2 of the list begins.
 const SECOND: usize = 96 + LENGTH;
 
-const FAULTS: [Fault; 48] = [
+const FAULTS: [Fault; 49] = [
     (0, "the room ends a byte early", 14, |c| {
         c.length = c.length.max(1);
         c.room.truncate(c.length as usize - 1)
@@ -70,6 +71,7 @@ const FAULTS: [Fault; 48] = [
     (1, "no bytes", 1, |c| c.length = 0),
     (2, "another signature", 2, |c| c.room[4] ^= 1),
     (3, "another version", 3, |c| c.room[9] ^= 1),
+    (3, "a version between", 3, |c| c.room[10] ^= 3),
     (4, "another list size", 4, |c| c.raise(72, 2)),
     (4, "another data size", 4, |c| c.raise(88, 1)),
     (4, "a byte more", 4, |c| {
@@ -128,8 +130,8 @@ fn refused(counts: &mut Counts, what: &str, call: &Call, answer: u64) {
 }
 
 /// Each fault alone and with each later one, against the document's order and against the second program.
-fn in_order(counts: &mut Counts) {
-    let call = growth(&files(b""), b"ghi");
+fn in_order(counts: &mut Counts, code: Code) {
+    let call = growth(code, &files(b""), b"ghi");
     answers(counts, "without a fault", &call.room, call.length, &call.amendment, accepted(call.length as usize + 3));
     for (place, what, answer, fault) in FAULTS {
         let later = FAULTS.into_iter().filter(|other| other.0 > place);
@@ -147,8 +149,8 @@ fn in_order(counts: &mut Counts) {
 }
 
 /// Each front of a volume; one bit of it changed, its control hash right or not; numbers of its header; random bytes.
-fn damaged(counts: &mut Counts, random: &mut Random) {
-    let call = growth(&files(b""), b"ghi");
+fn damaged(counts: &mut Counts, random: &mut Random, code: Code) {
+    let call = growth(code, &files(b""), b"ghi");
     let n = call.length as usize;
     for i in (0..n).step_by(if small() { 19 } else { 1 }) {
         amend(counts, "the front of a volume", &call.room, i as u64, &call.amendment);
@@ -178,7 +180,7 @@ fn damaged(counts: &mut Counts, random: &mut Random) {
 
 /// The place of an entry at fault in the volume's list is told; the new entry stands in no list.
 fn places(counts: &mut Counts) {
-    let call = growth(&files(b""), b"ghi");
+    let call = growth(Code::Cauchy, &files(b""), b"ghi");
     for (number, place, byte) in [(16, 0, 59), (17, 23, 1), (18, 56, 92)] {
         for entry in 1..=3 {
             let mut one = call.clone();
@@ -193,14 +195,14 @@ fn places(counts: &mut Counts) {
 
 /// Files of which a volume is two bytes short of the greatest length, by a long name.
 fn long_files() -> Vec<File> {
-    let without_name = afresh(&files(b""), 7).len() + 56;
+    let without_name = afresh(Code::Powers, &files(b""), 7).len() + 56;
     files(&b"N\0".repeat((VOLUME_LIMIT - 2 - without_name) / 2))
 }
 
 /// A volume that would be longer than the greatest length is 1, after every refusal but that of the room; one of the greatest length is accepted.
 fn longest(counts: &mut Counts) {
     let mut files = long_files();
-    let call = growth(&files, b"ghi");
+    let call = growth(Code::Powers, &files, b"ghi");
     refused(counts, "a byte above the greatest length", &call, 1);
     let mut last = None;
     for (place, what, answer, fault) in FAULTS {
@@ -210,14 +212,14 @@ fn longest(counts: &mut Counts) {
             refused(counts, &format!("{what}, above the greatest length"), &call, if place > 18 { 1 } else { answer });
         }
     }
-    let mut call = growth(&files, b"gh");
+    let mut call = growth(Code::Cauchy, &files, b"gh");
     call.room.truncate(VOLUME_LIMIT - 1);
     refused(counts, "the greatest length, a room a byte short", &call, 14);
     call.room.push(0xee);
     files[2].contents.extend(b"gh");
     let got = calls::amend(&call.room, call.length, &call.amendment);
-    counts.same(|| "the greatest length".into(), (got.0, got.1 == afresh(&files, 7)), (accepted(VOLUME_LIMIT), true));
-    call = Call { length: VOLUME_LIMIT as u64, room: got.1, ..growth(&files[..3], b"i") };
+    counts.same(|| "the greatest length".into(), (got.0, got.1 == afresh(Code::Cauchy, &files, 7)), (accepted(VOLUME_LIMIT), true));
+    call = Call { length: VOLUME_LIMIT as u64, room: got.1, ..growth(Code::Cauchy, &files[..3], b"i") };
     refused(counts, "the greatest length grown", &call, 1);
     call.room.extend([0; 9]);
     refused(counts, "the greatest length grown in more room", &call, 1);
@@ -226,8 +228,10 @@ fn longest(counts: &mut Counts) {
 }
 
 pub fn run(counts: &mut Counts, random: &mut Random) {
-    in_order(counts);
-    damaged(counts, random);
+    for code in CODES {
+        in_order(counts, code);
+        damaged(counts, random, code);
+    }
     places(counts);
     if !small() {
         longest(counts);

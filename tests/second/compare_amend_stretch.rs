@@ -1,9 +1,10 @@
 //! Which stretches and entries an amendment takes (document 02, 2026-05): every short stretch at every place of a file, with entries of every size;
-//! places at the end of 64 bits; entries with another name, status or hash; rooms; old bytes that are not the file's.
+//! places at the end of 64 bits; entries with another name, status or hash; rooms; old bytes that are not the file's; volumes of both codes.
 
 use crate::amend::Amendment;
 use crate::compare_amend::{accepted, amend, answers};
 use crate::compare_faults::put;
+use crate::field::{Code, CODES};
 use crate::files::{afresh, saved, File};
 use crate::{small, Counts, Random};
 
@@ -18,9 +19,9 @@ fn files() -> Vec<File> {
     ]
 }
 
-/// Volume 3 of these files in a room with 12 bytes more.
-fn room(files: &[File]) -> (Vec<u8>, u64) {
-    let volume = afresh(files, 3);
+/// Volume 3 of these files, by a code, in a room with 12 bytes more.
+fn room(code: Code, files: &[File]) -> (Vec<u8>, u64) {
+    let volume = afresh(code, files, 3);
     ([&volume[..], &[0xee; 12]].concat(), volume.len() as u64)
 }
 
@@ -33,9 +34,9 @@ fn true_amendment(files: &mut [File], f: u64, place: usize, old: usize, new: &[u
 
 /// Every place from 0 to past the end, old and new stretches of up to 4 bytes, entries of sizes about that of the file. Accepted are just those
 /// inside and those on the end, with the size that they give; the data is 8 bytes long, or as long as the file where that is more.
-fn grid(counts: &mut Counts, f: u64) {
+fn grid(counts: &mut Counts, code: Code, f: u64) {
     let files = files();
-    let (room, length) = room(&files);
+    let (room, length) = room(code, &files);
     let file = &files[saved(&files)[f as usize - 1]];
     let size = file.contents.len();
     let stretches = (0..=size + 3).flat_map(|place| (0..25).map(move |i| (place, i / 5, i % 5)));
@@ -56,7 +57,7 @@ fn grid(counts: &mut Counts, f: u64) {
 /// Places that are above 32 bits, or whose sum with the stretch's length is above 64.
 fn great_places(counts: &mut Counts) {
     let files = files();
-    let (room, length) = room(&files);
+    let (room, length) = room(Code::Powers, &files);
     for n in 0..=5 {
         for place in [u64::MAX, u64::MAX - n as u64, u64::MAX - n as u64 / 2, 1 << 63, 1 << 32, (1 << 32) + 5] {
             for old in [0, n] {
@@ -70,7 +71,7 @@ fn great_places(counts: &mut Counts) {
 /// An entry with one bit changed: in the hashes it is taken over, anywhere else it is refused.
 fn entry_bits(counts: &mut Counts) {
     let mut files = files();
-    let (room, length) = room(&files);
+    let (room, length) = room(Code::Powers, &files);
     let a = true_amendment(&mut files, 1, 1, 3, b"xyz");
     for bit in (64..8 * a.entry.len()).step_by(if small() { 5 } else { 1 }) {
         let mut a = a.clone();
@@ -85,7 +86,7 @@ fn entry_bits(counts: &mut Counts) {
 /// Names that begin alike or end alike, and are longer or shorter; an entry of another file of the list.
 fn names(counts: &mut Counts) {
     let mut files = files();
-    let (room, length) = room(&files);
+    let (room, length) = room(Code::Powers, &files);
     let a = true_amendment(&mut files, 1, 1, 3, b"xyz");
     for name in [&b"A\0"[..], b"B\0", b"A\0B\0C\0", b"C\0A\0B\0", b"A\0A\0", b"B\0A\0", b"a\0b\0", b"C\0", b"N\0"] {
         let other = Amendment { entry: File { name: name.to_vec(), ..files[1].clone() }.entry(), ..a.clone() };
@@ -98,12 +99,12 @@ fn names(counts: &mut Counts) {
 }
 
 /// Rooms from the volume's present length on: 14 up to a byte less than the new one, then the bytes past it stay.
-fn rooms(counts: &mut Counts) {
+fn rooms(counts: &mut Counts, code: Code) {
     for (f, place, old, new) in [(1, 5, 0, 4), (1, 5, 0, 3), (1, 2, 2, 2), (2, 8, 0, 1), (2, 8, 0, 9), (2, 0, 8, 8), (1, 5, 0, 0), (2, 8, 0, 0)] {
         let mut files = files();
-        let before = afresh(&files, 3);
+        let before = afresh(code, &files, 3);
         let a = true_amendment(&mut files, f, place, old, &b"0123456789"[..new]);
-        let after = afresh(&files, 3);
+        let after = afresh(code, &files, 3);
         for spare in 0..=12 {
             let rest = [0xee; 12][..spare].to_vec();
             let room = [&before[..], &rest].concat();
@@ -116,11 +117,11 @@ fn rooms(counts: &mut Counts) {
 
 /// Old bytes are not held against the data: the parity gains them, whatever they are. The true old bytes in their place, and the wrong ones taken
 /// back, give the volume that is written afresh.
-fn untrue_old_bytes(counts: &mut Counts, random: &mut Random) {
+fn untrue_old_bytes(counts: &mut Counts, random: &mut Random, code: Code) {
     let mut files = files();
-    let (room, length) = room(&files);
+    let (room, length) = room(code, &files);
     let a = true_amendment(&mut files, 2, 2, 5, b"tuvwx");
-    let fresh = afresh(&files, 3);
+    let fresh = afresh(code, &files, 3);
     for _ in 0..20 {
         let wrong = random.bytes(5);
         let (answer, after) = amend(counts, "with other old bytes", &room, length, &Amendment { old: wrong.clone(), ..a.clone() });
@@ -132,9 +133,9 @@ fn untrue_old_bytes(counts: &mut Counts, random: &mut Random) {
 }
 
 /// A change taken back, with the entry of before, gives the volume of before.
-fn back(counts: &mut Counts, random: &mut Random) {
+fn back(counts: &mut Counts, random: &mut Random, code: Code) {
     let before = files();
-    let (room, length) = room(&before);
+    let (room, length) = room(code, &before);
     for (f, size) in [(1, 5), (2, 8)] {
         for place in 0..=size {
             let mut files = before.clone();
@@ -150,12 +151,14 @@ fn back(counts: &mut Counts, random: &mut Random) {
 }
 
 pub fn run(counts: &mut Counts, random: &mut Random) {
-    grid(counts, 1);
-    grid(counts, 2);
     great_places(counts);
     entry_bits(counts);
     names(counts);
-    rooms(counts);
-    untrue_old_bytes(counts, random);
-    back(counts, random);
+    for code in CODES {
+        grid(counts, code, 1);
+        grid(counts, code, 2);
+        rooms(counts, code);
+        untrue_old_bytes(counts, random, code);
+        back(counts, random, code);
+    }
 }

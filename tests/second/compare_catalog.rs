@@ -1,9 +1,10 @@
-//! Runs of calls on catalogs (document 02, 2026-08): random sets, volumes of theirs and of others, opened, added, dropped and loaded, refused calls
+//! Runs of calls on catalogs (document 02, 2026-08): random sets, volumes of both codes, of theirs and of others, opened, added, dropped and loaded, refused calls
 //! between; after each call the catalog must be the one that is opened from the same list and given only the volumes now in it, in any order. Then
 //! sets of 0, 1, 254, 1,024 and 1,025 entries, none and 254 of them saved.
 
 use crate::catalog::{Catalog, HEAD, ROW};
 use crate::compare_par1::rehashed;
+use crate::field::{Code, CODES};
 use crate::files::{afresh, file, list, saved, File};
 use crate::{catalog_calls as calls, expected, par1, rounds, small, Counts, Random};
 use std::collections::BTreeMap;
@@ -38,15 +39,15 @@ pub fn load(counts: &mut Counts, what: &str, room: &[u8], records: usize) -> u64
     got.0
 }
 
-pub fn index(files: &[File]) -> Vec<u8> {
-    par1::write_volume(7, 0, &list(files), b"").unwrap()
+pub fn index(code: Code, files: &[File]) -> Vec<u8> {
+    par1::write_volume(code, 7, 0, &list(files), b"").unwrap()
 }
 
 /// A catalog of three files and a volume, by hand, with sums of RFC 1321's suite.
 fn by_hand(counts: &mut Counts) {
     let file = |contents: &[u8], status| File { contents: contents.to_vec(), status, name: b"A\0".to_vec() };
     let files = [file(b"a", 1), file(b"message digest", 2), file(b"abc", 3)];
-    let volume = afresh(&files, 200);
+    let volume = afresh(Code::Powers, &files, 200);
     let hash = |digits: &str| (0..16).map(|i| u8::from_str_radix(&digits[2 * i..2 * i + 2], 16).unwrap()).collect::<Vec<u8>>();
     let rows = [
         vec![1, 0, 0, 0, 1, 0, 0, 0, 0, 0, 0, 0],
@@ -101,17 +102,18 @@ fn pool(random: &mut Random, entries: usize) -> Pool {
     if let Some(last) = other.last_mut() {
         last.contents.push(9);
     }
-    let (mut opening, mut volumes) = (vec![index(&files)], vec![index(&files), index(&other)]);
+    let mut opening = CODES.map(|code| index(code, &files)).to_vec();
+    let mut volumes = vec![index(Code::Powers, &files), index(Code::Cauchy, &other)];
     if n > 0 {
         for number in [1, 2, 3, 254 - n, 255 - n].into_iter().filter(|&v| v > 0).map(|v| v as u64) {
-            volumes.push(afresh(&files, number));
-            let mut data = afresh(&files, number);
+            volumes.extend(CODES.map(|code| afresh(code, &files, number)));
+            let mut data = afresh(CODES[number as usize % 2], &files, number);
             *data.last_mut().unwrap() ^= 1;
             volumes.push(data.clone());
             volumes.push(rehashed(data));
-            volumes.push(afresh(&other, number));
+            volumes.push(afresh(CODES[number as usize % 2], &other, number));
         }
-        opening.push(afresh(&files, 1));
+        opening.extend(CODES.map(|code| afresh(code, &files, 1)));
     }
     Pool { files, opening, volumes }
 }
@@ -158,14 +160,14 @@ fn many_volumes(counts: &mut Counts, random: &mut Random) {
     let files = [file(random, 3, true), file(random, 9, false)];
     let mut numbers: Vec<u64> = (1..=254).collect();
     let room = random.bytes(HEAD + ROW * (2 + 254));
-    let mut catalog = open(counts, "a set of one saved file", &index(&files), &room).1;
+    let mut catalog = open(counts, "a set of one saved file", &index(Code::Powers, &files), &room).1;
     for adding in [true, false] {
         for i in 0..numbers.len() {
             numbers.swap(i, random.below(i + 1));
         }
         for (done, &number) in (1..).zip(&numbers) {
             let (answer, after) = match adding {
-                true => add(counts, "one of many", &catalog, &afresh(&files, number)),
+                true => add(counts, "one of many", &catalog, &afresh(CODES[number as usize % 3 % 2], &files, number)),
                 false => drop(counts, "one of many", &catalog, number),
             };
             let length = HEAD + ROW * (2 + if adding { done } else { 254 - done });
@@ -189,13 +191,14 @@ fn limits(counts: &mut Counts, random: &mut Random) {
     let many = [(1023, 254), (1024, 0), (1024, 1), (1024, 254), (1025, 0), (1025, 254), (3000, 1)];
     for (n, saved) in few.into_iter().chain(many) {
         let files = entries(random, n, saved);
+        let code = CODES[saved % 2];
         let length = HEAD + ROW * n;
         let what = format!("{n} entries, {saved} saved");
-        let (answer, room) = open(counts, &what, &index(&files), &vec![0xee; length + 2 * ROW + 5]);
+        let (answer, room) = open(counts, &what, &index(code, &files), &vec![0xee; length + 2 * ROW + 5]);
         counts.same(|| format!("opening {what}"), answer, if n > 1024 { 26 } else { accepted(length) });
-        open(counts, &what, &index(&files), &vec![0xee; length - 1]);
+        open(counts, &what, &index(code, &files), &vec![0xee; length - 1]);
         if n > 1024 {
-            counts.same(|| "26 before 14".into(), calls::open(&index(&files), &[]), (26, vec![]));
+            counts.same(|| "26 before 14".into(), calls::open(&index(code, &files), &[]), (26, vec![]));
             continue;
         }
         for records in [0, n.saturating_sub(1), n, n + 1] {
@@ -209,13 +212,13 @@ fn limits(counts: &mut Counts, random: &mut Random) {
         }
         if saved > 0 {
             let last = 255 - saved as u64;
-            let (answer, room) = add(counts, &what, &room, &afresh(&files, last));
+            let (answer, room) = add(counts, &what, &room, &afresh(code, &files, last));
             counts.same(|| format!("adding volume {last}, {what}"), answer, accepted(length + ROW));
-            add(counts, &what, &room, &afresh(&files, 1));
+            add(counts, &what, &room, &afresh(code.other(), &files, 1));
             load(counts, &what, &room, n);
             drop(counts, &what, &room, last);
             let more: Vec<File> = files.iter().cloned().chain([file(random, 1, false)]).collect();
-            let answer = add(counts, "an entry more", &room, &afresh(&more, last)).0;
+            let answer = add(counts, "an entry more", &room, &afresh(code, &more, last)).0;
             counts.same(|| format!("adding a volume of an entry more, {what}"), answer, 25);
         }
     }
@@ -224,7 +227,7 @@ fn limits(counts: &mut Counts, random: &mut Random) {
 /// The greatest file and volume sizes.
 fn longest(counts: &mut Counts) {
     let files = [File { contents: vec![1; 16_777_216], status: 1, name: b"A\0".to_vec() }];
-    let volume = afresh(&files, 254);
+    let volume = afresh(Code::Cauchy, &files, 254);
     let (_, room) = open(counts, "the longest file", &volume, &[0xee; 72]);
     let (answer, room) = add(counts, "the longest file's volume", &room, &volume);
     counts.same(|| "the longest file".into(), answer, accepted(72));

@@ -4,12 +4,14 @@
 use crate::catalog::{HEAD, ROW};
 use crate::compare_catalog::{accepted, add, drop, index, load, open};
 use crate::compare_differences::refused_files;
+use crate::field::Code;
 use crate::files::{afresh, File};
 use crate::{catalog_calls as calls, rounds, small, Counts, Random};
 
-/// An addition: the catalog, the room after it, and the volume by its files and its number, or other bytes in its place.
+/// An addition: the catalog, the room after it, and the volume by its code, its files and its number, or other bytes in its place.
 #[derive(Clone)]
 struct Addition {
+    code: Code,
     catalog: Vec<u8>,
     spare: usize,
     files: Vec<File>,
@@ -23,7 +25,7 @@ impl Addition {
     }
 
     fn volume(&self) -> Vec<u8> {
-        let written = || if self.number == 0 { index(&self.files) } else { afresh(&self.files, self.number) };
+        let written = || if self.number == 0 { index(self.code, &self.files) } else { afresh(self.code, &self.files, self.number) };
         self.instead.clone().unwrap_or_else(written)
     }
 }
@@ -39,17 +41,17 @@ fn files() -> Vec<File> {
 
 const LENGTH: usize = HEAD + ROW * (3 + 2);
 
-/// A catalog of these files with volumes 3 and 7, and some more room.
+/// A catalog of these files with volumes 3 and 7, each of another code.
 fn catalog() -> Vec<u8> {
-    let room = calls::open(&index(&files()), &[0xee; LENGTH]).1;
-    let room = calls::add(&room, &afresh(&files(), 7)).1;
-    calls::add(&room, &afresh(&files(), 3)).1
+    let room = calls::open(&index(Code::Powers, &files()), &[0xee; LENGTH]).1;
+    let room = calls::add(&room, &afresh(Code::Powers, &files(), 7)).1;
+    calls::add(&room, &afresh(Code::Cauchy, &files(), 3)).1
 }
 
 /// Its place in the order, what is wrong, the number, and how it is made. Of two the later one is made first.
 type Fault = (u32, &'static str, u64, fn(&mut Addition));
 
-const FAULTS: [Fault; 21] = [
+const FAULTS: [Fault; 22] = [
     (1, "the entry rows start at 17", 30, |a| a.catalog[8] = 17),
     (1, "a row too many is said", 30, |a| {
         a.catalog[4] = 3;
@@ -79,6 +81,10 @@ const FAULTS: [Fault; 21] = [
     (3, "1,025 entries", 25, |a| a.files.extend(vec![file(b"", 0); 1022])),
     (3, "two entries that have changed places", 25, |a| a.files.swap(0, 2)),
     (5, "a first number again", 11, |a| a.number = 3),
+    (5, "a number again, by the other code", 11, |a| {
+        a.code = Code::Cauchy;
+        a.number = 7
+    }),
     (5, "a last number again", 11, |a| a.number = 7),
     (6, "no room", 14, |a| a.spare = 0),
     (6, "room that is a byte short", 14, |a| a.spare = ROW - 1),
@@ -93,9 +99,12 @@ fn refused(counts: &mut Counts, what: &str, a: &Addition, answer: u64) {
 
 /// Each fault alone and with each later one, and with a volume that is refused by reading.
 fn adding(counts: &mut Counts) {
-    let right = Addition { catalog: catalog(), spare: 2 * ROW, files: files(), number: 5, instead: None };
+    let right = Addition { code: Code::Powers, catalog: catalog(), spare: 2 * ROW, files: files(), number: 5, instead: None };
     let got = add(counts, "without a fault", &right.room(), &right.volume()).0;
     counts.same(|| "without a fault".into(), got, accepted(LENGTH + ROW));
+    let of_the_other = Addition { code: Code::Cauchy, ..right.clone() };
+    let got = add(counts, "of the other code", &of_the_other.room(), &of_the_other.volume()).0;
+    counts.same(|| "of the other code".into(), got, accepted(LENGTH + ROW));
     let renamed = File { name: b"OTHER NAME".to_vec(), ..file(b"12", 5) };
     let other = Addition { files: vec![renamed, file(b"not saved", 2), file(b"abcdef", 1)], ..right.clone() };
     let got = add(counts, "other names and bits of status", &other.room(), &other.volume()).0;
@@ -151,7 +160,7 @@ fn opening(counts: &mut Counts) {
             counts.same(|| format!("{number} in opening"), (got.0 % 32, got.1), (number as u64, room));
         }
     }
-    let whole = index(&files());
+    let whole = index(Code::Cauchy, &files());
     for n in 0..HEAD + ROW * 3 + 3 {
         let got = open(counts, "rooms", &whole, &vec![0xee; n]).0;
         counts.same(|| format!("opening into {n} bytes"), got, if n < HEAD + ROW * 3 { 14 } else { accepted(HEAD + ROW * 3) });
@@ -167,7 +176,7 @@ fn calls_on(counts: &mut Counts, what: &str, room: &[u8], volume: &[u8]) {
 
 /// Each bit changed: of the hashes any will do, of the starts none; of the others the second program knows whether there is such a set. Each front.
 fn damaged(counts: &mut Counts) {
-    let (whole, volume) = (catalog(), afresh(&files(), 5));
+    let (whole, volume) = (catalog(), afresh(Code::Powers, &files(), 5));
     for bit in (0..8 * LENGTH).step_by(if small() { 41 } else { 1 }) {
         let mut one = [&whole[..], &[0xee; 40]].concat();
         one[bit / 8] ^= 1 << (bit % 8);
@@ -189,7 +198,7 @@ fn damaged(counts: &mut Counts) {
 
 /// Any numbers in the head, and file numbers, sizes and volume numbers of all kinds in the rows.
 fn numbers(counts: &mut Counts, random: &mut Random) {
-    let (whole, volume) = (catalog(), afresh(&files(), 5));
+    let (whole, volume) = (catalog(), afresh(Code::Powers, &files(), 5));
     let heads = [0, 1, 2, 3, 4, 5, 6, 16, 17, 28, 100, 128, 1024, 1025, 1 << 16, 1 << 30, u32::MAX / 28, u32::MAX / 28 + 1, u32::MAX - 1, u32::MAX];
     for at in (0..HEAD).step_by(4) {
         for number in heads {
@@ -215,7 +224,7 @@ fn numbers(counts: &mut Counts, random: &mut Random) {
 
 /// Rows of as many entries and volumes as are said, random numbers in them; and random bytes.
 fn anything(counts: &mut Counts, random: &mut Random) {
-    let volume = afresh(&files(), 5);
+    let volume = afresh(Code::Powers, &files(), 5);
     for _ in 0..rounds(20_000) {
         let (entries, volumes) = (random.below(4), random.below(4));
         let mut one: Vec<u8> = [entries, volumes, HEAD, HEAD + ROW * entries].iter().flat_map(|&n| (n as u32).to_le_bytes()).collect();
@@ -275,7 +284,7 @@ fn no_such_set(counts: &mut Counts) {
         let what = format!("{entries} entries, {saved} saved, volumes {volumes:?}");
         let answer = load(counts, &what, &bytes, 1100);
         counts.same(|| what.clone(), answer, if is { accepted(entries as usize) } else { 30 });
-        calls_on(counts, &what, &bytes, &afresh(&files(), 5));
+        calls_on(counts, &what, &bytes, &afresh(Code::Powers, &files(), 5));
     }
 }
 

@@ -3,7 +3,9 @@
 
 use crate::amend::Amendment;
 use crate::compare_catalog::index;
+use crate::field::{Code, CODES};
 use crate::files::{afresh, file, saved, File};
+use crate::par1::PARTS;
 use crate::{calls, catalog_calls, expected, job_calls, par1, rounds, Counts, Random};
 
 /// Every status but 0 and 1 is 17, before 18 and 14, whatever the other bits are.
@@ -26,7 +28,7 @@ fn read_in_chunks(file: &[u8]) -> (u64, Vec<u8>) {
     for chunk in file.chunks(50) {
         job = job_calls::read_push(&job, chunk).1;
     }
-    let (answer, _, room) = job_calls::read_end(&job, &[0; 56]);
+    let (answer, _, room) = job_calls::read_end(&job, &[0; PARTS]);
     (answer, room)
 }
 
@@ -34,16 +36,17 @@ fn read_in_chunks(file: &[u8]) -> (u64, Vec<u8>) {
 fn same(counts: &mut Counts, what: &str, plain: &[u8], marked: &[u8], text: &[u8]) {
     let said = |file: &[u8]| {
         let opened = catalog_calls::open(file, &[7; 400]);
-        (calls::read(file, &[7; 56]), read_in_chunks(file), calls::export(file, &[7; 900]), calls::import(file, text, &[7; 20]), opened)
+        (calls::read(file, &[7; PARTS]), read_in_chunks(file), calls::export(file, &[7; 900]), calls::import(file, text, &[7; 20]), opened)
     };
     counts.same(|| format!("what {what} says, with the mark and without"), said(plain), said(marked));
-    counts.same(|| format!("{what} is accepted"), calls::read(marked, &[7; 56]).0, 0);
+    counts.same(|| format!("{what} is accepted"), calls::read(marked, &[7; PARTS]).0, 0);
 }
 
 /// "Old volumes that carry it are still read and written back unchanged"
 fn written_back(counts: &mut Counts, file: &[u8]) {
-    let [program, number, _, _, size, start, _] = par1::read(file).unwrap();
-    let got = calls::write_volume(program as u32, number, &file[96..96 + size as usize], &file[start as usize..], &vec![7; file.len()]);
+    let [program, number, _, _, size, start, _, code] = par1::read(file).unwrap();
+    let (list, data) = (&file[96..96 + size as usize], &file[start as usize..]);
+    let got = calls::write_volume(code as u32, program as u32, number, list, data, &vec![7; file.len()]);
     counts.same(|| "a file written back".into(), got, (0, file.to_vec()));
 }
 
@@ -97,13 +100,14 @@ pub fn run(counts: &mut Counts, random: &mut Random) {
         }
         let mut marked = plain.clone();
         marked.iter_mut().for_each(|file| file.status ^= (random.below(2) as u64) << 1);
-        let text = calls::export(&index(&plain), &[7; 900]);
+        let text = calls::export(&index(Code::Powers, &plain), &[7; 900]);
         let text = if text.0 % 32 == 0 { text.1[..(text.0 / 32) as usize].to_vec() } else { vec![] };
-        same(counts, "an index", &index(&plain), &index(&marked), &text);
+        same(counts, "an index", &index(Code::Powers, &plain), &index(Code::Powers, &marked), &text);
         let number = 1 + random.below(250) as u64;
-        let volumes = (afresh(&plain, number), afresh(&marked, number));
+        let code = CODES[round % 2];
+        let volumes = (afresh(code, &plain, number), afresh(code, &marked, number));
         same(counts, "a volume", &volumes.0, &volumes.1, &text);
-        written_back(counts, &index(&marked));
+        written_back(counts, &index(Code::Powers, &marked));
         written_back(counts, &volumes.1);
         entries(counts, &plain, &marked);
         catalogs(counts, &volumes.0, &volumes.1, plain.len());

@@ -3,6 +3,8 @@
 //! against the number that the document gives.
 
 use crate::compare_par1::rehashed;
+use crate::field::{Code, CODES};
+use crate::par1::PARTS;
 use crate::{calls, expected, par1, small, Counts, Random};
 
 /// What a set is, the status and size of each of its files, and its data size.
@@ -34,8 +36,8 @@ fn list(files: &[(u64, u64)]) -> Vec<u8> {
 }
 
 /// A file with this volume number, list and data, whether they fit or not; its hashes are right.
-fn file(volume: u64, list: &[u8], data: &[u8]) -> Vec<u8> {
-    let index = par1::write_volume(9, 0, list, &[]).unwrap();
+fn file(code: Code, volume: u64, list: &[u8], data: &[u8]) -> Vec<u8> {
+    let index = par1::write_volume(code, 9, 0, list, &[]).unwrap();
     let mut file = [&index[..], data].concat();
     file[48..56].copy_from_slice(&volume.to_le_bytes());
     file[88..96].copy_from_slice(&(data.len() as u64).to_le_bytes());
@@ -51,9 +53,11 @@ fn read(counts: &mut Counts, what: &str, file: &[u8], room: usize, number: u64) 
 
 fn write(counts: &mut Counts, what: &str, volume: u64, list: &[u8], data: &[u8], room: usize, number: u64) {
     let room = vec![3; room];
-    let got = calls::write_volume(9, volume, list, data, &room);
-    counts.same(|| format!("writing: {what}"), got.0, number);
-    counts.same(|| format!("writing: {what}"), got, expected::write_volume(9, volume, list, data, &room));
+    for code in CODES {
+        let got = calls::write_volume(code.number(), 9, volume, list, data, &room);
+        counts.same(|| format!("writing: {what}, {code:?}"), got.0, number);
+        counts.same(|| format!("writing: {what}, {code:?}"), got, expected::write_volume(code.number(), 9, volume, list, data, &room));
+    }
 }
 
 /// Data as long as each file of a set, as its data size, a byte less and a byte more: a volume is refused with 9 but where it is the data size,
@@ -70,7 +74,9 @@ fn lengths(counts: &mut Counts) {
             let what = format!("{set}, {n} bytes of data");
             for (volume, fits) in [(0, n % 2 == 0), (1, n == data_size), (2, n == data_size)] {
                 let number = if fits { 0 } else { 9 };
-                read(counts, &what, &file(volume, &list, &data), 56, number);
+                for code in CODES {
+                    read(counts, &what, &file(code, volume, &list, &data), PARTS, number);
+                }
                 write(counts, &what, volume, &list, &data, room, number);
             }
         }
@@ -81,12 +87,12 @@ fn lengths(counts: &mut Counts) {
 fn order(counts: &mut Counts) {
     let list = list(&[(1, 42), (0, 300)]);
     let as_the_unsaved = vec![7; 300];
-    let volume = file(1, &list, &as_the_unsaved);
+    let volume = file(Code::Powers, 1, &list, &as_the_unsaved);
     read(counts, "9 before 14", &volume, 0, 9);
     let mut other_set = volume.clone();
     other_set[32] ^= 1;
-    read(counts, "8 before 9", &rehashed(other_set), 56, 8);
-    read(counts, "7 before 9", &file(255, &list, &as_the_unsaved), 56, 7);
+    read(counts, "8 before 9", &rehashed(other_set), PARTS, 8);
+    read(counts, "7 before 9", &file(Code::Cauchy, 255, &list, &as_the_unsaved), PARTS, 7);
     write(counts, "9 before 14", 1, &list, &as_the_unsaved, 0, 9);
     write(counts, "7 before 9", 255, &list, &as_the_unsaved, 1000, 7);
     write(counts, "14 for data as long as the saved file", 1, &list, &as_the_unsaved[..42], 0, 14);
@@ -102,7 +108,9 @@ fn none_saved(counts: &mut Counts) {
         let data = vec![7; n];
         for (volume, number) in [(0, 0), (1, 7)] {
             let what = format!("none saved, volume {volume}, {n} bytes of data");
-            read(counts, &what, &file(volume, &list, &data), 56, number);
+            for code in CODES {
+                read(counts, &what, &file(code, volume, &list, &data), PARTS, number);
+            }
             write(counts, &what, volume, &list, &data, 1000, number);
         }
     }

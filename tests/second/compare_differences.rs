@@ -1,9 +1,10 @@
-//! Two files compared (document 02, 2026-06): pairs whose lines are written here by hand; all pairs of fourteen small files; one bit changed at a
+//! Two files compared (document 02, 2026-06): pairs whose lines are written here by hand; all pairs of sixteen small files; one bit changed at a
 //! time, the hashes right or not; lists of unequal length; every short pattern of data, and runs round the ends of blocks; every refusal on
 //! either side and on both; rooms of every length up to that of the lines.
 
 use crate::compare_faults::put;
 use crate::compare_par1::rehashed;
+use crate::field::{Code, CODES};
 use crate::files::{afresh, list, File};
 use crate::par1::VOLUME_LIMIT;
 use crate::{calls, expected, par1, rounds, small, Counts, Random};
@@ -49,7 +50,7 @@ fn files() -> Vec<File> {
 }
 
 fn index(program: u32, files: &[File], comment: &[u8]) -> Vec<u8> {
-    par1::write_volume(program, 0, &list(files), comment).unwrap()
+    par1::write_volume(Code::Powers, program, 0, &list(files), comment).unwrap()
 }
 
 /// Pairs whose lines are known beforehand.
@@ -82,17 +83,23 @@ fn by_hand(counts: &mut Counts) {
     let none = "head control | head set | head files | head list | head start | entry 1 all | entry 2 all | entry 3 all";
     gives(counts, "no entry", &index(7, &[], b"abcd"), &plain, none);
     let empty = [file(b"", 1, b"A\0")];
-    gives(counts, "another volume", &afresh(&empty, 1), &afresh(&empty, 254), "head control | head number");
+    let [one, other] = [1, 254].map(|v| afresh(Code::Powers, &empty, v));
+    gives(counts, "another volume", &one, &other, "head control | head number");
+    let of_the_other = |program| par1::write_volume(Code::Cauchy, program, 0, &list(&set), b"abcd").unwrap();
+    gives(counts, "another code", &plain, &of_the_other(7), "head version");
+    gives(counts, "another code and program", &of_the_other(8), &plain, "head version | head program");
+    let volumes = CODES.map(|code| afresh(code, &[file(b"12345", 1, b"A\0B\0")], 2));
+    gives(counts, "volumes of both codes", &volumes[0], &volumes[1], "head version | head control | data 0 4");
 }
 
-/// Fourteen files of which four are refused, each with each.
+/// Sixteen files of which four are refused, each with each.
 fn all_pairs(counts: &mut Counts) {
     let set = files();
     let mut other = files();
     other[0].contents.extend(b"6789 and on");
     let mut turned = files();
     turned.reverse();
-    let volume = afresh(&set, 1);
+    let volume = afresh(Code::Powers, &set, 1);
     let mut data = volume.clone();
     *data.last_mut().unwrap() ^= 1;
     let files = [
@@ -102,9 +109,11 @@ fn all_pairs(counts: &mut Counts) {
         index(7, &[], b""),
         index(7, &turned, b"comment!"),
         volume.clone(),
-        afresh(&set, 2),
-        afresh(&other, 1),
-        afresh(&turned, 253),
+        afresh(Code::Powers, &set, 2),
+        afresh(Code::Powers, &other, 1),
+        afresh(Code::Powers, &turned, 253),
+        afresh(Code::Cauchy, &set, 2),
+        par1::write_volume(Code::Cauchy, 7, 0, &list(&set), b"comment!").unwrap(),
         rehashed(data.clone()),
         data,
         volume[..95].to_vec(),
@@ -113,22 +122,23 @@ fn all_pairs(counts: &mut Counts) {
     ];
     for (i, one) in files.iter().enumerate() {
         for (j, two) in files.iter().enumerate() {
-            pair(counts, &format!("file {i} with file {j} of fourteen"), one, two);
+            pair(counts, &format!("file {i} with file {j} of sixteen"), one, two);
         }
     }
 }
 
 /// One bit of a file changed, the control hash right or not; and one bit of its list or its data, every hash right.
 fn one_bit(counts: &mut Counts, random: &mut Random) {
-    for whole in [afresh(&files(), 3), index(7, &files(), b"comment!")] {
-        let [program, number, _, _, size, start, _] = par1::read(&whole).unwrap();
+    for whole in [afresh(Code::Powers, &files(), 3), afresh(Code::Cauchy, &files(), 3), index(7, &files(), b"comment!")] {
+        let [program, number, _, _, size, start, _, code] = par1::read(&whole).unwrap();
+        let code = Code::of(code).unwrap();
         for at in (0..whole.len()).step_by(if small() { 23 } else { 1 }) {
             let mut one = whole.clone();
             one[at] ^= 1 << random.below(8);
             both_ways(counts, &format!("a bit of byte {at}"), &whole, &one);
             let (list, data) = (one[96..96 + size as usize].to_vec(), one[start as usize..].to_vec());
             both_ways(counts, &format!("a bit of byte {at}, rehashed"), &whole, &rehashed(one));
-            if let Ok(right) = par1::write_volume(program as u32, number, &list, &data) {
+            if let Ok(right) = par1::write_volume(code, program as u32, number, &list, &data) {
                 both_ways(counts, &format!("a bit of byte {at}, all hashes right"), &whole, &right);
             }
         }
@@ -152,7 +162,8 @@ fn lists(counts: &mut Counts, random: &mut Random) {
         }
         both_ways(counts, "two lists", &index(7, &one, b""), &index(7, &two, b""));
         if one.iter().any(File::is_saved) && two.iter().any(File::is_saved) {
-            both_ways(counts, "volumes of two lists", &afresh(&one, 1), &afresh(&two, 1));
+            let codes = [(); 2].map(|_| CODES[random.below(2)]);
+            both_ways(counts, "volumes of two lists", &afresh(codes[0], &one, 1), &afresh(codes[1], &two, 1));
         }
     }
     let long: Vec<File> = (0..1200).map(|_| crate::files::file(random, 0, false)).collect();
@@ -201,7 +212,7 @@ fn blocks(counts: &mut Counts, random: &mut Random) {
 
 /// Every room from no byte to more than the lines.
 fn rooms(counts: &mut Counts) {
-    let (one, two) = (afresh(&files(), 1), index(8, &files()[1..], b"comment!"));
+    let (one, two) = (afresh(Code::Cauchy, &files(), 1), index(8, &files()[1..], b"comment!"));
     for (one, two) in [(&one, &two), (&one, &one), (&one[..95].to_vec(), &two), (&vec![], &two[..99].to_vec())] {
         let length = crate::differences::compare(one, two).len();
         for n in 0..length + 3 {
@@ -214,7 +225,7 @@ fn rooms(counts: &mut Counts) {
 
 /// A file for each refusal of reading.
 pub fn refused_files() -> Vec<(u32, Vec<u8>)> {
-    let whole = afresh(&files(), 7);
+    let whole = afresh(Code::Powers, &files(), 7);
     let with = |change: &dyn Fn(&mut Vec<u8>)| {
         let mut one = whole.clone();
         change(&mut one);
@@ -230,6 +241,7 @@ pub fn refused_files() -> Vec<(u32, Vec<u8>)> {
         (1, whole[..95].to_vec()),
         (2, unhashed(0)),
         (3, unhashed(9)),
+        (3, unhashed(8)),
         (4, with(&|f| f.push(0))),
         (5, unhashed(16)),
         (5, unhashed(99)),
@@ -249,7 +261,7 @@ pub fn refused_files() -> Vec<(u32, Vec<u8>)> {
 
 /// "Each refused file gives a line `refused S N`, side 1 before 2, and then nothing else is written": each with each, and with an accepted one.
 fn refusals(counts: &mut Counts) {
-    let (files, whole) = (refused_files(), afresh(&files(), 7));
+    let (files, whole) = (refused_files(), afresh(Code::Cauchy, &files(), 7));
     for (n, one) in &files {
         gives(counts, "side 1 refused", one, &whole, &format!("refused 1 {n}"));
         gives(counts, "side 2 refused", &whole, one, &format!("refused 2 {n}"));
@@ -261,7 +273,7 @@ fn refusals(counts: &mut Counts) {
 
 /// Random bytes, and every front of a file.
 fn anything(counts: &mut Counts, random: &mut Random) {
-    let whole = afresh(&files(), 7);
+    let whole = afresh(Code::Cauchy, &files(), 7);
     for n in (0..whole.len()).step_by(if small() { 29 } else { 1 }) {
         both_ways(counts, "the front of a file", &whole, &whole[..n]);
         let bytes = random.bytes(n);

@@ -2,7 +2,9 @@
 //! one entry and in two, bytes left over, another number of entries. Answers are held against the second program's and against the number and
 //! the place that the document gives.
 
+use crate::calls::POWERS;
 use crate::compare_par1::{rehashed, unhashed};
+use crate::par1::PARTS;
 use crate::{calls, expected, par1, small, Counts, Random};
 
 /// The length of the entries below.
@@ -50,7 +52,7 @@ fn read(counts: &mut Counts, what: &str, file: &[u8], room: usize, answer: u64) 
 /// Writing with this list is refused with this answer, and changes no byte.
 fn write(counts: &mut Counts, what: &str, volume: u64, list: &[u8], room: usize, answer: u64) {
     let room = vec![3; room];
-    let got = (calls::write_volume(9, volume, list, b"12345", &room), expected::write_volume(9, volume, list, b"12345", &room));
+    let got = (calls::write_volume(POWERS, 9, volume, list, b"12345", &room), expected::write_volume(POWERS, 9, volume, list, b"12345", &room));
     counts.same(|| format!("writing: {what}"), got, ((answer, room.clone()), (answer, room.clone())));
 }
 
@@ -59,10 +61,10 @@ fn write(counts: &mut Counts, what: &str, volume: u64, list: &[u8], room: usize,
 fn refused(counts: &mut Counts, what: &str, list: &[u8], number: u32, place: usize) {
     for (volume, entries) in [(0, 3), (0, 0), (0, u64::MAX), (256, 3), (u64::MAX, 4)] {
         let mut file = unhashed(volume, entries, list);
-        read(counts, what, &file, 56, at(number, place));
+        read(counts, what, &file, PARTS, at(number, place));
         read(counts, what, &file, 0, at(number, place));
         file[16] ^= 1;
-        read(counts, what, &file, 56, 5);
+        read(counts, what, &file, PARTS, 5);
     }
     for (volume, room) in [(0, 400), (0, 0), (1, 400), (256, 400), (u64::MAX, 0)] {
         write(counts, what, volume, list, room, at(number, place));
@@ -121,15 +123,15 @@ fn count(counts: &mut Counts) {
         for said in [right + 1, right.wrapping_sub(1), right + 256, right + (1 << 32), u64::MAX - right] {
             for volume in [0, 1, 253, 256, u64::MAX] {
                 let what = format!("{entries} entries, said to be {said}, volume {volume}");
-                read(counts, &what, &unhashed(volume, said, &list), 56, 19);
+                read(counts, &what, &unhashed(volume, said, &list), PARTS, 19);
                 read(counts, &what, &unhashed(volume, said, &list), 0, 19);
             }
         }
-        read(counts, "a volume number that is too great", &unhashed(256, right, &list), 56, 7);
-        let (number, mut file) = calls::write_volume(9, 0, &list, &[], &vec![0; 96 + list.len()]);
-        counts.same(|| format!("an index of {entries} entries"), (number, calls::read(&file, &[0; 56]).0), (0, 0));
+        read(counts, "a volume number that is too great", &unhashed(256, right, &list), PARTS, 7);
+        let (number, mut file) = calls::write_volume(POWERS, 9, 0, &list, &[], &vec![0; 96 + list.len()]);
+        counts.same(|| format!("an index of {entries} entries"), (number, calls::read(&file, &[0; PARTS]).0), (0, 0));
         file[56] ^= 1;
-        read(counts, "the count alone differs", &rehashed(file), 56, 19);
+        read(counts, "the count alone differs", &rehashed(file), PARTS, 19);
     }
 }
 
@@ -189,7 +191,7 @@ fn many(counts: &mut Counts) {
         list[last] = 92;
         write(counts, "the last of many entries", 0, &list, 0, at(18, entries));
         let answer = if entries == 578_523 { at(18, entries) } else { 1 };
-        read(counts, "the last of many entries", &unhashed(0, 0, &list), 56, answer);
+        read(counts, "the last of many entries", &unhashed(0, 0, &list), PARTS, answer);
     }
 }
 

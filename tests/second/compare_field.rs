@@ -1,4 +1,5 @@
-//! The field: all 65,536 products, all inverses, coefficients within and round their range; with room for the answer and without.
+//! The field: all 65,536 products, all inverses, coefficients of both codes and of none within and round their range; with room for the answer and
+//! without.
 
 use crate::{calls, expected, field, rounds, Counts, Random};
 
@@ -17,8 +18,10 @@ pub fn run(counts: &mut Counts, _: &mut Random) {
     for f in numbers.clone().take(rounds(263)) {
         for v in numbers.clone() {
             let room: &[u8] = if (f % 5 + v % 7) % 5 == 0 { &[] } else { &[9, 9] };
-            let what = || format!("coefficient of file {f} in volume {v}");
-            counts.same(what, calls::coefficient(f, v, room), expected::coefficient(f, v, room));
+            for code in [0, 1, 2, u32::MAX] {
+                let what = || format!("coefficient of file {f} in volume {v} by code {code}");
+                counts.same(what, calls::coefficient(code, f, v, room), expected::coefficient(code, f, v, room));
+            }
         }
     }
 }

@@ -2,8 +2,10 @@
 //! other; texts cut at each byte; names of 1 to 300 bytes, names that do not fit, names that two entries share, names that are not listed; random
 //! texts; exports imported again; each refusal with each later one; rooms.
 
+use crate::compare_codes::turned;
 use crate::compare_differences::refused_files;
 use crate::compare_faults::at;
+use crate::field::Code;
 use crate::files::{list, File};
 use crate::{calls, expected, par1, rounds, small, Counts, Random};
 
@@ -17,7 +19,7 @@ fn file(contents: &[u8], name: &[u8]) -> File {
 }
 
 fn index(files: &[File]) -> Vec<u8> {
-    par1::write_volume(7, 0, &list(files), b"a comment.").unwrap()
+    par1::write_volume(Code::Powers, 7, 0, &list(files), b"a comment.").unwrap()
 }
 
 fn sum(contents: &[u8]) -> Vec<u8> {
@@ -34,10 +36,11 @@ fn accepted(value: usize) -> u64 {
     32 * value as u64
 }
 
-/// A call against what the documents say of it.
+/// A call against what the documents say of it, of the file and of the same file by the other code.
 fn export(counts: &mut Counts, what: &str, file: &[u8], room: &[u8]) -> (u64, Vec<u8>) {
     let got = calls::export(file, room);
     counts.same(|| format!("exporting {what}, a room of {} bytes", room.len()), &got, &expected::export(file, room));
+    counts.same(|| format!("exporting {what} by the other code"), &calls::export(&turned(file), room), &got);
     got
 }
 
@@ -45,6 +48,7 @@ fn import(counts: &mut Counts, what: &str, file: &[u8], text: &[u8], room: &[u8]
     let got = calls::import(file, text, room);
     let shown = || String::from_utf8_lossy(text).chars().take(99).collect::<String>();
     counts.same(|| format!("importing {what}, a room of {} bytes: {}", room.len(), shown()), &got, &expected::import(file, text, room));
+    counts.same(|| format!("importing {what} by the other code"), &calls::import(&turned(file), text, room), &got);
     got
 }
 

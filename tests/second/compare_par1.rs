@@ -1,8 +1,11 @@
-//! Par 1.0 files: volumes and indices that the second program writes, whole, damaged at every byte of the header and the list, cut
+//! Files of both codes: volumes and indices that the second program writes, whole, damaged at every byte of the header and the list, cut
 //! short and extended; with fields of any 64-bit number; random bytes; files of another client; entries and volumes written, and
 //! accepted files written again from their parts.
 
+use crate::calls::{CAUCHY, POWERS};
 use crate::compare_faults::put;
+use crate::field::{Code, CODES};
+use crate::par1::PARTS;
 use crate::{calls, expected, par1, rounds, small, Counts, Random};
 
 /// A name of one unit or more, at times with a unit that is not allowed or an odd byte.
@@ -42,18 +45,21 @@ fn data_size(list: &[u8]) -> usize {
     par1::data_size(&par1::entries(list).unwrap_or_default()) as usize
 }
 
-/// A file that is accepted: an index or a volume.
+/// A file that is accepted: an index or a volume, of either code.
 pub fn file(random: &mut Random) -> Vec<u8> {
     loop {
         let list = list(random);
         let volume = random.below(4) as u64;
         let size = if volume == 0 { 2 * random.below(20) } else { data_size(&list) };
         let data = random.bytes(size);
-        if let Ok(file) = par1::write_volume(random.below(1 << 31) as u32, volume, &list, &data) {
+        if let Ok(file) = par1::write_volume(CODES[random.below(2)], random.below(1 << 31) as u32, volume, &list, &data) {
             return file;
         }
     }
 }
+
+/// A room with some bytes more than reading takes.
+const ROOM: usize = PARTS + 4;
 
 fn read(counts: &mut Counts, what: &str, file: &[u8], room: usize) {
     let room = vec![3; room];
@@ -72,21 +78,21 @@ pub fn rehashed(mut file: Vec<u8>) -> Vec<u8> {
 fn damaged(counts: &mut Counts, random: &mut Random) {
     for _ in 0..rounds(60) {
         let whole = file(random);
-        read(counts, "a whole file", &whole, 60);
-        for room in [0, 55, 56] {
+        read(counts, "a whole file", &whole, ROOM);
+        for room in [0, 56, PARTS - 1, PARTS] {
             read(counts, "into little room", &whole, room);
         }
         for at in 0..whole.len().min(400) {
             let mut one = whole.clone();
             one[at] ^= 1 << random.below(8);
-            read(counts, "one bit changed", &one, 60);
-            read(counts, "one bit changed, rehashed", &rehashed(one), 60);
+            read(counts, "one bit changed", &one, ROOM);
+            read(counts, "one bit changed, rehashed", &rehashed(one), ROOM);
         }
         for field in (48..96).step_by(8) {
             for number in [0, 1, 2, 96, 255, 1 << 32, u64::MAX - 1, u64::MAX, random.below(1 << 16) as u64] {
                 let mut one = whole.clone();
                 one[field..field + 8].copy_from_slice(&number.to_le_bytes());
-                read(counts, "a field changed", &rehashed(one), 60);
+                read(counts, "a field changed", &rehashed(one), ROOM);
             }
         }
         let length = whole.len() as u64;
@@ -95,21 +101,21 @@ fn damaged(counts: &mut Counts, random: &mut Random) {
             for (at, number) in (72..).step_by(8).zip(numbers) {
                 one[at..at + 8].copy_from_slice(&number.to_le_bytes());
             }
-            read(counts, "sizes whose sums are above 64 bits", &rehashed(one), 60);
+            read(counts, "sizes whose sums are above 64 bits", &rehashed(one), ROOM);
         }
         for n in [0, 1, 95, 96, 97, whole.len() - 1] {
-            read(counts, "cut short", &whole[..n.min(whole.len())], 60);
+            read(counts, "cut short", &whole[..n.min(whole.len())], ROOM);
         }
-        read(counts, "extended", &[&whole[..], &[0]].concat(), 60);
+        read(counts, "extended", &[&whole[..], &[0]].concat(), ROOM);
         let n = random.below(300);
-        read(counts, "random bytes", &random.bytes(n), 60);
+        read(counts, "random bytes", &random.bytes(n), ROOM);
     }
 }
 
 /// A file with this list and volume number, no data, and a control hash that is right; its set hash is zeros.
 pub fn unhashed(volume: u64, entries: u64, list: &[u8]) -> Vec<u8> {
     let mut file = [&b"PAR\0\0\0\0\0"[..], &[0; 88], list].concat();
-    file[8..12].copy_from_slice(&65536u32.to_le_bytes());
+    file[8..12].copy_from_slice(&par1::version(Code::Powers).to_le_bytes());
     let size = list.len() as u64;
     for (at, number) in [(48, volume), (56, entries), (64, 96), (72, size), (80, 96 + size), (88, 0)] {
         file[at..at + 8].copy_from_slice(&number.to_le_bytes());
@@ -122,35 +128,37 @@ fn many_files(counts: &mut Counts) {
     for n in [0, 1, 2, 128, 253, 254, 255] {
         let list = par1::write_entry(b"", 1, b"A\0").unwrap().repeat(n);
         for volume in [0, 1, 2, 127, 128, 254, 255, 256, u64::MAX] {
-            read(counts, "a volume number", &unhashed(volume, n as u64, &list), 60);
+            read(counts, "a volume number", &unhashed(volume, n as u64, &list), ROOM);
             let room = vec![5; 96 + list.len()];
-            counts.same(
-                || format!("writing volume {volume} of {n} files"),
-                calls::write_volume(9, volume, &list, &[], &room),
-                expected::write_volume(9, volume, &list, &[], &room),
-            );
-            if let Ok(file) = par1::write_volume(9, volume, &list, &[]) {
-                read(counts, "a volume of many files", &file, 60);
+            for code in CODES {
+                counts.same(
+                    || format!("writing {code:?} volume {volume} of {n} files"),
+                    calls::write_volume(code.number(), 9, volume, &list, &[], &room),
+                    expected::write_volume(code.number(), 9, volume, &list, &[], &room),
+                );
+                if let Ok(file) = par1::write_volume(code, 9, volume, &list, &[]) {
+                    read(counts, "a volume of many files", &file, ROOM);
+                }
             }
         }
-        read(counts, "a list and no header", &[&vec![0; 96][..], &list].concat(), 60);
+        read(counts, "a list and no header", &[&vec![0; 96][..], &list].concat(), ROOM);
     }
 }
 
 /// Entry sizes round the least one, each in a list that it fills; and a volume of empty files.
 fn small_entries(counts: &mut Counts) {
     let entry = par1::write_entry(b"", 1, b"A\0B\0").unwrap();
-    let whole = par1::write_volume(0, 0, &entry, &[]).unwrap();
+    let whole = par1::write_volume(Code::Powers, 0, 0, &entry, &[]).unwrap();
     for size in 54..=61 {
         let mut one = whole[..96 + size.min(60)].to_vec();
         one.resize(96 + size, 65);
         one[96..104].copy_from_slice(&(size as u64).to_le_bytes());
         one[72..80].copy_from_slice(&(size as u64).to_le_bytes());
         one[80..88].copy_from_slice(&(96 + size as u64).to_le_bytes());
-        read(counts, &format!("an entry of {size} bytes"), &rehashed(one), 60);
+        read(counts, &format!("an entry of {size} bytes"), &rehashed(one), ROOM);
     }
-    let empty = par1::write_volume(0, 1, &entry.repeat(3), &[]).unwrap();
-    read(counts, "a volume of empty files", &empty, 56);
+    let empty = par1::write_volume(Code::Powers, 0, 1, &entry.repeat(3), &[]).unwrap();
+    read(counts, "a volume of empty files", &empty, PARTS);
 }
 
 fn test_data(name: &str) -> Vec<u8> {
@@ -161,8 +169,8 @@ fn test_data(name: &str) -> Vec<u8> {
 fn other_client(counts: &mut Counts) {
     for name in ["trip/trip.par", "trip/trip.p01", "trip/trip.p02", "trip/trip.p03", "chart/chart.par", "chart/chart.p01", "chart/chart.p02"] {
         let file = test_data(name);
-        counts.same(|| format!("{name} is accepted"), calls::read(&file, &[0; 56]).0, 0);
-        read(counts, name, &file, 56);
+        counts.same(|| format!("{name} is accepted"), calls::read(&file, &[0; PARTS]).0, 0);
+        read(counts, name, &file, PARTS);
         again(counts, &file);
     }
     let (trip, chart) = (test_data("trip/trip.par"), test_data("chart/chart.par"));
@@ -175,10 +183,10 @@ fn other_client(counts: &mut Counts) {
 fn other_parity(counts: &mut Counts, set: &str, volumes: u64, saved: &[&str]) {
     for v in 1..=volumes {
         let volume = test_data(&format!("{set}/{set}.p0{v}"));
-        let [.., start, size] = par1::read(&volume).expect("a volume");
+        let [.., start, size, _] = par1::read(&volume).expect("a volume");
         let mut data = vec![0; size as usize];
         for (f, name) in (1..).zip(saved) {
-            let (_, weight) = calls::coefficient(f, v, &[0]);
+            let (_, weight) = calls::coefficient(POWERS, f, v, &[0]);
             calls::mul_add(weight[0], &test_data(&format!("{set}/{name}")), &mut data);
         }
         counts.same(|| format!("the data of {set}.p0{v}"), &data[..], &volume[start as usize..]);
@@ -187,9 +195,9 @@ fn other_parity(counts: &mut Counts, set: &str, volumes: u64, saved: &[&str]) {
 
 /// An accepted file written again from its parts.
 fn again(counts: &mut Counts, file: &[u8]) {
-    let Ok([program, number, _, _, list, start, _]) = par1::read(file) else { return };
+    let Ok([program, number, _, _, list, start, _, code]) = par1::read(file) else { return };
     let (list, data) = (&file[96..96 + list as usize], &file[start as usize..]);
-    let got = calls::write_volume(program as u32, number, list, data, &vec![7; file.len() + 3]);
+    let got = calls::write_volume(code as u32, program as u32, number, list, data, &vec![7; file.len() + 3]);
     counts.same(|| format!("a file of {} bytes written again", file.len()), got, (0, [file, &[7; 3]].concat()));
 }
 
@@ -212,8 +220,9 @@ fn write(counts: &mut Counts, random: &mut Random) {
         let size = if number == 0 { random.below(9) } else { data_size(&l) + random.below(2) };
         let data = random.bytes(size);
         let room = vec![7; (96 + l.len() + size + 2).saturating_sub(random.below(6))];
-        let what = || format!("volume {number} of a list of {} bytes", l.len());
-        counts.same(what, calls::write_volume(9, number, &l, &data, &room), expected::write_volume(9, number, &l, &data, &room));
+        let code = [0, 1, 0, 1, 0, 1, 2, u32::MAX][random.below(8)];
+        let what = || format!("volume {number} of a list of {} bytes, code {code}", l.len());
+        counts.same(what, calls::write_volume(code, 9, number, &l, &data, &room), expected::write_volume(code, 9, number, &l, &data, &room));
         again(counts, &file(random));
     }
     if small() {
@@ -223,16 +232,16 @@ fn write(counts: &mut Counts, random: &mut Random) {
     for size in [limit.len() - 4, limit.len() - 2, limit.len()] {
         let what = || format!("an index with {size} bytes of comment");
         let room = vec![7; 33_554_432];
-        counts.same(what, calls::write_volume(0, 0, &[], &limit[..size], &room), expected::write_volume(0, 0, &[], &limit[..size], &room));
+        counts.same(what, calls::write_volume(CAUCHY, 0, 0, &[], &limit[..size], &room), expected::write_volume(CAUCHY, 0, 0, &[], &limit[..size], &room));
     }
-    let mut longest = par1::write_volume(0, 0, &[], &limit[..limit.len() - 2]).unwrap();
-    read(counts, "the longest file", &longest, 56);
+    let mut longest = par1::write_volume(Code::Powers, 0, 0, &[], &limit[..limit.len() - 2]).unwrap();
+    read(counts, "the longest file", &longest, PARTS);
     longest.push(0);
-    read(counts, "a file of a byte more", &longest, 56);
+    read(counts, "a file of a byte more", &longest, PARTS);
     let entry = par1::write_entry(b"", 0, b"A\0").unwrap();
     let list = entry.repeat(33_554_432 / entry.len());
-    let got = calls::write_volume(0, 0, &list, &[], &[7; 96]);
-    counts.same(|| "an index whose list is too long".into(), got, expected::write_volume(0, 0, &list, &[], &[7; 96]));
+    let got = calls::write_volume(POWERS, 0, 0, &list, &[], &[7; 96]);
+    counts.same(|| "an index whose list is too long".into(), got, expected::write_volume(POWERS, 0, 0, &list, &[], &[7; 96]));
     let contents = vec![1; 16_777_217];
     for size in [16_777_216, 16_777_217] {
         let what = || format!("entry of {size} bytes");

@@ -1,6 +1,7 @@
-//! mul_add at many lengths, alignments and weights, with guards; and whole sets of files, some empty, in any order and in two shares.
+//! mul_add at many lengths, alignments and weights, with guards; and whole sets of files, some empty, by both codes, in any order and in two shares.
 
-use crate::{calls, field, rounds, small, Counts, Random};
+use crate::field::{self, Code, CODES};
+use crate::{calls, rounds, small, Counts, Random};
 
 /// One call on slices at these distances from the start of an allocation.
 fn one(counts: &mut Counts, random: &mut Random, weight: u8, fragment: (usize, usize), buffer: (usize, usize)) {
@@ -36,10 +37,10 @@ fn lengths(counts: &mut Counts, random: &mut Random) {
 }
 
 /// The data of volume v, made by mul_add of the files in this order.
-fn volume(files: &[Vec<u8>], v: u64, order: &[usize]) -> Vec<u8> {
+fn volume(code: Code, files: &[Vec<u8>], v: u64, order: &[usize]) -> Vec<u8> {
     let mut buffer = vec![0; files.iter().map(Vec::len).max().unwrap_or(0)];
     for &f in order {
-        let (_, weight) = calls::coefficient(f as u64, v, &[0]);
+        let (_, weight) = calls::coefficient(code.number(), f as u64, v, &[0]);
         calls::mul_add(weight[0], &files[f - 1], &mut buffer);
     }
     buffer
@@ -63,12 +64,14 @@ fn sets(counts: &mut Counts, random: &mut Random) {
         }
         let v = 1 + random.below(255 - n) as u64;
         let order = shuffled(n, random);
-        let whole = field::parity(&files, v);
-        counts.same(|| format!("volume {v} of {n} files"), volume(&files, v, &order), whole.clone());
-        let (first, second) = order.split_at(random.below(n + 1));
-        let mut sum = volume(&files, v, first);
-        calls::mul_add(1, &volume(&files, v, second), &mut sum);
-        counts.same(|| format!("volume {v} of {n} files in two shares"), sum, whole);
+        for code in CODES {
+            let whole = field::parity(code, &files, v);
+            counts.same(|| format!("{code:?} volume {v} of {n} files"), volume(code, &files, v, &order), whole.clone());
+            let (first, second) = order.split_at(random.below(n + 1));
+            let mut sum = volume(code, &files, v, first);
+            calls::mul_add(1, &volume(code, &files, v, second), &mut sum);
+            counts.same(|| format!("{code:?} volume {v} of {n} files in two shares"), sum, whole);
+        }
     }
 }
 

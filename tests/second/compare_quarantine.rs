@@ -2,30 +2,38 @@
 //! removal and taking back against adding, answer by answer; lists of calls against a new inventory that is told what is present and what is set
 //! aside; inventories that have a volume in both; a volume that passes its hash and brings back a wrong file.
 
+use crate::calls::CAUCHY;
+use crate::field::{self, Code};
 use crate::files::File;
-use crate::inventory::{Inventory, LENGTH};
-use crate::{calls, expected, field, par1, rounds, Counts, Random};
+use crate::inventory::Change::{AddFile, AddVolume, RemoveFile, RemoveVolume, SetAside, TakeBack};
+use crate::inventory::{Inventory, CODE, LENGTH};
+use crate::{calls, expected, par1, rounds, Counts, Random};
 
-/// Nothing present of so many files, of sizes 0 to 3.
+/// Nothing present of so many files, of sizes 0 to 3, and of volumes of either code.
 fn opened(random: &mut Random, n: usize) -> Vec<u8> {
     let sizes: Vec<u8> = (0..n).flat_map(|_| (random.below(4) as u64).to_le_bytes()).collect();
-    calls::open(n as u64, &sizes, &[0; LENGTH]).1
+    calls::open(random.below(2) as u32, n as u64, &sizes, &[0; LENGTH]).1
+}
+
+/// Adds a volume of the inventory's own code.
+fn add(bytes: &[u8], v: u64) -> (u32, Vec<u8>) {
+    calls::change(bytes, AddVolume(bytes[CODE] as u32), v)
 }
 
 /// The calls on a volume, by name.
 const CALLS: [(&str, fn(&[u8], u64) -> (u32, Vec<u8>)); 4] = [
-    ("added", |bytes, v| calls::change(bytes, true, true, v)),
-    ("removed", |bytes, v| calls::change(bytes, true, false, v)),
-    ("set aside", |bytes, v| calls::set_aside(bytes, true, v)),
-    ("taken back", |bytes, v| calls::set_aside(bytes, false, v)),
+    ("added", add),
+    ("removed", |bytes, v| calls::change(bytes, RemoveVolume, v)),
+    ("set aside", |bytes, v| calls::change(bytes, SetAside, v)),
+    ("taken back", |bytes, v| calls::change(bytes, TakeBack, v)),
 ];
 
 /// What the document gives for each call in each state, and for numbers out of range in any.
 fn by_hand(counts: &mut Counts, random: &mut Random) {
     for (n, v) in [(1, 1), (1, 254), (5, 63), (5, 64), (5, 250), (254, 1)] {
         let absent = opened(random, n);
-        let present = calls::change(&absent, true, true, v).1;
-        let aside = calls::set_aside(&present, true, v).1;
+        let present = add(&absent, v).1;
+        let aside = calls::change(&present, SetAside, v).1;
         let states = [("absent", &absent, [0, 11, 11, 11]), ("present", &present, [11, 0, 0, 11]), ("aside", &aside, [27, 0, 11, 0])];
         let after = [&present, &absent, &aside, &present];
         for (state, bytes, numbers) in states {
@@ -58,14 +66,14 @@ fn answers(bytes: &[u8], n: usize) -> (Vec<(u32, Vec<u8>)>, Vec<u8>) {
 
 /// "setting aside counts as withdrawal for every answer of condition 3 and for the count; taking it back counts as noting"
 fn as_removal(counts: &mut Counts, bytes: &[u8], n: usize, v: u64) {
-    let (aside, removed) = (calls::set_aside(bytes, true, v), calls::change(bytes, true, false, v));
+    let (aside, removed) = (calls::change(bytes, SetAside, v), calls::change(bytes, RemoveVolume, v));
     if aside.0 == 0 {
         counts.same(|| format!("volume {v} set aside, and removed"), answers(&aside.1, n), answers(&removed.1, n));
-        counts.same(|| format!("volume {v} taken back"), calls::set_aside(&aside.1, false, v), (0, bytes.to_vec()));
+        counts.same(|| format!("volume {v} taken back"), calls::change(&aside.1, TakeBack, v), (0, bytes.to_vec()));
     }
-    let back = calls::set_aside(bytes, false, v);
+    let back = calls::change(bytes, TakeBack, v);
     if back.0 == 0 {
-        let added = calls::change(&removed.1, true, true, v);
+        let added = add(&removed.1, v);
         counts.same(|| format!("volume {v} taken back, and added"), answers(&back.1, n), answers(&added.1, n));
     }
 }
@@ -80,12 +88,12 @@ fn told_anew(random: &mut Random, opened: &[u8], files: &[bool], volumes: &[Opti
     let mut bytes = opened.to_vec();
     let mut late = vec![];
     for (volume, number) in told {
-        bytes = calls::change(&bytes, volume, true, number).1;
+        bytes = if volume { add(&bytes, number) } else { calls::change(&bytes, AddFile, number) }.1;
         if volume && volumes[number as usize - 1] == Some(false) {
-            if random.below(2) == 0 { late.push(number) } else { bytes = calls::set_aside(&bytes, true, number).1 }
+            if random.below(2) == 0 { late.push(number) } else { bytes = calls::change(&bytes, SetAside, number).1 }
         }
     }
-    late.into_iter().fold(bytes, |bytes, v| calls::set_aside(&bytes, true, v).1)
+    late.into_iter().fold(bytes, |bytes, v| calls::change(&bytes, SetAside, v).1)
 }
 
 /// A list of calls with a model of its own: which files are present, and which volumes are, or are aside.
@@ -101,7 +109,7 @@ fn lists(counts: &mut Counts, random: &mut Random) {
                 0 => {
                     let add = !files[f - 1];
                     files[f - 1] = add;
-                    calls::change(&bytes, false, add, f as u64)
+                    calls::change(&bytes, if add { AddFile } else { RemoveFile }, f as u64)
                 }
                 call => {
                     let (name, run) = CALLS[call % 4];
@@ -158,12 +166,12 @@ fn no_calls_give(counts: &mut Counts, random: &mut Random) {
 fn suspicion(counts: &mut Counts, random: &mut Random) {
     let files = [random.bytes(40), random.bytes(30), random.bytes(20)];
     let entry = File { contents: files[1].clone(), status: 1, name: b"B\0".to_vec() }.entry();
-    let mut data: Vec<Vec<u8>> = (1..=3).map(|v| field::parity(&files, v)).collect();
+    let mut data: Vec<Vec<u8>> = (1..=3).map(|v| field::parity(Code::Cauchy, &files, v)).collect();
     data[0][7] ^= 1;
     let sizes: Vec<u8> = files.iter().flat_map(|file| (file.len() as u64).to_le_bytes()).collect();
-    let mut bytes = calls::open(3, &sizes, &[0; LENGTH]).1;
-    for (volume, number) in [(false, 1), (false, 3), (true, 1), (true, 3)] {
-        bytes = calls::change(&bytes, volume, true, number).1;
+    let mut bytes = calls::open(CAUCHY, 3, &sizes, &[0; LENGTH]).1;
+    for (change, number) in [(AddFile, 1), (AddFile, 3), (AddVolume(CAUCHY), 1), (AddVolume(CAUCHY), 3)] {
+        bytes = calls::change(&bytes, change, number).1;
     }
     let rebuilt = |bytes: &[u8]| {
         let (number, weights) = calls::query(bytes, 2, &[0; 255]);
@@ -177,9 +185,9 @@ fn suspicion(counts: &mut Counts, random: &mut Random) {
         (number, calls::check(&entry, &buffer), par1::check(&entry, &buffer))
     };
     counts.same(|| "by a damaged volume".into(), rebuilt(&bytes), (0, 15, 15));
-    let aside = calls::set_aside(&bytes, true, 1).1;
+    let aside = calls::change(&bytes, SetAside, 1).1;
     counts.same(|| "without it".into(), rebuilt(&aside), (0, 0, 0));
-    let both = calls::set_aside(&aside, true, 3).1;
+    let both = calls::change(&aside, SetAside, 3).1;
     counts.same(|| "with none".into(), rebuilt(&both).0, 12);
 }
 

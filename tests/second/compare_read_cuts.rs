@@ -5,9 +5,11 @@
 use crate::compare_faults::{at, good, put, FAULTS, LENGTH};
 use crate::compare_par1::{file, rehashed, unhashed};
 use crate::cuts::{self, Chunks};
+use crate::field::Code::{Cauchy, Powers};
 use crate::files::File;
 use crate::job_calls::{read_end, read_push, read_start};
 use crate::jobs::{number, CONTROL_TOTAL, ENTRIES, HASH, READ, READ_ENDED, SAVED, SET_TOTAL, TOTAL};
+use crate::par1::PARTS;
 use crate::{expected, par1, rounds, small, Counts, Random};
 
 /// A run of pushes: whether each is accepted, and the job after them.
@@ -72,13 +74,15 @@ fn accepted() -> Vec<(&'static str, Vec<u8>)> {
     let entry = good(1);
     let empty = par1::write_entry(b"", 1, b"E\0").unwrap();
     vec![
-        ("an index of no entries", par1::write_volume(1, 0, &[], &[]).unwrap()),
-        ("an index of no entries with a comment", par1::write_volume(1, 0, &[], b"a\0b\0").unwrap()),
-        ("an index", par1::write_volume(1, 0, &entry, &[]).unwrap()),
-        ("an index of two", par1::write_volume(1, 0, &[&entry[..], &empty].concat(), b"c\0").unwrap()),
-        ("a volume", par1::write_volume(2, 254, &entry, b"12345").unwrap()),
-        ("a volume of an empty file", par1::write_volume(2, 1, &empty, &[]).unwrap()),
-        ("a volume with names of many units", par1::write_volume(2, 3, &names(), b"54321").unwrap()),
+        ("an index of no entries", par1::write_volume(Powers, 1, 0, &[], &[]).unwrap()),
+        ("an index of no entries with a comment", par1::write_volume(Powers, 1, 0, &[], b"a\0b\0").unwrap()),
+        ("an index", par1::write_volume(Powers, 1, 0, &entry, &[]).unwrap()),
+        ("an index of the other code", par1::write_volume(Cauchy, 1, 0, &entry, &[]).unwrap()),
+        ("an index of two", par1::write_volume(Powers, 1, 0, &[&entry[..], &empty].concat(), b"c\0").unwrap()),
+        ("a volume", par1::write_volume(Powers, 2, 254, &entry, b"12345").unwrap()),
+        ("a volume of the other code", par1::write_volume(Cauchy, 2, 254, &entry, b"12345").unwrap()),
+        ("a volume of an empty file", par1::write_volume(Cauchy, 2, 1, &empty, &[]).unwrap()),
+        ("a volume with names of many units", par1::write_volume(Powers, 2, 3, &names(), b"54321").unwrap()),
     ]
 }
 
@@ -91,17 +95,20 @@ fn with(file: &[u8], place: usize, number: u64) -> Vec<u8> {
 
 /// Files that the header, its hashes or the numbers refuse, one or more for each refusal but 16 to 18.
 fn refused() -> Vec<(&'static str, u64, Vec<u8>)> {
-    let index = par1::write_volume(1, 0, &good(1), b"a\0").unwrap();
-    let volume = par1::write_volume(1, 2, &good(2), b"12345").unwrap();
+    let index = par1::write_volume(Powers, 1, 0, &good(1), b"a\0").unwrap();
+    let volume = par1::write_volume(Powers, 1, 2, &good(2), b"12345").unwrap();
     let length = index.len() as u64;
     let sums = with(&with(&with(&index, 72, u64::MAX - 1), 80, 94), 88, length - 94);
     let changed = |place: usize| [&volume[..place], &[volume[place] ^ 1], &volume[place + 1..]].concat();
+    let versioned = |version: u32| [&volume[..8], &version.to_le_bytes(), &volume[12..]].concat();
     let unsaved = par1::write_entry(b"12345", 0, b"A\0").unwrap();
     vec![
         ("95 bytes", 1, index[..95].to_vec()),
         ("no bytes", 1, vec![]),
         ("another signature", 2, changed(4)),
         ("another version", 3, changed(9)),
+        ("version 131,327", 3, versioned(131_327)),
+        ("version 131,329", 3, versioned(131_329)),
         ("another list start", 4, with(&index, 64, 97)),
         ("another list size", 4, with(&index, 72, 62)),
         ("a list past the end", 4, with(&index, 72, u64::MAX)),
@@ -144,7 +151,7 @@ fn faults() -> Vec<(String, u64, Vec<u8>)> {
 
 fn every_cut(counts: &mut Counts) {
     for (what, file) in accepted() {
-        let whole = whole(what, &file, 56);
+        let whole = whole(what, &file, PARTS);
         counts.same(|| format!("{what} is accepted"), whole.answer.0, 0);
         in_two(counts, &whole);
         in_three(counts, &whole);
@@ -152,7 +159,7 @@ fn every_cut(counts: &mut Counts) {
     let mut three = [false; 32];
     let plain = refused().into_iter().map(|(what, number, file)| (what.to_string(), number, file));
     for (what, answer, file) in plain.chain(faults()) {
-        let whole = whole(&what, &file, 56);
+        let whole = whole(&what, &file, PARTS);
         counts.same(|| format!("{what} is refused"), whole.answer.0, answer);
         in_two(counts, &whole);
         if !std::mem::replace(&mut three[(answer % 32) as usize], true) {
@@ -165,7 +172,7 @@ fn every_cut(counts: &mut Counts) {
 
 /// Rooms too short, which are refused last of all and change no byte of theirs.
 fn rooms(counts: &mut Counts) {
-    for room in [0, 1, 55, 57, 100] {
+    for room in [0, 1, 56, PARTS - 1, PARTS + 1, 100] {
         for (what, file) in accepted() {
             in_two(counts, &whole(what, &file, room));
         }
@@ -179,12 +186,12 @@ fn rooms(counts: &mut Counts) {
 fn fronts(counts: &mut Counts, random: &mut Random) {
     for (what, file) in accepted() {
         for n in (0..file.len()).step_by(if small() { 11 } else { 1 }) {
-            let whole = whole(what, &file[..n], 56);
+            let whole = whole(what, &file[..n], PARTS);
             cut(counts, &whole, cuts::each(whole.file, 1));
             cut(counts, &whole, cuts::random(whole.file, 100, random));
         }
     }
-    let nothing = whole("nothing", &[], 56);
+    let nothing = whole("nothing", &[], PARTS);
     cut(counts, &nothing, vec![]);
     cut(counts, &nothing, vec![&[], &[]]);
 }
@@ -203,13 +210,13 @@ fn damaged(counts: &mut Counts, random: &mut Random) {
             }
         }
         let one = if random.below(4) > 0 { rehashed(one) } else { one };
-        let whole = whole("a file that may be damaged", &one, 56);
+        let whole = whole("a file that may be damaged", &one, PARTS);
         for _ in 0..3 {
             cut(counts, &whole, cuts::random(&one, 300, random));
         }
         let n = random.below(400);
         let bytes = random.bytes(n);
-        cut(counts, &self::whole("random bytes", &bytes, 56), cuts::random(&bytes, 90, random));
+        cut(counts, &self::whole("random bytes", &bytes, PARTS), cuts::random(&bytes, 90, random));
     }
 }
 

@@ -5,8 +5,10 @@ use crate::compare_faults::at;
 use crate::compare_par1::unhashed;
 use crate::compare_read_cuts::pushed;
 use crate::cuts;
+use crate::field::Code::{Cauchy, Powers};
 use crate::job_calls::{read_end, read_push, read_start};
 use crate::jobs::{number, read_refused, AT, CONTROL_TOTAL, ENTRIES, MOST, READ, READ_ENDED, SAVED, SET_TOTAL, TOTAL};
+use crate::par1::PARTS;
 use crate::{expected, par1, rounds, small, Counts, Random};
 
 /// A push is 20 and changes nothing exactly where the counts say so; else it counts on, and pushes give the counts that it leaves.
@@ -26,7 +28,7 @@ fn push(counts: &mut Counts, job: &[u8], bytes: &[u8]) -> Vec<u8> {
 fn end(counts: &mut Counts, job: &[u8], room: &[u8]) -> Vec<u8> {
     let (answer, after, written) = read_end(job, room);
     let what = || format!("the end of {job:?}, room {}", room.len());
-    let kept = if answer == 0 { written[56..] == room[56..] } else { written == room };
+    let kept = if answer == 0 { written[PARTS..] == room[PARTS..] } else { written == room };
     if read_refused(job) {
         counts.same(what, (answer, &after[..], kept), (20, job, true));
     } else {
@@ -45,7 +47,7 @@ fn start(counts: &mut Counts, fresh: &[u8], room: &[u8]) -> Vec<u8> {
 
 /// Lists of calls on one job, ends among them. The answer at an end is that of the bytes pushed since the last start.
 fn any_order(counts: &mut Counts, random: &mut Random, fresh: &[u8]) {
-    let file = par1::write_volume(1, 2, &par1::write_entry(b"12345", 1, b"A\0").unwrap(), b"54321").unwrap();
+    let file = par1::write_volume(Cauchy, 1, 2, &par1::write_entry(b"12345", 1, b"A\0").unwrap(), b"54321").unwrap();
     for _ in 0..rounds(500) {
         let (mut job, mut taken, mut over) = (fresh.to_vec(), vec![], false);
         for _ in 0..20 {
@@ -55,7 +57,7 @@ fn any_order(counts: &mut Counts, random: &mut Random, fresh: &[u8]) {
             match random.below(8) {
                 0 => (job, taken, over) = (start(counts, fresh, &job), vec![], false),
                 1 => {
-                    let room = vec![3; [0, 55, 56, 60][random.below(4)]];
+                    let room = vec![3; [0, PARTS - 1, PARTS, PARTS + 4][random.below(4)]];
                     let want = if over { (20, room.clone()) } else { expected::read(&taken, &room) };
                     let (answer, _, written) = read_end(&job, &room);
                     counts.same(|| format!("the end after {} bytes, over: {over}", taken.len()), (answer, written), want);
@@ -77,7 +79,7 @@ fn lengths(counts: &mut Counts, random: &mut Random, fresh: &[u8]) {
         let job: Vec<u8> = fresh.iter().copied().cycle().take(n).collect();
         push(counts, &job, b"abc");
         push(counts, &job, b"");
-        end(counts, &job, &[3; 60]);
+        end(counts, &job, &[3; PARTS + 4]);
         start(counts, fresh, &random.bytes(n));
     }
     start(counts, fresh, &random.bytes(READ));
@@ -122,8 +124,8 @@ fn random_bytes(counts: &mut Counts, random: &mut Random) {
         refused += read_refused(&job) as usize;
         let n = [0, 1, 2, 57, 58, 200, 1000][random.below(7)];
         let after = push(counts, &job, &random.bytes(n));
-        end(counts, &after, &[3; 56]);
-        end(counts, &job, &[3; 55]);
+        end(counts, &after, &[3; PARTS]);
+        end(counts, &job, &[3; PARTS - 1]);
         let n = [READ, READ, 0, READ - 1][random.below(4)];
         let bytes = random.bytes(n);
         push(counts, &bytes, b"abc");
@@ -133,7 +135,7 @@ fn random_bytes(counts: &mut Counts, random: &mut Random) {
 
 /// A file in chunks of one length gives the answer of the whole; and where it is of the greatest length or longer, a byte more is 1.
 fn long_file(counts: &mut Counts, what: &str, file: &[u8], chunk: usize) {
-    let room = vec![3; 56];
+    let room = vec![3; PARTS];
     let whole = expected::read(file, &room);
     let (accepted, mut job) = pushed(&cuts::each(file, chunk));
     let what = || format!("{what}, {} bytes in chunks of {chunk}", file.len());
@@ -154,7 +156,7 @@ fn long_file(counts: &mut Counts, what: &str, file: &[u8], chunk: usize) {
 /// The greatest length, a byte more and many more; a name of a MiB; the greatest number of entries, of which the last is at fault.
 fn long(counts: &mut Counts) {
     let comment = vec![5; par1::VOLUME_LIMIT - 96];
-    let mut longest = par1::write_volume(1, 0, &[], &comment).unwrap();
+    let mut longest = par1::write_volume(Cauchy, 1, 0, &[], &comment).unwrap();
     for chunk in [4096, 1_000_003, longest.len()] {
         long_file(counts, "the longest file", &longest, chunk);
     }
@@ -166,7 +168,7 @@ fn long(counts: &mut Counts) {
     }
     long_file(counts, "zeros that are too many", &vec![0; par1::VOLUME_LIMIT + 1], 65_536);
     let name = b"N\0".repeat(1 << 19);
-    let named = par1::write_volume(1, 1, &par1::write_entry(b"12345", 1, &name).unwrap(), b"12345").unwrap();
+    let named = par1::write_volume(Powers, 1, 1, &par1::write_entry(b"12345", 1, &name).unwrap(), b"12345").unwrap();
     for chunk in [4095, 4096, 1 << 18] {
         long_file(counts, "a long name", &named, chunk);
     }

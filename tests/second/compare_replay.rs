@@ -2,6 +2,7 @@
 //! lines of another shape as the first and in the middle; numbers too large to hold, sizes, numbers of files and their ranges; logs of 0, 65,536 and
 //! 65,537 bytes; random logs of few and of many files; each line against queries; rooms.
 
+use crate::calls::POWERS;
 use crate::inventory::LENGTH;
 use crate::{calls, expected, replay, rounds, small, Counts, Random};
 
@@ -224,12 +225,12 @@ fn against_queries(counts: &mut Counts, random: &mut Random) {
         let log = String::from_utf8(log).unwrap();
         let (head, events) = log.split_once('\n').unwrap();
         let sizes: Vec<u8> = head.split(' ').skip(1).flat_map(|size| size.parse::<u64>().unwrap().to_le_bytes()).collect();
-        let mut inventory = calls::open(n as u64, &sizes, &[0; LENGTH]).1;
+        let mut inventory = calls::open(POWERS, n as u64, &sizes, &[0; LENGTH]).1;
         let mut want = String::new();
         for event in events.lines() {
             let (letter, number) = event.split_once(' ').unwrap();
-            let add = letter == "F" || letter == "V";
-            let (refusal, next) = calls::change(&inventory, letter == "V" || letter == "v", add, number.parse().unwrap());
+            let change = replay::change(letter.as_bytes()[0]).unwrap();
+            let (refusal, next) = calls::change(&inventory, change, number.parse().unwrap());
             inventory = next;
             let back: Vec<String> = (1..=n).filter(|&f| calls::query(&inventory, f as u64, &[0; 255]).0 == 0).map(|f| f.to_string()).collect();
             let files = if back.is_empty() { "none".to_string() } else { back.join(" ") };

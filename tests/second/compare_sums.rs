@@ -1,10 +1,11 @@
 //! "Folding obeys the sums" (document 02, 2026-12): each law by calls on random bytes, each fragment at once or in chunks, and held against the
 //! field's own sums; two jobs that push in turns; sets of files, some not saved, split between two boxes.
 
+use crate::field::{self, Code, CODES};
 use crate::files::{self, File};
 use crate::job_calls::{mul_add_end, mul_add_push, mul_add_start};
 use crate::jobs::MUL_ADD;
-use crate::{calls, cuts, field, rounds, Counts, Random};
+use crate::{calls, cuts, rounds, Counts, Random};
 
 /// "the byte-by-byte sum"; "Sum is exclusive or"
 fn sum(one: &[u8], two: &[u8]) -> Vec<u8> {
@@ -71,10 +72,10 @@ fn in_turns(counts: &mut Counts, random: &mut Random) {
 }
 
 /// "each folds its share once with the volume's factors into zeros of the data size"
-fn share(contents: &[&[u8]], v: u64, size: usize, numbers: &[usize], random: &mut Random) -> Vec<u8> {
+fn share(code: Code, contents: &[&[u8]], v: u64, size: usize, numbers: &[usize], random: &mut Random) -> Vec<u8> {
     let mut buffer = vec![0; size];
     for &f in numbers {
-        let (number, weight) = calls::coefficient(f as u64, v, &[0]);
+        let (number, weight) = calls::coefficient(code.number(), f as u64, v, &[0]);
         assert_eq!(number, 0);
         buffer = added(weight[0], contents[f - 1], &buffer, random);
     }
@@ -99,12 +100,13 @@ fn boxes(counts: &mut Counts, random: &mut Random) {
             let share = &mut shares[(random.below(4) < second) as usize];
             share.insert(random.below(share.len() + 1), f);
         }
-        let [one, two] = [0, 1].map(|i| share(&contents, v, size, &shares[i], random));
+        let code = CODES[round % 2];
+        let [one, two] = [0, 1].map(|i| share(code, &contents, v, size, &shares[i], random));
         let merged = added(1, &two, &one, random);
-        let what = || format!("round {round}, volume {v}, shares {shares:?}");
+        let what = || format!("round {round}, {code:?} volume {v}, shares {shares:?}");
         counts.same(what, &merged, &sum(&one, &two));
-        let want = files::afresh(&set, v);
-        let (answer, volume) = calls::write_volume(0x0500_0001, v, &files::list(&set), &merged, &vec![0; want.len()]);
+        let want = files::afresh(code, &set, v);
+        let (answer, volume) = calls::write_volume(code.number(), 0x0500_0001, v, &files::list(&set), &merged, &vec![0; want.len()]);
         counts.same(what, (answer, volume), (0, want));
     }
 }

@@ -48,13 +48,13 @@ pub fn runs(one: &[u8], two: &[u8]) -> Vec<(usize, usize)> {
 }
 
 /// Where a file that was read has its list and its data.
-fn parts<'a>(file: &'a [u8], numbers: &[u64; 7]) -> (&'a [u8], &'a [u8]) {
+fn parts<'a>(file: &'a [u8], numbers: &[u64; 8]) -> (&'a [u8], &'a [u8]) {
     let start = numbers[5] as usize;
     (&file[96..start], &file[start..])
 }
 
 /// The lines of two files that were read; none where they have the same bytes.
-fn lines(one: (&[u8], [u64; 7]), two: (&[u8], [u64; 7])) -> Vec<String> {
+fn lines(one: (&[u8], [u64; 8]), two: (&[u8], [u64; 8])) -> Vec<String> {
     let mut lines: Vec<String> = differing(&HEAD, one.0, two.0).map(|name| format!("head {name}")).collect();
     let ((list1, data1), (list2, data2)) = (parts(one.0, &one.1), parts(two.0, &two.1));
     let (entries1, entries2) = (entries(list1), entries(list2));

@@ -1,7 +1,8 @@
 //! What documents 01 and 02 say of each call: its answer, and the room after it. An answer is a number, or in 64 bits a number and a value.
 
 use crate::amend::{self, Amendment};
-use crate::inventory::Inventory;
+use crate::field::Code;
+use crate::inventory::{Change, Inventory};
 use crate::jobs::{self, Hash};
 use crate::par1::Refusal;
 use crate::{catalog, differences, field, md5, md5sum, par1, replay};
@@ -30,9 +31,15 @@ pub fn inverse(x: u8, room: &[u8]) -> (u32, Vec<u8>) {
     written(field::inverse(x).map(|b| vec![b]).ok_or(10), room)
 }
 
-pub fn coefficient(f: u64, v: u64, room: &[u8]) -> (u32, Vec<u8>) {
+/// The code of a number, or 10, as for any number outside its range.
+fn code_of(number: u32) -> Result<Code, u32> {
+    Code::of(number as u64).ok_or(10)
+}
+
+pub fn coefficient(code: u32, f: u64, v: u64, room: &[u8]) -> (u32, Vec<u8>) {
     let out_of_range = f == 0 || v == 0 || f as u128 + v as u128 > 255;
-    written(if out_of_range { Err(10) } else { Ok(vec![field::coefficient(f as u8, v as u8)]) }, room)
+    let factor = |code| if out_of_range { Err(10) } else { Ok(vec![field::coefficient(code, f as u8, v as u8)]) };
+    written(code_of(code).and_then(factor), room)
 }
 
 /// Numbers of 64 bits, lowest byte first, one after another.
@@ -58,8 +65,10 @@ pub fn write_entry(contents: &[u8], status: u64, name: &[u8], room: &[u8]) -> (u
     written(par1::write_entry(contents, status, name), room)
 }
 
-pub fn write_volume(program: u32, number: u64, list: &[u8], data: &[u8], room: &[u8]) -> (u64, Vec<u8>) {
-    written(par1::write_volume(program, number, list, data).map_err(Refusal::answer), room)
+/// Another code is 10, first of all.
+pub fn write_volume(code: u32, program: u32, number: u64, list: &[u8], data: &[u8], room: &[u8]) -> (u64, Vec<u8>) {
+    let volume = code_of(code).map_err(Refusal::from).and_then(|code| par1::write_volume(code, program, number, list, data));
+    written(volume.map_err(Refusal::answer), room)
 }
 
 /// The value of an accepted amendment is the volume's new length.
@@ -104,21 +113,15 @@ pub fn catalog_load(bytes: &[u8], records: usize) -> (u64, Vec<catalog::Row>) {
 }
 
 /// The sizes are numbers of 64 bits; bytes left over make their number another one than n.
-pub fn open(n: u64, sizes: &[u8], room: &[u8]) -> (u32, Vec<u8>) {
+pub fn open(code: u32, n: u64, sizes: &[u8], room: &[u8]) -> (u32, Vec<u8>) {
     let numbers: Vec<u64> = sizes.chunks_exact(8).map(|b| u64::from_le_bytes(b.try_into().unwrap())).collect();
-    let opened = if sizes.len() % 8 == 0 { Inventory::open(n, &numbers) } else { Err(10) };
-    written(opened.map(|i| i.bytes()), room)
+    let opened = |code| if sizes.len() % 8 == 0 { Inventory::open(code, n, &numbers) } else { Err(10) };
+    written(code_of(code).and_then(opened).map(|i| i.bytes()), room)
 }
 
-pub fn change(inventory: &[u8], volume: bool, add: bool, number: u64) -> (u32, Vec<u8>) {
+pub fn change(inventory: &[u8], change: Change, number: u64) -> (u32, Vec<u8>) {
     let Some(mut next) = Inventory::parse(inventory) else { return (10, inventory.to_vec()) };
-    let refusal = next.change(volume, add, number);
-    (refusal, if refusal == 0 { next.bytes() } else { inventory.to_vec() })
-}
-
-pub fn set_aside(inventory: &[u8], aside: bool, number: u64) -> (u32, Vec<u8>) {
-    let Some(mut next) = Inventory::parse(inventory) else { return (10, inventory.to_vec()) };
-    let refusal = next.set_aside(aside, number);
+    let refusal = next.change(change, number);
     (refusal, if refusal == 0 { next.bytes() } else { inventory.to_vec() })
 }
 

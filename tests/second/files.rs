@@ -1,7 +1,8 @@
 //! Files with contents, status and name, and the volumes that are written afresh from them.
 
 use crate::compare_faults::put;
-use crate::{field, par1, Random};
+use crate::field::{self, Code};
+use crate::{par1, Random};
 
 #[derive(Clone)]
 pub struct File {
@@ -41,8 +42,8 @@ pub fn list(files: &[File]) -> Vec<u8> {
     files.iter().flat_map(File::entry).collect()
 }
 
-/// Volume v of the files as they are now.
-pub fn afresh(files: &[File], v: u64) -> Vec<u8> {
+/// Volume v of the files as they are now, by the factors of a code.
+pub fn afresh(code: Code, files: &[File], v: u64) -> Vec<u8> {
     let contents: Vec<Vec<u8>> = saved(files).into_iter().map(|i| files[i].contents.clone()).collect();
-    par1::write_volume(0x0500_0001, v, &list(files), &field::parity(&contents, v)).unwrap()
+    par1::write_volume(code, 0x0500_0001, v, &list(files), &field::parity(code, &contents, v)).unwrap()
 }

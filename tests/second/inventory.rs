@@ -1,6 +1,6 @@
-//! What is present of a set, and which missing files come back: written from document 01, "The sheet", and document 02 (2026-10) alone.
+//! What is present of a set, and which missing files come back: written from document 01, "The sheet", and document 02 (2026-10, 2026-13) alone.
 
-use crate::field::{coefficient, inverse, product};
+use crate::field::{coefficient, inverse, product, Code};
 
 const SIZE_LIMIT: u64 = 16_777_216;
 
@@ -11,19 +11,52 @@ pub struct Inventory {
     files: Vec<bool>,
     volumes: Vec<bool>,
     quarantined: Vec<bool>,
+    code: Code,
 }
 
-/// The 136 bytes of an inventory: n, then four sets of 256 bits.
-pub const LENGTH: usize = 136;
+/// The calls that change an inventory; "noting a volume names its code", here by its number.
+#[derive(Clone, Copy, Debug, PartialEq)]
+pub enum Change {
+    AddFile,
+    RemoveFile,
+    AddVolume(u32),
+    RemoveVolume,
+    SetAside,
+    TakeBack,
+}
+
+/// The 144 bytes of an inventory: n, then four sets of 256 bits, then the code.
+pub const LENGTH: usize = 144;
+
+/// Where the code stands.
+pub const CODE: usize = 136;
 
 fn set_bytes(set: &[bool]) -> Vec<u8> {
     let bit = |k: usize| set.get(k).copied().unwrap_or(false) as u8;
     (0..32).map(|i| (0..8).map(|j| bit(8 * i + j) << j).sum()).collect()
 }
 
+/// 11 where what is noted is in hand, or what is withdrawn is not.
+fn put(present: &mut bool, add: bool) -> u32 {
+    if *present == add {
+        return 11;
+    }
+    *present = add;
+    0
+}
+
+/// "11 for setting aside what is not in hand, or taking back what is not set aside"
+fn moved(from: &mut bool, to: &mut bool) -> u32 {
+    if !*from {
+        return 11;
+    }
+    (*from, *to) = (false, true);
+    0
+}
+
 impl Inventory {
-    /// 10 for n and a number of sizes other than n, then 1 for a size above the limit.
-    pub fn open(n: u64, sizes: &[u64]) -> Result<Inventory, u32> {
+    /// "A sheet is opened for one code or the other". 10 for n and a number of sizes other than n, then 1 for a size above the limit.
+    pub fn open(code: Code, n: u64, sizes: &[u64]) -> Result<Inventory, u32> {
         if !(1..=254).contains(&n) || sizes.len() as u64 != n {
             return Err(10);
         }
@@ -33,12 +66,12 @@ impl Inventory {
         let mut nonempty = vec![false];
         nonempty.extend(sizes.iter().map(|&s| s > 0));
         let none = vec![false; 256];
-        Ok(Inventory { n: n as usize, nonempty, files: none.clone(), volumes: none.clone(), quarantined: none })
+        Ok(Inventory { n: n as usize, nonempty, files: none.clone(), volumes: none.clone(), quarantined: none, code })
     }
 
     pub fn bytes(&self) -> Vec<u8> {
-        let n = (self.n as u64).to_le_bytes().to_vec();
-        [n, set_bytes(&self.files), set_bytes(&self.volumes), set_bytes(&self.nonempty), set_bytes(&self.quarantined)].concat()
+        let [n, code] = [self.n as u64, self.code.number() as u64].map(|number| number.to_le_bytes().to_vec());
+        [n, set_bytes(&self.files), set_bytes(&self.volumes), set_bytes(&self.nonempty), set_bytes(&self.quarantined), code].concat()
     }
 
     /// An inventory that opening and accepted calls could have given, or nothing.
@@ -51,47 +84,37 @@ impl Inventory {
             return None;
         }
         let n = n as usize;
+        let code = Code::of(u64::from_le_bytes(bytes[CODE..].try_into().unwrap()))?;
         let set = |at: usize| (0..256).map(|k| bytes[at + k / 8] >> (k % 8) & 1 == 1).collect::<Vec<bool>>();
         let (files, volumes, nonempty, quarantined) = (set(8), set(40), set(72), set(104));
         let inside = |set: &[bool], last: usize| (0..256).all(|k| !set[k] || (1..=last).contains(&k));
         let apart = (0..256).all(|k| !(volumes[k] && quarantined[k]));
         let valid = inside(&files, n) && inside(&nonempty, n) && inside(&volumes, 255 - n) && inside(&quarantined, 255 - n) && apart;
-        valid.then_some(Inventory { n, nonempty: nonempty[..=n].to_vec(), files, volumes, quarantined })
+        valid.then_some(Inventory { n, nonempty: nonempty[..=n].to_vec(), files, volumes, quarantined, code })
     }
 
-    /// The number of adding or removing a file or a volume; where it is 0 the inventory changes. "27 noted while set aside"; "Withdrawing a set-aside
-    /// volume is accepted and removes it".
-    pub fn change(&mut self, volume: bool, add: bool, number: u64) -> u32 {
-        let (set, last) = if volume { (&mut self.volumes, 255 - self.n) } else { (&mut self.files, self.n) };
+    /// The number of a change; where it is 0 the inventory changes. "29 a volume of the other code noted, after 10, before 27 and 11"; "27 noted while
+    /// set aside"; "Withdrawing a set-aside volume is accepted and removes it".
+    pub fn change(&mut self, change: Change, number: u64) -> u32 {
+        let last = if matches!(change, Change::AddFile | Change::RemoveFile) { self.n } else { 255 - self.n };
         if number < 1 || number > last as u64 {
             return 10;
         }
-        let aside = &mut self.quarantined[number as usize];
-        if volume && *aside {
-            *aside = add;
-            return if add { 27 } else { 0 };
+        let k = number as usize;
+        match change {
+            Change::AddFile => put(&mut self.files[k], true),
+            Change::RemoveFile => put(&mut self.files[k], false),
+            Change::AddVolume(code) => match Code::of(code as u64) {
+                None => 10,
+                Some(code) if code != self.code => 29,
+                _ if self.quarantined[k] => 27,
+                _ => put(&mut self.volumes[k], true),
+            },
+            Change::RemoveVolume if self.quarantined[k] => put(&mut self.quarantined[k], false),
+            Change::RemoveVolume => put(&mut self.volumes[k], false),
+            Change::SetAside => moved(&mut self.volumes[k], &mut self.quarantined[k]),
+            Change::TakeBack => moved(&mut self.quarantined[k], &mut self.volumes[k]),
         }
-        let present = &mut set[number as usize];
-        if *present == add {
-            return 11;
-        }
-        *present = add;
-        0
-    }
-
-    /// The number of setting a volume aside, or of taking it back: "11 for setting aside what is not in hand, or taking back what is not set aside;
-    /// number checks first".
-    pub fn set_aside(&mut self, aside: bool, number: u64) -> u32 {
-        if number < 1 || number > 255 - self.n as u64 {
-            return 10;
-        }
-        let (from, to) = if aside { (&mut self.volumes, &mut self.quarantined) } else { (&mut self.quarantined, &mut self.volumes) };
-        if !from[number as usize] {
-            return 11;
-        }
-        from[number as usize] = false;
-        to[number as usize] = true;
-        0
     }
 
     /// Files and volumes in hand, and "those set aside".
@@ -118,7 +141,7 @@ impl Inventory {
             weights[self.n + v - 1] = w;
         }
         for g in (1..=self.n).filter(|&g| self.files[g]) {
-            weights[g - 1] = of_volumes.iter().fold(0, |sum, &(v, w)| sum ^ product(w, coefficient(g as u8, v as u8)));
+            weights[g - 1] = of_volumes.iter().fold(0, |sum, &(v, w)| sum ^ product(w, coefficient(self.code, g as u8, v as u8)));
         }
         Ok(weights)
     }
@@ -128,7 +151,7 @@ impl Inventory {
     pub fn recoverable(&self) -> Vec<usize> {
         let lost: Vec<usize> = (1..=self.n).filter(|&f| !self.files[f]).collect();
         let columns: Vec<usize> = lost.iter().copied().filter(|&f| self.nonempty[f]).collect();
-        let row = |v| columns.iter().map(|&g| coefficient(g as u8, v as u8)).collect();
+        let row = |v| columns.iter().map(|&g| coefficient(self.code, g as u8, v as u8)).collect();
         let reduced = reduced((1..=255 - self.n).filter(|&v| self.volumes[v]).map(row).collect());
         let alone = |c: usize| reduced.iter().any(|r| r.iter().enumerate().all(|(i, &x)| x == (i == c) as u8));
         lost.into_iter().filter(|f| columns.iter().position(|g| g == f).map_or(true, alone)).collect()
@@ -138,7 +161,7 @@ impl Inventory {
     fn used_rows(&self, columns: &[usize]) -> Vec<(usize, Vec<u8>)> {
         let mut used: Vec<(usize, Vec<u8>)> = vec![];
         for v in (1..=255 - self.n).filter(|&v| self.volumes[v]) {
-            let row: Vec<u8> = columns.iter().map(|&g| coefficient(g as u8, v as u8)).collect();
+            let row: Vec<u8> = columns.iter().map(|&g| coefficient(self.code, g as u8, v as u8)).collect();
             let mut with: Vec<Vec<u8>> = used.iter().map(|(_, r)| r.clone()).collect();
             with.push(row.clone());
             if rank(with) > used.len() {

@@ -13,7 +13,7 @@ fn name_in_line(entry: &Entry) -> Option<Vec<u8>> {
 }
 
 fn listed(file: &[u8]) -> Result<Vec<Entry>, Refusal> {
-    let [.., start, _] = par1::read(file)?;
+    let [.., start, _, _] = par1::read(file)?;
     par1::entries(&file[96..start as usize])
 }
 

@@ -1,12 +1,23 @@
 //! Par 1.0 files, written from document 000, document 01 ("Byte layout", "What comes back") and document 02 (2026-01, 2026-02,
-//! 2026-09) alone.
+//! 2026-09, 2026-13) alone.
 
+use crate::field::{Code, CODES};
 use crate::md5::digest;
 
 const MAGIC: &[u8; 8] = b"PAR\0\0\0\0\0";
-const VERSION: u32 = 65536;
 pub const FILE_LIMIT: u64 = 16_777_216;
 pub const VOLUME_LIMIT: usize = 33_554_432;
+
+/// The bytes of the numbers that reading gives.
+pub const PARTS: usize = 64;
+
+/// "32-bit version, 65,536"; "The layout is that of 01 with version 131,328"
+pub fn version(code: Code) -> u32 {
+    match code {
+        Code::Powers => 65_536,
+        Code::Cauchy => 131_328,
+    }
+}
 
 fn number(bytes: &[u8]) -> u64 {
     bytes.iter().rev().fold(0, |n, &b| n << 8 | b as u64)
@@ -117,12 +128,13 @@ fn data_fits(number: u64, list: &[Entry], size: u64) -> bool {
     if number == 0 { size % 2 == 0 } else { size == data_size(list) }
 }
 
-/// Tests 1 to 5, 16 to 19, 7 to 9 in order; accepted: program, volume number, entries, saved entries, list size, data start, data size.
-pub fn read(file: &[u8]) -> Result<[u64; 7], Refusal> {
+/// Tests 1 to 5, 16 to 19, 7 to 9 in order; "test 3 now passes both"; accepted: program, volume number, entries, saved entries, list size, data start,
+/// data size, code.
+pub fn read(file: &[u8]) -> Result<[u64; 8], Refusal> {
     test(1, file.len() >= 96 && file.len() <= VOLUME_LIMIT)?;
     let field = |at: usize| number(&file[at..at + 8]);
     test(2, &file[..8] == MAGIC)?;
-    test(3, number(&file[8..12]) == VERSION as u64)?;
+    let code = CODES.into_iter().find(|&code| number(&file[8..12]) == version(code) as u64).ok_or(3)?;
     let (list_start, list_size, data_start, data_size) = (field(64), field(72) as u128, field(80) as u128, field(88) as u128);
     test(4, list_start == 96 && data_start == 96 + list_size && data_start + data_size == file.len() as u128)?;
     test(5, digest(&file[32..]) == file[16..32])?;
@@ -132,11 +144,11 @@ pub fn read(file: &[u8]) -> Result<[u64; 7], Refusal> {
     test(7, numbers_fit(field(48), n))?;
     test(8, set_hash(&list) == file[32..48])?;
     test(9, data_fits(field(48), &list, data_size as u64))?;
-    Ok([number(&file[12..16]), field(48), field(56), n, list_size as u64, data_start as u64, data_size as u64])
+    Ok([number(&file[12..16]), field(48), field(56), n, list_size as u64, data_start as u64, data_size as u64, code.number() as u64])
 }
 
 /// Tests 16 to 18, 7, 9, 1; the caller tests 14. The count is its own, so there is no 19.
-pub fn write_volume(program: u32, volume: u64, list: &[u8], data: &[u8]) -> Result<Vec<u8>, Refusal> {
+pub fn write_volume(code: Code, program: u32, volume: u64, list: &[u8], data: &[u8]) -> Result<Vec<u8>, Refusal> {
     let parsed = entries(list)?;
     test(7, numbers_fit(volume, saved(&parsed).len() as u64))?;
     test(9, data_fits(volume, &parsed, data.len() as u64))?;
@@ -148,7 +160,7 @@ pub fn write_volume(program: u32, volume: u64, list: &[u8], data: &[u8]) -> Resu
     }
     rest.extend(list);
     rest.extend(data);
-    Ok([&MAGIC[..], &VERSION.to_le_bytes(), &program.to_le_bytes(), &digest(&rest), &rest].concat())
+    Ok([&MAGIC[..], &version(code).to_le_bytes(), &program.to_le_bytes(), &digest(&rest), &rest].concat())
 }
 
 /// Tests 17 (contents, a status other than 0 and 1), 18 (a bad name, an empty or odd one too); the caller tests 14.

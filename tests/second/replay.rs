@@ -1,6 +1,7 @@
-//! The replay of a log of arrivals, written from document 02 (2026-11) alone.
+//! The replay of a log of arrivals, written from document 02 (2026-11, 2026-13) alone.
 
-use crate::inventory::Inventory;
+use crate::field::Code;
+use crate::inventory::{Change, Inventory};
 use crate::md5sum::lines;
 
 const LOG_LIMIT: usize = 65_536;
@@ -11,23 +12,28 @@ fn number(word: &[u8]) -> Option<u64> {
     decimal.then(|| word.iter().fold(0u64, |value, digit| value.saturating_mul(10).saturating_add((digit - b'0') as u64)))
 }
 
-/// "a first line with the number of files and their sizes": 28 for another shape, then 10 and 1 as opening gives them.
+/// "a first line with the number of files and their sizes": 28 for another shape, then 10 and 1 as opening gives them. "the replay keeps the old one" of
+/// the codes.
 fn opened(line: &[u8]) -> Result<Inventory, u32> {
     let numbers: Option<Vec<u64>> = line.split(|&b| b == b' ').map(number).collect();
     let numbers = numbers.ok_or(28u32)?;
-    Inventory::open(numbers[0], &numbers[1..])
+    Inventory::open(Code::Powers, numbers[0], &numbers[1..])
 }
 
-/// ""F 7" and "V 4" for noted, "f 7" and "v 4" for withdrawn": whether of a volume, whether noted, and the number.
-fn event(line: &[u8]) -> Option<(bool, bool, u64)> {
-    let (volume, add) = match line.first()? {
-        b'F' => (false, true),
-        b'V' => (true, true),
-        b'f' => (false, false),
-        b'v' => (true, false),
-        _ => return None,
-    };
-    Some((volume, add, number(line[1..].strip_prefix(b" ")?)?))
+/// ""F 7" and "V 4" for noted, "f 7" and "v 4" for withdrawn"
+pub fn change(letter: u8) -> Option<Change> {
+    match letter {
+        b'F' => Some(Change::AddFile),
+        b'V' => Some(Change::AddVolume(Code::Powers.number())),
+        b'f' => Some(Change::RemoveFile),
+        b'v' => Some(Change::RemoveVolume),
+        _ => None,
+    }
+}
+
+/// What changes, and the number.
+fn event(line: &[u8]) -> Option<(Change, u64)> {
+    Some((change(*line.first()?)?, number(line[1..].strip_prefix(b" ")?)?))
 }
 
 fn refused(number: u32) -> String {
@@ -53,10 +59,10 @@ pub fn replay(log: &[u8]) -> Vec<u8> {
     };
     let mut text = String::new();
     for (line, ended) in lines {
-        let Some((volume, add, number)) = event(line).filter(|_| ended) else {
+        let Some((change, number)) = event(line).filter(|_| ended) else {
             return (text + &refused(28)).into();
         };
-        let refusal = inventory.change(volume, add, number);
+        let refusal = inventory.change(change, number);
         text += &if refusal == 0 { files(&inventory) } else { refused(refusal) };
     }
     text.into()
