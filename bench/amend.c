@@ -22,10 +22,10 @@ static void write_afresh(void) {
     memset(data, 0, SIZE);
     for (int f = 1; f <= FILES; f++) {
         uint8_t weight;
-        par1_coefficient((uint64_t)f, VOLUME, &weight, 1);
+        par1_coefficient(PAR1_POWERS, (uint64_t)f, VOLUME, &weight, 1);
         par1_mul_add(weight, files[f], SIZE, data, SIZE);
     }
-    par1_write_volume(1, VOLUME, list, LIST, data, SIZE, fresh, LENGTH);
+    par1_write_volume(PAR1_POWERS, 1, VOLUME, list, LIST, data, SIZE, fresh, LENGTH);
 }
 
 static void two_digests(void) {

@@ -38,12 +38,12 @@ static int prepare(void) {
         data[0] = (uint8_t)e;
         if (par1_write_entry(data, SIZE, e % 10 == 0 && e / 10 < SAVED, name, 2, list + e * ENTRY, ENTRY) != 0) return 0;
     }
-    if (par1_write_volume(1, 0, list, LIST, data, 0, index_, LENGTH) != 0) return 0;
+    if (par1_write_volume(PAR1_POWERS, 1, 0, list, LIST, data, 0, index_, LENGTH) != 0) return 0;
     open_();
     memcpy(catalog, opened, CATALOG);
     for (uint64_t v = 1; v <= VOLUMES; v++) {
         uint64_t number = v < MIDDLE ? v : v < VOLUMES ? v + 1 : MIDDLE;
-        if (par1_write_volume(1, number, list, LIST, data, SIZE, volume, LENGTH) != 0) return 0;
+        if (par1_write_volume(PAR1_POWERS, 1, number, list, LIST, data, SIZE, volume, LENGTH) != 0) return 0;
         if (v < VOLUMES && PAR1_NUMBER(par1_catalog_add(catalog, CATALOG, volume, LENGTH)) != 0) return 0;
     }
     return 1;

@@ -27,10 +27,10 @@ int main(void) {
     double a = 0, b = 0, c = 0, d = 0, e = 0, f = 0, g = 0;
     uint8_t *comment = random_bytes(COMMENT);
     one = malloc(LENGTH), equal = malloc(LENGTH), other = malloc(LENGTH), lines = malloc(LINES);
-    int right = par1_write_volume(1, 0, comment, 0, comment, COMMENT, one, LENGTH) == 0;
+    int right = par1_write_volume(PAR1_POWERS, 1, 0, comment, 0, comment, COMMENT, one, LENGTH) == 0;
     memcpy(equal, one, LENGTH);
     for (size_t p = 0; p < COMMENT; p += STEP) comment[p] ^= 1;
-    right &= par1_write_volume(1, 0, comment, 0, comment, COMMENT, other, LENGTH) == 0;
+    right &= par1_write_volume(PAR1_POWERS, 1, 0, comment, 0, comment, COMMENT, other, LENGTH) == 0;
     COMPARE(TURNS, 1, compare(equal), digests_and_memcmp(equal), a, b)
     right &= answer == 0;
     right &= row("two equal files of 16 MiB compared", "two digests, memcmp", 0, a, b, 0.90);

@@ -7,7 +7,8 @@
 enum { MIB = 1 << 20, LENGTH = 16 * MIB, CHUNK = 4096, TURNS = 15, PUSHES = 64 };
 
 static struct par1_hash hash;
-static uint8_t reading[PAR1_READ_BYTES], fold[PAR1_MUL_ADD_BYTES], digest[16], whole_digest[16], parts[56], whole_parts[56];
+static uint8_t reading[PAR1_READ_BYTES], fold[PAR1_MUL_ADD_BYTES], digest[16], whole_digest[16];
+static uint8_t parts[PAR1_PARTS_BYTES], whole_parts[PAR1_PARTS_BYTES];
 static par1_answer answer, whole_answer;
 
 /* What must be alike on both sides. */
@@ -61,7 +62,7 @@ static int read_file(const char *what, const uint8_t *list, size_t list_size, co
     size_t n = PAR1_LIST_AT + list_size + data_size;
     uint8_t *file = malloc(n);
     double a = 0, b = 0;
-    par1_write_volume(7, 0, list, list_size, data, data_size, file, n);
+    par1_write_volume(PAR1_POWERS, 7, 0, list, list_size, data, data_size, file, n);
     COMPARE(TURNS, 1, read_chunks(file, n), whole_answer = par1_read(file, n, whole_parts, sizeof whole_parts), a, b)
     int right = row(what, "the whole in one call", n, a, b, wanted);
     right &= alike("a reading", answer == 0 && whole_answer == 0 && !memcmp(parts, whole_parts, sizeof parts));
@@ -109,10 +110,10 @@ static int push_one(const char *what, const uint8_t *file, size_t n, size_t star
 static int pushes(const uint8_t *data) {
     size_t list_size, short_size = PAR1_NAME_AT + 10;
     uint8_t *list = entries(LENGTH - PAR1_NAME_AT, &list_size), *file = malloc(PAR1_LIST_AT + LENGTH);
-    par1_write_volume(7, 0, list, list_size, list, 0, file, PAR1_LIST_AT + LENGTH);
+    par1_write_volume(PAR1_POWERS, 7, 0, list, list_size, list, 0, file, PAR1_LIST_AT + LENGTH);
     int right = push_one("push of 1 byte, 16 MiB into a name", file, PAR1_LIST_AT + list_size, PAR1_LIST_AT);
     par1_write_entry(data, 5, 1, list + PAR1_NAME_AT, 10, list, short_size);
-    par1_write_volume(7, 0, list, short_size, data, LENGTH - short_size, file, PAR1_LIST_AT + LENGTH);
+    par1_write_volume(PAR1_POWERS, 7, 0, list, short_size, data, LENGTH - short_size, file, PAR1_LIST_AT + LENGTH);
     right &= push_one("push of 1 byte, 16 MiB into data", file, PAR1_LIST_AT + LENGTH, PAR1_LIST_AT + short_size);
     free(list);
     free(file);

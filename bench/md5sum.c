@@ -67,7 +67,7 @@ static int prepare(void) {
         if (l < FILES && l % 2 == 0) digits[5] = 'f';
         sprintf((char *)text + l * LINE, "%s  %s\n", digits, l < FILES && l % 3 == 0 ? "TRIP-2026-TRACK-another" : names[l]);
     }
-    return right & (par1_write_volume(1, 0, list, LIST, list, 0, file, LENGTH) == 0);
+    return right & (par1_write_volume(PAR1_POWERS, 1, 0, list, LIST, list, 0, file, LENGTH) == 0);
 }
 
 int main(void) {

@@ -5,15 +5,19 @@
 #include <dlfcn.h>
 #include <string.h>
 
-/* A build: how long an inventory is, and the calls that are timed. */
+/* A build: whether it is told codes, how long an inventory is, and the calls that are timed; three of them were told no code before 2026-13. */
 struct build {
+    int codes;
     size_t inventory_length;
-    uint32_t (*open)(uint64_t, const uint8_t *, size_t, uint8_t *, size_t);
+    uint32_t (*open)(uint32_t, uint64_t, const uint8_t *, size_t, uint8_t *, size_t);
+    uint32_t (*open_without)(uint64_t, const uint8_t *, size_t, uint8_t *, size_t);
     uint32_t (*add_file)(uint8_t *, size_t, uint64_t);
-    uint32_t (*add_volume)(uint8_t *, size_t, uint64_t);
+    uint32_t (*add_volume)(uint8_t *, size_t, uint32_t, uint64_t);
+    uint32_t (*add_volume_without)(uint8_t *, size_t, uint64_t);
     uint32_t (*query)(const uint8_t *, size_t, uint64_t, uint8_t *, size_t);
     uint32_t (*inverse)(uint8_t, uint8_t *, size_t);
-    uint32_t (*coefficient)(uint64_t, uint64_t, uint8_t *, size_t);
+    uint32_t (*coefficient)(uint32_t, uint64_t, uint64_t, uint8_t *, size_t);
+    uint32_t (*coefficient_without)(uint64_t, uint64_t, uint8_t *, size_t);
     void (*mul_add)(uint8_t, const uint8_t *, size_t, uint8_t *, size_t);
 };
 
@@ -33,31 +37,55 @@ static struct build load(const char *path) {
         exit(2);
     }
     struct build b;
-    *(void **)&b.open = call(object, "par1_open");
+    uint8_t x[1];
+    *(void **)&b.open = *(void **)&b.open_without = call(object, "par1_open");
     *(void **)&b.add_file = call(object, "par1_add_file");
-    *(void **)&b.add_volume = call(object, "par1_add_volume");
+    *(void **)&b.add_volume = *(void **)&b.add_volume_without = call(object, "par1_add_volume");
     *(void **)&b.query = call(object, "par1_query");
     *(void **)&b.inverse = call(object, "par1_inverse");
-    *(void **)&b.coefficient = call(object, "par1_coefficient");
+    *(void **)&b.coefficient = *(void **)&b.coefficient_without = call(object, "par1_coefficient");
     *(void **)&b.mul_add = call(object, "par1_mul_add");
+    /* One that is told no code takes the first number for file 0, and refuses it. */
+    b.codes = b.coefficient(PAR1_POWERS, 1, 1, x, 1) == 0;
     return b;
 }
 
-/* An inventory has been longer since volumes can be in quarantine: the length with which this build takes one. */
+static void open_(const struct build *b, int n, const uint8_t *sizes, uint8_t *inventory, size_t length) {
+    if (b->codes)
+        b->open(PAR1_POWERS, (uint64_t)n, sizes, 8 * (size_t)n, inventory, length);
+    else
+        b->open_without((uint64_t)n, sizes, 8 * (size_t)n, inventory, length);
+}
+
+static void add_volume(const struct build *b, uint8_t *inventory, int v) {
+    if (b->codes)
+        b->add_volume(inventory, b->inventory_length, PAR1_POWERS, (uint64_t)v);
+    else
+        b->add_volume_without(inventory, b->inventory_length, (uint64_t)v);
+}
+
+static void coefficient(const struct build *b, int f, int v, uint8_t *out) {
+    if (b->codes)
+        b->coefficient(PAR1_POWERS, (uint64_t)f, (uint64_t)v, out, 1);
+    else
+        b->coefficient_without((uint64_t)f, (uint64_t)v, out, 1);
+}
+
+/* An inventory has been longer since volumes can be in quarantine, and since it has a code: the length with which this build takes one. */
 static size_t inventory_length(const struct build *b) {
     uint8_t sizes[8] = {1}, inventory[PAR1_INVENTORY_BYTES];
-    b->open(1, sizes, sizeof sizes, inventory, sizeof inventory);
-    return b->add_file(inventory, sizeof inventory, 1) == 0 ? sizeof inventory : 104;
+    open_(b, 1, sizes, inventory, sizeof inventory);
+    return b->add_file(inventory, sizeof inventory, 1) == 0 ? sizeof inventory : b->add_file(inventory, 136, 1) == 0 ? 136 : 104;
 }
 
 /* An inventory in which `missing` files of n are missing, one in `step` from file 1 on, and the first volumes are present. */
 static void fill(const struct build *b, int n, int missing, int step, int volumes, uint8_t *inventory) {
     uint8_t sizes[8 * 254] = {0};
     for (int f = 0; f < n; f++) sizes[8 * f] = 1;
-    b->open((uint64_t)n, sizes, 8 * (size_t)n, inventory, b->inventory_length);
+    open_(b, n, sizes, inventory, b->inventory_length);
     for (int f = 1; f <= n; f++)
         if ((f - 1) % step != 0 || (f - 1) / step >= missing) b->add_file(inventory, b->inventory_length, (uint64_t)f);
-    for (int v = 1; v <= volumes; v++) b->add_volume(inventory, b->inventory_length, (uint64_t)v);
+    for (int v = 1; v <= volumes; v++) add_volume(b, inventory, v);
 }
 
 static struct build now, before;
@@ -121,7 +149,7 @@ int main(int argc, char **argv) {
     double a = 0, b = 0;
     COMPARE(2000, 100, now.inverse((uint8_t)(1 + call_), x, 1), before.inverse((uint8_t)(1 + call_), y, 1), a, b)
     right &= compared("an inverse", a, b, 0) && x[0] == y[0];
-    COMPARE(2000, 100, now.coefficient(1 + (uint64_t)call_, 150, x, 1), before.coefficient(1 + (uint64_t)call_, 150, y, 1), a, b)
+    COMPARE(2000, 100, coefficient(&now, 1 + call_, 150, x), coefficient(&before, 1 + call_, 150, y), a, b)
     right &= compared("a coefficient", a, b, 0) && x[0] == y[0];
     right &= mul_add(1, 0);
     right &= mul_add(256, 0);

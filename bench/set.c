@@ -1,5 +1,6 @@
-/* A whole set in memory: 24 files of 1 MiB, an index and 8 volumes created, 8 files missing, rebuilt and checked. Where a directory is given,
-   the same by the program `parchive` on files there, which should be in memory too. Every file that comes back must be the one removed. */
+/* A whole set in memory: 24 files of 1 MiB, an index and 8 volumes created, 8 files missing, rebuilt and checked; by Cauchy coefficients against the
+   powers of Par 1.0; and where a directory is given, by these against the program `parchive` on files there, which should be in memory too. Every file
+   that comes back must be the one removed. */
 #include "clock.h"
 #include "../include/par1.h"
 #include <string.h>
@@ -16,42 +17,42 @@ static void accepted(const char *call, par1_answer answer) {
     }
 }
 
-static void create(void) {
+static void create(uint32_t code) {
     static uint8_t data[SIZE];
     for (int f = 1; f <= FILES; f++) {
         uint8_t name[10] = {'F', 0, 'I', 0, 'L', 0, (uint8_t)('0' + f / 10), 0, (uint8_t)('0' + f % 10), 0};
         accepted("write_entry", par1_write_entry(files[f], SIZE, 1, name, 10, list + (f - 1) * ENTRY, ENTRY));
     }
-    accepted("write_volume", par1_write_volume(1, 0, list, LIST, list, 0, index_file, sizeof index_file));
+    accepted("write_volume", par1_write_volume(code, 1, 0, list, LIST, list, 0, index_file, sizeof index_file));
     for (int v = 1; v <= VOLUMES; v++) {
         memset(data, 0, SIZE);
         for (int f = 1; f <= FILES; f++) {
             uint8_t weight;
-            accepted("coefficient", par1_coefficient((uint64_t)f, (uint64_t)v, &weight, 1));
+            accepted("coefficient", par1_coefficient(code, (uint64_t)f, (uint64_t)v, &weight, 1));
             par1_mul_add(weight, files[f], SIZE, data, SIZE);
         }
-        accepted("write_volume", par1_write_volume(1, (uint64_t)v, list, LIST, data, SIZE, volumes[v], VOLUME_SIZE));
+        accepted("write_volume", par1_write_volume(code, 1, (uint64_t)v, list, LIST, data, SIZE, volumes[v], VOLUME_SIZE));
     }
 }
 
 /* What is there is checked first, as it would be after a bad link: files 9 to 24 and the volumes. */
-static void take_inventory(uint8_t *inventory) {
-    uint8_t sizes[8 * FILES] = {0}, parts[56];
+static void take_inventory(uint32_t code, uint8_t *inventory) {
+    uint8_t sizes[8 * FILES] = {0}, parts[PAR1_PARTS_BYTES];
     for (int f = 1; f <= FILES; f++) sizes[8 * f - 6] = SIZE >> 16;
-    accepted("open", par1_open(FILES, sizes, sizeof sizes, inventory, PAR1_INVENTORY_BYTES));
+    accepted("open", par1_open(code, FILES, sizes, sizeof sizes, inventory, PAR1_INVENTORY_BYTES));
     for (int f = VOLUMES + 1; f <= FILES; f++) {
         accepted("check", par1_check(list + (f - 1) * ENTRY, ENTRY, files[f], SIZE));
         accepted("add_file", par1_add_file(inventory, PAR1_INVENTORY_BYTES, (uint64_t)f));
     }
     for (int v = 1; v <= VOLUMES; v++) {
-        accepted("read", par1_read(volumes[v], VOLUME_SIZE, parts, 56));
-        accepted("add_volume", par1_add_volume(inventory, PAR1_INVENTORY_BYTES, (uint64_t)v));
+        accepted("read", par1_read(volumes[v], VOLUME_SIZE, parts, sizeof parts));
+        accepted("add_volume", par1_add_volume(inventory, PAR1_INVENTORY_BYTES, parts[PAR1_PARTS_CODE], (uint64_t)v));
     }
 }
 
-static void rebuild(void) {
+static void rebuild(uint32_t code) {
     uint8_t inventory[PAR1_INVENTORY_BYTES], weights[255];
-    take_inventory(inventory);
+    take_inventory(code, inventory);
     for (int missing = 1; missing <= VOLUMES; missing++) {
         accepted("query", par1_query(inventory, PAR1_INVENTORY_BYTES, (uint64_t)missing, weights, 255));
         memset(rebuilt[missing], 0, SIZE);
@@ -59,6 +60,37 @@ static void rebuild(void) {
         for (int v = 1; v <= VOLUMES; v++) par1_mul_add(weights[FILES + v - 1], volumes[v] + 96 + LIST, SIZE, rebuilt[missing], SIZE);
         accepted("check", par1_check(list + (missing - 1) * ENTRY, ENTRY, rebuilt[missing], SIZE));
     }
+}
+
+/* Whether the files that came back are those removed. */
+static int all_back(void) {
+    int same = 1;
+    for (int f = 1; f <= VOLUMES; f++) {
+        same &= memcmp(rebuilt[f], files[f], SIZE) == 0;
+        memset(rebuilt[f], 0, SIZE);
+    }
+    return same;
+}
+
+/* Sets of both codes, created and rebuilt in turn. */
+static int both_codes(void) {
+    double create_cauchy = 0, create_powers = 0, rebuild_cauchy = 0, rebuild_powers = 0;
+    int same = 1;
+    COMPARE(9, 1, create(PAR1_CAUCHY), create(PAR1_POWERS), create_cauchy, create_powers)
+    for (int turn = 0; turn < 9; turn++) {
+        double a = 0, b = 0;
+        create(PAR1_CAUCHY);
+        COMPARE(1, 1, rebuild(PAR1_CAUCHY), (void)0, a, b)
+        same &= all_back();
+        if (turn == 0 || a < rebuild_cauchy) rebuild_cauchy = a;
+        create(PAR1_POWERS);
+        COMPARE(1, 1, rebuild(PAR1_POWERS), (void)0, a, b)
+        same &= all_back();
+        if (turn == 0 || a < rebuild_powers) rebuild_powers = a;
+    }
+    int right = row("24 files of 1 MiB: created, Cauchy", "created, powers", 0, create_cauchy, create_powers, 0.95);
+    right &= row("24 files of 1 MiB: 8 rebuilt, Cauchy", "8 rebuilt, powers", 0, rebuild_cauchy, rebuild_powers, 0.95);
+    return right && same;
 }
 
 /* Runs a command in the directory, its output dropped. */
@@ -103,18 +135,18 @@ int main(int argc, char **argv) {
     uint8_t *contents = random_bytes((size_t)FILES * SIZE);
     for (int f = 1; f <= FILES; f++) files[f] = contents + (size_t)(f - 1) * SIZE;
     for (int v = 1; v <= VOLUMES; v++) volumes[v] = calloc(1, VOLUME_SIZE), rebuilt[v] = calloc(1, SIZE);
-    create();
+    int right = both_codes();
+    create(PAR1_POWERS);
     if (directory != NULL) put_files(directory);
-    COMPARE(5, 1, create(), if (directory != NULL) command(directory, "rm -f set.*; parchive a -n 8 set.par FIL*"), create_ours, create_other)
+    COMPARE(5, 1, create(PAR1_POWERS), if (directory != NULL) command(directory, "rm -f set.*; parchive a -n 8 set.par FIL*"), create_ours, create_other)
     for (int turn = 0; turn < 5; turn++) {
         double a = 0, b = 0;
         if (directory != NULL) remove_files(directory);
-        COMPARE(1, 1, rebuild(), if (directory != NULL) command(directory, "parchive r set.par"), a, b)
+        COMPARE(1, 1, rebuild(PAR1_POWERS), if (directory != NULL) command(directory, "parchive r set.par"), a, b)
         if (turn == 0 || a < rebuild_ours) rebuild_ours = a;
         if (turn == 0 || b < rebuild_other) rebuild_other = b;
     }
-    int right = 1, same = directory == NULL || files_back(directory) == VOLUMES;
-    for (int f = 1; f <= VOLUMES; f++) same &= memcmp(rebuilt[f], files[f], SIZE) == 0;
+    int same = (directory == NULL || files_back(directory) == VOLUMES) & all_back();
     if (directory != NULL) {
         right &= row("24 files of 1 MiB: index, 8 volumes created", "parchive", 0, create_ours, create_other, 1.0);
         right &= row("24 files of 1 MiB: 8 missing rebuilt", "parchive", 0, rebuild_ours, rebuild_other, 1.0);

@@ -19,12 +19,12 @@ static par1_answer number;
 static void nothing(void) { number = 0; }
 static void md5(void) { number = par1_md5(contents, SIZE - 1, room, VOLUME); }
 static void inverse(void) { number = par1_inverse(7, room, VOLUME); }
-static void coefficient(void) { number = par1_coefficient(127, 128, room, VOLUME); }
+static void coefficient(void) { number = par1_coefficient(PAR1_CAUCHY, 127, 128, room, VOLUME); }
 static void mul_add(void) { par1_mul_add(7, contents, SIZE - 1, room, VOLUME), number = 0; }
 static void read_(void) { number = par1_read(volume, VOLUME, room, VOLUME); }
 static void entry(void) { number = par1_entry(list, LIST, room, VOLUME); }
 static void write_entry(void) { number = par1_write_entry(contents, SIZE, 1, name, 2, room, VOLUME); }
-static void write_volume(void) { number = par1_write_volume(1, 1, list, LIST, contents, SIZE, volume, VOLUME); }
+static void write_volume(void) { number = par1_write_volume(PAR1_CAUCHY, 1, 1, list, LIST, contents, SIZE, volume, VOLUME); }
 static void amend(void) {
     number = PAR1_NUMBER(par1_amend(volume, VOLUME, VOLUME, 1, 0, contents, SIZE / 2, contents + SIZE / 2, SIZE / 2, list, ENTRY));
 }
@@ -45,10 +45,10 @@ static void mul_add_end(void) { number = par1_mul_add_end(fold, sizeof fold); }
 static void read_start(void) { number = par1_read_start(reading, sizeof reading); }
 static void read_push(void) { number = par1_read_push(reading, sizeof reading, volume, VOLUME); }
 static void read_end(void) { number = par1_read_end(reading, sizeof reading, room, VOLUME); }
-static void open_(void) { number = par1_open(FILES, sizes, sizeof sizes, inventory, sizeof inventory); }
+static void open_(void) { number = par1_open(PAR1_CAUCHY, FILES, sizes, sizeof sizes, inventory, sizeof inventory); }
 static void add_file(void) { number = par1_add_file(inventory, sizeof inventory, 1); }
 static void remove_file(void) { number = par1_remove_file(inventory, sizeof inventory, 1); }
-static void add_volume(void) { number = par1_add_volume(inventory, sizeof inventory, 128); }
+static void add_volume(void) { number = par1_add_volume(inventory, sizeof inventory, PAR1_CAUCHY, 128); }
 static void remove_volume(void) { number = par1_remove_volume(inventory, sizeof inventory, 128); }
 static void quarantine(void) { number = par1_quarantine(inventory, sizeof inventory, 128); }
 static void release(void) { number = par1_release(inventory, sizeof inventory, 128); }
@@ -91,8 +91,8 @@ static void prepare(void) {
     for (int f = 0; f < FILES; f++) at += sprintf(at, " 1");
     for (int v = 1; v <= VOLUMES; v++) at += sprintf(at, "\nV %d", v);
     log_length = (size_t)(at + sprintf(at, "\n") - log_);
-    if (par1_write_volume(1, 1, list, LIST, contents, SIZE, volume, VOLUME) != 0) exit(2);
-    if (par1_write_volume(2, 2, list, LIST, contents, SIZE, other, VOLUME) != 0) exit(2);
+    if (par1_write_volume(PAR1_CAUCHY, 1, 1, list, LIST, contents, SIZE, volume, VOLUME) != 0) exit(2);
+    if (par1_write_volume(PAR1_CAUCHY, 2, 2, list, LIST, contents, SIZE, other, VOLUME) != 0) exit(2);
 }
 
 int main(void) {
@@ -104,7 +104,7 @@ int main(void) {
         if (number != 0) return printf("%s answered %u\n", calls[i].name, PAR1_NUMBER(number)), 1;
         printf("| `%s` | %zu |\n", calls[i].name, deep - base);
         if (calls[i].run == open_)
-            for (uint64_t v = 1; v < VOLUMES; v++) par1_add_volume(inventory, sizeof inventory, v);
+            for (uint64_t v = 1; v < VOLUMES; v++) par1_add_volume(inventory, sizeof inventory, PAR1_CAUCHY, v);
         if (calls[i].run == remove_volume) add_volume();
     }
     return 0;

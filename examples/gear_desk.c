@@ -49,7 +49,7 @@ static size_t add(const char *path, uint8_t *entry, size_t left) {
 static void write_index(const char *path, char **files, int count) {
     size_t list = 0;
     for (int f = 0; f < count; f++) list += add(files[f], said + list, ROOM - list);
-    par1_answer answer = par1_write_volume(1, 0, said, list, said, 0, file, ROOM);
+    par1_answer answer = par1_write_volume(PAR1_POWERS, 1, 0, said, list, said, 0, file, ROOM);
     if (PAR1_NUMBER(answer) != PAR1_ACCEPTED) refused("write_volume", answer);
     save(path, file, PAR1_LIST_AT + list);
 }

@@ -50,11 +50,11 @@ static size_t write_afresh(uint64_t v, uint8_t *out) {
     accepted("write_entry", par1_write_entry(net, NET, 1, net_name, NET_NAME, list, NET_ENTRY));
     accepted("write_entry", par1_write_entry(track, track_size, 1, track_name, TRACK_NAME, list + NET_ENTRY, TRACK_ENTRY));
     memset(data, 0, size);
-    accepted("coefficient", par1_coefficient(1, v, &weight, 1));
+    accepted("coefficient", par1_coefficient(PAR1_POWERS, 1, v, &weight, 1));
     par1_mul_add(weight, net, NET, data, size);
-    accepted("coefficient", par1_coefficient(2, v, &weight, 1));
+    accepted("coefficient", par1_coefficient(PAR1_POWERS, 2, v, &weight, 1));
     par1_mul_add(weight, track, track_size, data, size);
-    accepted("write_volume", par1_write_volume(1, v, list, LIST, data, size, out, length));
+    accepted("write_volume", par1_write_volume(PAR1_POWERS, 1, v, list, LIST, data, size, out, length));
     return length;
 }
 

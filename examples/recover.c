@@ -1,5 +1,6 @@
 /* A set of 24 files in memory: writes its index and four volumes, loses files 7 and 24, walks the list of a volume for the sizes of the files,
- * asks which files come back, rebuilds them and holds them against their entries. */
+ * asks which files come back, rebuilds them and holds them against their entries; with the coefficients of Par 1.0, by which volumes 1 and 4 do not bring
+ * these two back, and with Cauchy's, by which any two volumes do. */
 #include "../include/par1.h"
 #include <stdio.h>
 #include <stdlib.h>
@@ -35,8 +36,8 @@ static void put_number(uint8_t *p, uint64_t x) {
     for (int i = 0; i < 8; i++) p[i] = (uint8_t)(x >> 8 * i);
 }
 
-/* Files of unequal sizes, their entries, and the volumes' data: each file, times its coefficient, added to zeros. */
-static void make_set(void) {
+/* Files of unequal sizes, their entries, and the volumes' data: each file, times its coefficient by the code, added to zeros. */
+static void make_set(uint32_t code) {
     uint8_t list[LIST], index[PAR1_LIST_AT + LIST];
     for (int f = 1; f <= FILES; f++) {
         files[f].length = (size_t)(SIZE - 30 * (f - 1));
@@ -44,17 +45,20 @@ static void make_set(void) {
         uint8_t name[NAME] = {'F', 0, 'I', 0, 'L', 0, (uint8_t)('0' + f / 10), 0, (uint8_t)('0' + f % 10), 0};
         accepted("write_entry", par1_write_entry(files[f].bytes, files[f].length, 1, name, NAME, list + (f - 1) * ENTRY, ENTRY));
     }
-    accepted("write_volume", par1_write_volume(1, 0, list, LIST, list, 0, index, sizeof index));
+    accepted("write_volume", par1_write_volume(code, 1, 0, list, LIST, list, 0, index, sizeof index));
     for (uint64_t v = 1; v <= VOLUMES; v++) {
         uint8_t data[SIZE] = {0};
         for (uint64_t f = 1; f <= FILES; f++) {
             uint8_t weight;
-            accepted("coefficient", par1_coefficient(f, v, &weight, 1));
+            accepted("coefficient", par1_coefficient(code, f, v, &weight, 1));
             par1_mul_add(weight, files[f].bytes, files[f].length, data, SIZE);
         }
-        accepted("write_volume", par1_write_volume(1, v, list, LIST, data, SIZE, volumes[v].bytes, LENGTH));
+        accepted("write_volume", par1_write_volume(code, 1, v, list, LIST, data, SIZE, volumes[v].bytes, LENGTH));
     }
-    printf("%d files, an index and %d volumes written\n", FILES, VOLUMES);
+    memset(&files[7], 0, sizeof files[7]);
+    memset(&files[24], 0, sizeof files[24]);
+    for (int v = 1; v <= VOLUMES; v++) volumes[v].length = 0;
+    printf("%d files, an index and %d volumes written, with %s coefficients\n", FILES, VOLUMES, code == PAR1_CAUCHY ? "Cauchy's" : "Par 1.0's");
 }
 
 /* Walks the list of a volume, entry by entry. Files are numbered over the saved entries only. */
@@ -73,16 +77,19 @@ static int walk(const uint8_t *volume) {
     }
 }
 
+/* A volume that has come: reading tells its code. */
 static void add_volume(uint64_t v) {
+    uint8_t parts[PAR1_PARTS_BYTES];
     volumes[v].length = LENGTH;
-    accepted("add_volume", par1_add_volume(inventory, sizeof inventory, v));
+    accepted("read", par1_read(volumes[v].bytes, LENGTH, parts, sizeof parts));
+    accepted("add_volume", par1_add_volume(inventory, sizeof inventory, (uint32_t)number_at(parts + PAR1_PARTS_CODE), v));
 }
 
-/* An inventory of the files that the list names, with those present and two volumes. */
-static void take_inventory(int n) {
+/* An inventory of the files that the list names and of volumes of this code, with those present and two volumes. */
+static void take_inventory(uint32_t code, int n) {
     uint8_t sizes[8 * FILES];
     for (int f = 1; f <= n; f++) put_number(sizes + 8 * (f - 1), listed[f].size);
-    accepted("open", par1_open((uint64_t)n, sizes, 8 * (size_t)n, inventory, sizeof inventory));
+    accepted("open", par1_open(code, (uint64_t)n, sizes, 8 * (size_t)n, inventory, sizeof inventory));
     for (int f = 1; f <= n; f++)
         if (files[f].length != 0) accepted("add_file", par1_add_file(inventory, sizeof inventory, (uint64_t)f));
     add_volume(1);
@@ -112,18 +119,24 @@ static void rebuild(uint64_t file) {
     printf("  file %2d: rebuilt, %d bytes, and checked\n", (int)file, (int)size);
 }
 
-int main(void) {
-    make_set();
-    memset(&files[7], 0, sizeof files[7]);
-    memset(&files[24], 0, sizeof files[24]);
+/* Files 7 and 24 lost, volumes 1 and 4 present. */
+static void lose_two(uint32_t code) {
+    make_set(code);
     int n = walk(volumes[1].bytes);
     printf("the list of volume 1 walked: %d saved files, the first of %d bytes\n", n, (int)listed[1].size);
-    take_inventory(n);
+    take_inventory(code, n);
     puts("files 7 and 24 missing, volumes 1 and 4 present:");
     query(7);
     query(24);
+}
+
+int main(void) {
+    lose_two(PAR1_POWERS);
     add_volume(2);
     puts("volume 2 too:");
+    rebuild(7);
+    rebuild(24);
+    lose_two(PAR1_CAUCHY);
     rebuild(7);
     rebuild(24);
     return 0;

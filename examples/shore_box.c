@@ -33,10 +33,10 @@ static size_t write_volume(uint64_t number) {
     size_t size = number == 0 ? 0 : SIZE;
     for (uint64_t f = 0, saved = 0; number > 0 && f < FILES; f++) {
         if (f == 2) continue;
-        accepted("coefficient", par1_coefficient(++saved, number, &weight, 1));
+        accepted("coefficient", par1_coefficient(PAR1_POWERS, ++saved, number, &weight, 1));
         par1_mul_add(weight, files[f], size_of((int)f), data, SIZE);
     }
-    accepted("write_volume", par1_write_volume(1, number, list, LIST, data, size, volume, LENGTH));
+    accepted("write_volume", par1_write_volume(PAR1_POWERS, 1, number, list, LIST, data, size, volume, LENGTH));
     return PAR1_LIST_AT + LIST + size;
 }
 

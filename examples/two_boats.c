@@ -33,7 +33,7 @@ static void fill(struct boat *boat, uint32_t program) {
 static uint8_t *add(uint64_t f, const uint8_t *log, size_t size, const char *name, size_t name_length, uint8_t *entry, uint8_t *data) {
     uint8_t weight;
     accepted("write_entry", par1_write_entry(log, size, 1, (const uint8_t *)name, name_length, entry, PAR1_NAME_AT + name_length));
-    accepted("coefficient", par1_coefficient(f, VOLUME, &weight, 1));
+    accepted("coefficient", par1_coefficient(PAR1_POWERS, f, VOLUME, &weight, 1));
     par1_mul_add(weight, log, size, data, GREATEST);
     return entry + PAR1_NAME_AT + name_length;
 }
@@ -43,7 +43,7 @@ static void write_volume(struct boat *boat) {
     entry = add(1, boat->net, NET, "N\0E\0T\0.\0L\0O\0G", NAME - 4, entry, data);
     add(2, boat->track, boat->track_size, "T\0R\0A\0C\0K\0.\0L\0O\0G", NAME, entry, data);
     boat->length = PAR1_LIST_AT + LIST + boat->track_size;
-    accepted("write_volume", par1_write_volume(boat->program, VOLUME, list, LIST, data, boat->track_size, boat->volume, ROOM));
+    accepted("write_volume", par1_write_volume(PAR1_POWERS, boat->program, VOLUME, list, LIST, data, boat->track_size, boat->volume, ROOM));
 }
 
 static void compare(const char *what) {

@@ -48,7 +48,7 @@ static void add_files(uint64_t v, uint64_t first, uint64_t step, void (*add)(uin
     for (int k = 0; k < FILES; k++) {
         uint8_t weight;
         if (k == NOT_SAVED || ++number < first || (number - first) % step != 0) continue;
-        accepted("coefficient", par1_coefficient(number, v, &weight, 1));
+        accepted("coefficient", par1_coefficient(PAR1_POWERS, number, v, &weight, 1));
         add(weight, files[k].bytes, files[k].length, buffer);
     }
 }
@@ -59,11 +59,11 @@ int main(void) {
     printf("%d files, of which %d are saved, in two boxes: the first adds each at once, the second %d bytes at a time\n", FILES, FILES - 1, CHUNK);
     for (uint64_t v = 1; v <= VOLUMES; v++) {
         add_files(v, 1, 1, at_once, all);
-        accepted("write_volume", par1_write_volume(1, v, list, LIST, all, SIZE, volume, LENGTH));
+        accepted("write_volume", par1_write_volume(PAR1_POWERS, 1, v, list, LIST, all, SIZE, volume, LENGTH));
         add_files(v, 1, 2, at_once, one);
         add_files(v, 2, 2, in_chunks, two);
         in_chunks(1, two, SIZE, one);
-        accepted("write_volume", par1_write_volume(1, v, list, LIST, one, SIZE, merged, LENGTH));
+        accepted("write_volume", par1_write_volume(PAR1_POWERS, 1, v, list, LIST, one, SIZE, merged, LENGTH));
         if (memcmp(volume, merged, LENGTH) != 0) {
             printf("volume %d is not as it must be\n", (int)v);
             return 1;

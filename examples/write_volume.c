@@ -34,11 +34,11 @@ int main(void) {
         size_t size = files[f - 1].size, length = PAR1_NAME_AT + files[f - 1].name_length;
         for (size_t p = 0; p < size; p++) bytes[p] = (uint8_t)(f * 31 + p * p / 7);
         accepted("write_entry", par1_write_entry(bytes, size, 1, files[f - 1].name, files[f - 1].name_length, entry, length));
-        accepted("coefficient", par1_coefficient((uint64_t)f, VOLUME, &weight, 1));
+        accepted("coefficient", par1_coefficient(PAR1_POWERS, (uint64_t)f, VOLUME, &weight, 1));
         par1_mul_add(weight, bytes, size, data, TRACK);
         entry += length;
     }
-    accepted("write_volume", par1_write_volume(1, VOLUME, list, LIST, data, TRACK, volume, LENGTH));
+    accepted("write_volume", par1_write_volume(PAR1_POWERS, 1, VOLUME, list, LIST, data, TRACK, volume, LENGTH));
     save("TRACK.LOG", track, TRACK);
     save("TRIP.P02", volume, LENGTH);
     printf("written: TRACK.LOG of %d bytes, and volume %d of it and NET.LOG, of %d bytes, which is lost\n", TRACK, VOLUME, NET);
