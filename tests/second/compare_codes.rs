@@ -243,8 +243,9 @@ fn volume(code: Code, contents: &[&File], list: &[u8], v: u64) -> Vec<u8> {
 
 const FILES: u64 = 24;
 
-/// With files a and b of 24 missing and each pair of volumes 1 to `last` present: how often both come back, and how often by the second program, for
-/// which two rows of two columns must not be multiples of one another. A pair in which one comes back and the other does not ends the run.
+/// With files a and b of 24 missing and each pair of volumes 1 to `last` present: how often they come back, and how often by the second program, for
+/// which two rows of two columns must not be multiples of one another. No factor is 0, so the two come back together or not at all: both are asked for with
+/// volumes up to 24, and one of them in turn with greater ones. A pair in which one comes back and the other does not ends the run.
 fn pairs_of_volumes(code: Code, a: u64, b: u64, last: u64) -> (u64, u64) {
     let mut none = opened(code, &[1; FILES as usize]);
     for f in (1..=FILES).filter(|&f| f != a && f != b) {
@@ -256,8 +257,11 @@ fn pairs_of_volumes(code: Code, a: u64, b: u64, last: u64) -> (u64, u64) {
         let one = calls::change(&none, AddVolume(code.number()), v).1;
         for w in v + 1..=last {
             let bytes = calls::change(&one, AddVolume(code.number()), w).1;
-            let [first, second] = [a, b].map(|f| calls::query(&bytes, f, &[0; 255]).0);
-            assert!(first == second && [0, 12].contains(&first), "files {a} and {b} with volumes {v} and {w}: {first} and {second}");
+            let turn = (v + w) as usize % 2;
+            let asked = if w <= FILES { &[a, b][..] } else { &[[a, b][turn]] };
+            let mut numbers = asked.iter().map(|&f| calls::query(&bytes, f, &[0; 255]).0);
+            let first = numbers.next().unwrap();
+            assert!([0, 12].contains(&first) && numbers.all(|number| number == first), "files {a} and {b} with volumes {v} and {w}");
             back += (first == 0) as u64;
             let [row, other] = [v, w].map(|v| factors[v as usize - 1]);
             by_rows += (field::product(row[0], other[1]) != field::product(row[1], other[0])) as u64;
