@@ -72,24 +72,30 @@ static int all_back(void) {
     return same;
 }
 
-/* Sets of both codes, created and rebuilt in turn. */
+/* The processor time of a call, or the best so far where that is less: what else runs on the machine does not count. */
+static double best_of(double best, void (*call)(uint32_t), uint32_t code) {
+    struct timespec from, to;
+    clock_gettime(CLOCK_PROCESS_CPUTIME_ID, &from);
+    call(code);
+    clock_gettime(CLOCK_PROCESS_CPUTIME_ID, &to);
+    double time = (double)(to.tv_sec - from.tv_sec) + 1e-9 * (double)(to.tv_nsec - from.tv_nsec);
+    return time < best ? time : best;
+}
+
+/* Sets of both codes, created and rebuilt in turn, by processor time. */
 static int both_codes(void) {
-    double create_cauchy = 0, create_powers = 0, rebuild_cauchy = 0, rebuild_powers = 0;
+    static const uint32_t codes[] = {PAR1_CAUCHY, PAR1_POWERS};
+    double created[2] = {1e9, 1e9}, restored[2] = {1e9, 1e9};
     int same = 1;
-    COMPARE(9, 1, create(PAR1_CAUCHY), create(PAR1_POWERS), create_cauchy, create_powers)
-    for (int turn = 0; turn < 9; turn++) {
-        double a = 0, b = 0;
-        create(PAR1_CAUCHY);
-        COMPARE(1, 1, rebuild(PAR1_CAUCHY), (void)0, a, b)
-        same &= all_back();
-        if (turn == 0 || a < rebuild_cauchy) rebuild_cauchy = a;
-        create(PAR1_POWERS);
-        COMPARE(1, 1, rebuild(PAR1_POWERS), (void)0, a, b)
-        same &= all_back();
-        if (turn == 0 || a < rebuild_powers) rebuild_powers = a;
-    }
-    int right = row("24 files of 1 MiB: created, Cauchy", "created, powers", 0, create_cauchy, create_powers, 0.95);
-    right &= row("24 files of 1 MiB: 8 rebuilt, Cauchy", "8 rebuilt, powers", 0, rebuild_cauchy, rebuild_powers, 0.95);
+    for (int turn = 0; turn < 15; turn++)
+        for (int i = 0; i < 2; i++) {
+            created[i] = best_of(created[i], create, codes[i]);
+            restored[i] = best_of(restored[i], rebuild, codes[i]);
+            same &= all_back();
+        }
+    int right = row("24 files of 1 MiB: created, Cauchy", "created, powers", 0, created[0], created[1], 0.95);
+    right &= row("24 files of 1 MiB: 8 rebuilt, Cauchy", "8 rebuilt, powers", 0, restored[0], restored[1], 0.95);
+    if (!same) puts("set: a file that came back differs");
     return right && same;
 }
 
