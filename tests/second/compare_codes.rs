@@ -286,7 +286,7 @@ fn every_pair(counts: &mut Counts) {
             counts.same(|| format!("files {a} and {b} with each pair of {code:?} volumes"), back, by_rows);
         }
         let back: u64 = found.iter().map(|(back, _)| back).sum();
-        println!("{code:?}: two of 24 files missing, two volumes of 1 to {last} present: both come back in {back} of {in_all} cases");
+        println!("{code:?}: two of 24 files missing, two volumes of 1 to {last} present: what is asked for comes back in {back} of {in_all} cases");
         counts.same(|| format!("whether all come back by {code:?}"), back == in_all, code == Cauchy);
     }
 }
