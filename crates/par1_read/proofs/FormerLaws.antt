@@ -21,8 +21,7 @@ use Rattle.entries.specs.Walk.{walkOf}
 use Rattle.entries.specs.declared.Walked.{Walked}
 use Rattle.entries.specs.declared.Walked.the-variants as walked
 use Rattle.entries.proofs.WalkLaws.{walk-refused}
-use Rattle.codes.specs.declared.Code.the-variants.{Powers, Cauchy}
-use Rattle.par1_rules.specs.Layout.{signature, versionFor, signatureOf, versionOf, controlHashOf, setHashOf}
+use Rattle.par1_rules.specs.Layout.{signature, signatureOf, versionOf, controlHashOf, setHashOf}
 use Rattle.par1_rules.specs.Layout.{volumeNumberOf, countOf, dataSizeOf, listOf}
 use Rattle.par1_rules.specs.Hashes.{setHash, controlHash}
 use Rattle.par1_rules.specs.Rules.{lengthAllowed, versionAllowed, layoutAllowed, numberAllowed, dataAllowed}
@@ -53,7 +52,7 @@ totals-formerly true true false d = record { former-is = refl; not-six = λ z. o
 totals-formerly true true true false = record { former-is = refl; not-six = λ z. omega arith }
 totals-formerly true true true true = record { former-is = refl; not-six = λ z. omega arith }
 
-former-version : (v : ℕ) → (v ≡ versionFor Cauchy → ⊥) → versionAllowed v ≡ eqb v (versionFor Powers)
+former-version : (v : ℕ) → (v ≡ 131328 → ⊥) → versionAllowed v ≡ eqb v 65536
 unfolding versionAllowed
 former-version v h = ap (λ (b : Bool). eqb v 65536 || b) (ne-eqb _ _ h) ∙ by (eqb v 65536)
   where

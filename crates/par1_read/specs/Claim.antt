@@ -18,8 +18,7 @@ use lib.ListN.{length, take}
 use Rattle.refusals.specs.declared.Refusal.{Refusal}
 use Rattle.entries.specs.Claim.{FirstFault}
 use Rattle.entries.specs.declared.Walked.{Walked}
-use Rattle.codes.specs.declared.Code.the-variants.{Cauchy}
-use Rattle.par1_rules.specs.Layout.{signature, versionFor, signatureOf, versionOf, listOf}
+use Rattle.par1_rules.specs.Layout.{signature, signatureOf, versionOf, listOf}
 use Rattle.par1_rules.specs.Hashes.{controlHash}
 use Rattle.par1_rules.specs.Rules.{lengthAllowed}
 use Rattle.par1_read.specs.Former.{formerNumber, formerRefusal}
@@ -49,9 +48,9 @@ FaultRead =
 abbrev pub FormerSix : Type 0
 FormerSix =
     (f : List ℕ) → let n = readingRefusal (readOf f) .number in
-    ((versionOf f ≡ versionFor Cauchy → ⊥) → formerRefusal f ≡ formerNumber n) × (n ≡ 6 → ⊥)
+    ((versionOf f ≡ 131328 → ⊥) → formerRefusal f ≡ formerNumber n) × (n ≡ 6 → ⊥)
 
 -- document 02, 2026-13: "version 131,328, which our older readers refuse with 3"; proved: proofs/FormerLaws.antt, `former-three`
 abbrev pub FormerThree : Type 0
 FormerThree =
-    (f : List ℕ) → versionOf f ≡ versionFor Cauchy → lengthAllowed (length f) ≡ true → signatureOf f ≡ signature → formerRefusal f ≡ 3
+    (f : List ℕ) → versionOf f ≡ 131328 → lengthAllowed (length f) ≡ true → signatureOf f ≡ signature → formerRefusal f ≡ 3

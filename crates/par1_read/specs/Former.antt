@@ -16,8 +16,7 @@ use Rattle.refusals.specs.Tests.{test}
 use Rattle.entries.specs.Walk.{walkOf}
 use Rattle.entries.specs.declared.Walked.{Walked}
 use Rattle.entries.specs.declared.Walked.the-variants as walked
-use Rattle.codes.specs.declared.Code.the-variants.{Powers}
-use Rattle.par1_rules.specs.Layout.{signature, versionFor, signatureOf, versionOf, controlHashOf, setHashOf}
+use Rattle.par1_rules.specs.Layout.{signature, signatureOf, versionOf, controlHashOf, setHashOf}
 use Rattle.par1_rules.specs.Layout.{volumeNumberOf, countOf, dataSizeOf, listOf}
 use Rattle.par1_rules.specs.Hashes.{setHash, controlHash}
 use Rattle.par1_rules.specs.Rules.{lengthAllowed, layoutAllowed, numberAllowed, dataAllowed}
@@ -35,10 +34,11 @@ formerInList f (walked.Entries t) =
     (test 8 (equal (setHashOf f) (setHash (entriesIn f)))
     (test 9 (dataAllowed (volumeNumberOf f) (t .greatest) (dataSizeOf f)) 0)))
 
+-- "3: version is not 65,536"
 unfoldable pub formerRefusal : List ℕ → ℕ
 formerRefusal f =
     test 1 (lengthAllowed (length f))
     (test 2 (eqb (signatureOf f) signature)
-    (test 3 (eqb (versionOf f) (versionFor Powers))
+    (test 3 (eqb (versionOf f) 65536)
     (test 4 (layoutAllowed f (length f))
     (test 5 (equal (controlHashOf f) (controlHash f)) (formerInList f (walkOf (listOf f)))))))
