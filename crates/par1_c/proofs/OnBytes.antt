@@ -2,6 +2,7 @@
 --
 --   opened-on-bytes      an opening
 --   changed-on-bytes     the calls that add, remove, set aside and take back
+--   added-on-bytes       the addition of a volume, told the number of its code
 --   counted-on-bytes     a count
 --   queried-on-bytes     a query
 -- Assumes nothing.
@@ -35,7 +36,8 @@ use Rattle.inventory_bytes.proofs.BackLaws.{length-inventory, loaded-back}
 use Rattle.number_sets.specs.Sets.{Words}
 use Rattle.refusals.specs.Tests.{bare}
 use Rattle.number_sets.proofs.Words.{words-none, words-inserted, words-removed}
-use Rattle.par1_c.specs.Claim.{OnBytes, OpenedOnBytes, ChangedOnBytes, CountedOnBytes, QueriedOnBytes}
+use Rattle.par1_c.specs.Claim.{OnBytes, OpenedOnBytes, ChangedOnBytes, AddedOnBytes, CountedOnBytes, QueriedOnBytes}
+use Rattle.par1_c.specs.Inventories.{changedBy}
 use Rattle.par1_c.proofs.CallLaws.{changed-same, counted-same}
 use Rattle.par1_c.proofs.CodeCalls.{by-code}
 
@@ -96,6 +98,12 @@ held-change release s k h =
 pub changed-on-bytes : ChangedOnBytes
 unfolding changeStep
 changed-on-bytes s h c k = on-bytes (changeStep c) s k _ _ refl (held-change c s k h) h
+
+pub added-on-bytes : AddedOnBytes
+added-on-bytes s h c v =
+    let b : List ℕ = inventoryBytes s in
+    let on = changed-on-bytes s h (addVolume c) v in
+    (by-code c (λ d. changedBy (changeStep (addVolume d)) v b) b ∙ on .gives, on .held)
 
 -- ---- counts and queries
 

@@ -17,6 +17,7 @@
 --   OnBytes step s k     a call that changes s: its number, and the bytes of the inventory that it hands back, which bytes can hold again
 --   OpenedOnBytes        an opening with the bytes of the sizes is one with the sizes, and bytes can hold what it gives
 --   ChangedOnBytes       so are the calls that add, remove, set aside and take back
+--   AddedOnBytes         so is the addition of a volume that is told the number of its code
 --   CountedOnBytes       so is a count
 --   QueriedOnBytes       so is a query
 --   OthersRefused        bytes of another length, or of no code, are refused with 10 by each of them, and nothing changes
@@ -38,7 +39,7 @@ use Rattle.parity.specs.Coefficient.{ruleOf}
 use Rattle.par1_read.specs.Reading.{readOf}
 use Rattle.par1_write.specs.VolumeWriting.{writeVolumeOf}
 use Rattle.inventory.specs.Recoverable.{State}
-use Rattle.inventory.specs.Model.{Change}
+use Rattle.inventory.specs.Model.{Change, addVolume}
 use Rattle.inventory.specs.Query.{Queried}
 use Rattle.inventory.specs.Steps.{openStep, changeStep, countStep, answerNumber}
 use Rattle.inventory.specs.declared.Answer.{Answer}
@@ -134,9 +135,15 @@ OpenedOnBytes =
     (c : Code) (n : ℕ) (sizes out : List ℕ) → ((j : ℕ) → getD sizes j 0 < 2 ^ 64)
     → (openInto (codeNumber c) n (numbers sizes) out ≡ storedBy (openStep c n sizes) out) × Held (openStep c n sizes .next)
 
--- the addition of a volume is told the number of its code (ByCode); proved: proofs/OnBytes.antt, `changed-on-bytes`
+-- proved: proofs/OnBytes.antt, `changed-on-bytes`
 abbrev pub ChangedOnBytes : Type 0
 ChangedOnBytes = (s : Inventory) → Held s → (c : Change) (k : ℕ) → OnBytes (changeStep c) s k
+
+-- "noting a volume names its code"; proved: proofs/OnBytes.antt, `added-on-bytes`
+abbrev pub AddedOnBytes : Type 0
+AddedOnBytes =
+    (s : Inventory) → Held s → (c : Code) (v : ℕ) → let o = changeStep (addVolume c) s v in
+    (addedBy (codeNumber c) v (inventoryBytes s) ≡ (o .number, inventoryBytes (o .next))) × Held (o .next)
 
 -- proved: proofs/OnBytes.antt, `counted-on-bytes`
 abbrev pub CountedOnBytes : Type 0
