@@ -42,7 +42,7 @@ pub const SET_HASH: u32 = 8;
 // The size of the data breaks its rule.
 pub const DATA_SIZE: u32 = 9;
 
-// A number is outside its range, no calls give the inventory, or 0 has no inverse.
+// A number is outside its range or that of no code, no calls give the inventory, or 0 has no inverse.
 pub const OUT_OF_RANGE: u32 = 10;
 
 // What is added is present already, or what is removed is not.
