@@ -58,10 +58,10 @@ enum {
     PAR1_CATALOG = 30       /* the catalog ends early, or no list and volumes give it */
 };
 
-/* By which coefficients volumes are made. Par 1.0's own, which any client reads, are powers, in files of version 65,536: there are files and volumes
- * that do not come back though the volumes are as many as the missing files. With Cauchy coefficients, in files of version 131,328, any volumes will
- * do: as many of them as missing files of size 1 or more bring all back. Programs that know Par 1.0 alone refuse that version. A call that is told
- * any other number as a code refuses with 10. */
+/* By which coefficients volumes are made. Par 1.0's own, which any client reads, are powers, in files of version 65,536: there are missing files
+ * that do not come back though as many volumes are present. With Cauchy coefficients, in files of version 131,328, any volumes will do: as many of
+ * them as missing files of size 1 or more bring all back. Programs that know Par 1.0 alone refuse that version. A call that is told any other number
+ * as a code refuses with 10. */
 enum { PAR1_POWERS = 0, PAR1_CAUCHY = 1 };
 
 /* An answer that has more to say than a number: the number, and a value that goes with it. The value of a refusal 16 to 18 is the place of the entry
@@ -188,7 +188,8 @@ par1_answer par1_amend(uint8_t *volume, size_t volume_len, uint64_t length, uint
  * order. The value is the length of the lines. The answer is 0 exactly where both are accepted by par1_read and have the same bytes; the value
  * alone does not tell, for it is 0 with 14 too.
  *
- *   head NAME     a field of the header: version, program, control, set, number, files, list (its size), start (of the data), data (its size)
+ *   head NAME     a field of the header: version, program, control, set, number, files, list (its size), start (of the data), data (its size);
+ *                 `head version` where the codes differ
  *   entry P NAME  a field of entry P, from 1: length, status, size, md5, 16k, name
  *   entry P all   only one of the two has an entry P
  *   data A B      of the data the bytes from place A to place B, both included, from 0: each differs, or only one of the two has it; the bytes
@@ -320,9 +321,9 @@ uint32_t par1_read_push(uint8_t *job, size_t job_len, const uint8_t *bytes, size
 par1_answer par1_read_end(uint8_t *job, size_t job_len, uint8_t *out, size_t out_len);
 
 /* An inventory says what of a set of n files and their volumes is present, and which volumes are in quarantine: held, but set aside. Its volumes are
- * all of one code. It is 144 bytes, 18 numbers: n; the files present, the volumes present, the files of size 1 or more, the volumes in quarantine, four
- * words each, number k being bit k mod 64 of word k div 64; the code. No volume is both present and in quarantine. Every call on one refuses with 10,
- * first of all, bytes of another length or that no calls give. */
+ * all of one code; volumes of the other code go into an inventory of their own. It is 144 bytes, 18 numbers: n; the files present, the volumes present,
+ * the files of size 1 or more, the volumes in quarantine, four words each, number k being bit k mod 64 of word k div 64; the code. No volume is both
+ * present and in quarantine. Every call on one refuses with 10, first of all, bytes of another length or that no calls give. */
 
 /* Opens an inventory of n files, whose sizes are n numbers, and of volumes of this code, nothing present, into the first 144 bytes of `inventory`.
  * Refuses with 10 where there is no such code, n is not 1 to 254 or the sizes are not n numbers, with 1 where a size is above 16,777,216, then with 14
