@@ -1,5 +1,6 @@
-//! Runs of amendments (document 02, 2026-05), of volumes of both codes: sets of files that change and grow, with refused calls between; after each amendment each volume must
-//! be the one that is written afresh from the files as they are now, and differ from what it was only where the document allows it.
+//! Runs of amendments (document 02, 2026-05), of volumes of both codes: sets of files that change and grow, with refused calls between; after each
+//! amendment each volume must be the one that is written afresh from the files as they are now, and differ from what it was only where the document
+//! allows it.
 
 use crate::amend::Amendment;
 use crate::field::{Code, CODES};

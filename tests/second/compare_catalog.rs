@@ -1,6 +1,6 @@
-//! Runs of calls on catalogs (document 02, 2026-08): random sets, volumes of both codes, of theirs and of others, opened, added, dropped and loaded, refused calls
-//! between; after each call the catalog must be the one that is opened from the same list and given only the volumes now in it, in any order. Then
-//! sets of 0, 1, 254, 1,024 and 1,025 entries, none and 254 of them saved.
+//! Runs of calls on catalogs (document 02, 2026-08): random sets, volumes of both codes, of theirs and of others, opened, added, dropped and loaded,
+//! refused calls between; after each call the catalog must be the one that is opened from the same list and given only the volumes now in it, in any
+//! order. Then sets of 0, 1, 254, 1,024 and 1,025 entries, none and 254 of them saved.
 
 use crate::catalog::{Catalog, HEAD, ROW};
 use crate::compare_par1::rehashed;
