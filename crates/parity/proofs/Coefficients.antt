@@ -5,7 +5,7 @@
 --   answer-sum-above                     other numbers are refused
 --   coefficient-answered                 so each call is answered
 --   powers-coefficients                  by Par 1.0's code the coefficients are powers
---   cauchy-coefficients                  by the other they are inverses
+--   cauchy-coefficients                  by the other they are Cauchy's
 --   coefficient-byte, rule-byte          the coefficient of a file is a byte, by either code
 --   rule-by-tables                       it is what the tables give
 -- Assumes nothing.
@@ -23,7 +23,7 @@ use Rattle.gf256.proofs.TableLaws.{power-by-tables}
 use Rattle.codes.specs.declared.Code.{Code}
 use Rattle.codes.specs.declared.Code.the-variants.{Powers, Cauchy}
 use Rattle.cauchy.specs.Claim.{InRange}
-use Rattle.cauchy.proofs.Coefficients.{cauchy-rule, cauchy-byte, cauchy-by-tables}
+use Rattle.cauchy.proofs.Coefficients.{cauchy-byte, cauchy-by-tables}
 use Rattle.parity.specs.Claim.{PowersCoefficients, CauchyCoefficients, CoefficientAnswered}
 use Rattle.parity.specs.Coefficient.{coefficient, ruleOf, coefficientBy, coefficientAnswer}
 
@@ -73,7 +73,7 @@ unfolding coefficient
 powers-coefficients f v h = coefficient-answered .inRange Powers f v h
 
 pub cauchy-coefficients : CauchyCoefficients
-cauchy-coefficients f v h = (coefficient-answered .inRange Cauchy f v h, cauchy-rule f v h .0)
+cauchy-coefficients f v h = coefficient-answered .inRange Cauchy f v h
 
 pub coefficient-byte : (f v : ℕ) → f < 256 → coefficient f v < 256
 unfolding coefficient

@@ -1,11 +1,11 @@
 -- What the coefficients of each code are, and what a volume's data is made of (document 01, "The parity bytes"; document 02, 2026-13).
 --
 --   PowersCoefficients    Par 1.0's code has the powers for coefficients
---   CauchyCoefficients    the code of 2026-13 has the inverses of f exclusive-or (256 - v)
+--   CauchyCoefficients    the code of 2026-13 has the Cauchy coefficients, which crate `cauchy` claims to be inverses (CauchyRule)
 --   CoefficientAnswered   a call for a coefficient of either code is answered in range, and refused with 10 out of it
+--   SomeOrder      there is an order in which to take the files
 -- and for each code:
 --   VolumeData     every saved file, times its coefficient, added to zeros in any order, gives the data
---   SomeOrder      there is an order in which to take the files
 --   VolumeShares   so do two shares of the files, each added to zeros, and summed
 --   ParityBytes    the parity of bytes is a byte
 --   ParityEnds     past the greatest file size the parity is 0
@@ -13,14 +13,14 @@
 use mathlib.Core.Path.{_≡_}
 use mathlib.Core.List.{List, _++_}
 use Prim.Native.Nat.{ℕ, _-_, _<_, _≤_}
-use lib.Bits.{bitXor}
 use lib.ListN.{length, getD, replicate}
-use Rattle.gf256.specs.Field.{product, power}
+use Rattle.gf256.specs.Field.{power}
 use Rattle.gf256.specs.declared.ByteAnswer.the-variants.{Byte, Refused}
 use Rattle.mul_add.specs.MulAdd.{mulAddAll, sumBytes}
 use Rattle.mul_add.specs.Once.{Once}
 use Rattle.codes.specs.declared.Code.{Code}
 use Rattle.codes.specs.declared.Code.the-variants.{Powers, Cauchy}
+use Rattle.cauchy.specs.Cauchy.{cauchy}
 use Rattle.cauchy.specs.Claim.{InRange}
 use Rattle.parity.specs.Coefficient.{ruleOf, coefficientAnswer}
 use Rattle.parity.specs.Parity.{Contents, isFile, greatest, parityByte, parity}
@@ -32,9 +32,7 @@ PowersCoefficients = (f v : ℕ) → InRange f v → coefficientAnswer Powers f 
 -- document 02, 2026-13: "for file f and volume v, the inverse of f exclusive-or (256 - v), for f + v up to 255";
 -- proved: proofs/Coefficients.antt, `cauchy-coefficients`
 abbrev pub CauchyCoefficients : Type 0
-CauchyCoefficients =
-    (f v : ℕ) → InRange f v
-    → (coefficientAnswer Cauchy f v ≡ Byte (ruleOf Cauchy f v)) × (product (bitXor f (256 - v)) (ruleOf Cauchy f v) ≡ 1)
+CauchyCoefficients = (f v : ℕ) → InRange f v → coefficientAnswer Cauchy f v ≡ Byte (cauchy f v)
 
 -- "Asking for a factor refuses with 10 if f or v is 0 or f + v is above 255"; proved: proofs/Coefficients.antt, `coefficient-answered`
 pub record CoefficientAnswered : Type 0 where
