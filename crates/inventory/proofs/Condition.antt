@@ -1,7 +1,11 @@
 -- Condition 3: the claim about a whole list of calls.
 --
 --   sound        the replies are the model's, and the inventory stands for the model's state
---   condition-for    the claim over any rules, for every accepted opening and every list of calls
+--   missing-exactly      what the model's reply to a query of a missing file says
+--   afterCalls d n sizes cs     the model's state after the calls cs on an opening
+--   calls-fit, calls-file       its number of files is that of the opening
+--   calls-sound, asked   the replies to these calls, and that to a query of a missing file then, are the model's
+--   condition-for    the claim over any rules of bytes
 --   condition    the claim at the rules of the two codes
 -- Assumes nothing.
 use mathlib.Core.Path.{_≡_, refl, sym, ap, _∙_, subst}
@@ -24,7 +28,7 @@ use Rattle.inventory.specs.Recoverable.{State, IsContents, Recoverable, 
 use Rattle.inventory.specs.Model.{Call, query, Reply, queried, opened, next, after}
 use Rattle.inventory.specs.Model.{Gives, GivesQuery, GivesMissing, undetermined, noRoom, recoverable, GivesAll}
 use Rattle.inventory.specs.Steps.{openStep}
-use Rattle.inventory.specs.Claim.{Step, Run, sizeIn, ConditionFor, Condition3}
+use Rattle.inventory.specs.Claim.{Step, Run, sizeIn, ConditionOverRules, Condition3}
 use Rattle.inventory.specs.declared.Inventory.{Inventory}
 use Rattle.inventory.proofs.Following.{follow}
 use Rattle.inventory.proofs.Representation.{Represents, meets}
@@ -70,55 +74,71 @@ module _ (rule : ℕ → ℕ → ℕ) (small : (f v : ℕ) → f < 256 → rule 
   follow-file t l X hX (suc f) r m w W fragment from ks once =
       follow rule small t l X hX f (oneTo-inside (t .n) (suc f) r .1) m w W fragment from ks once
 
-module _ (rules : Code → ℕ → ℕ → ℕ) (small : (c : Code) (f v : ℕ) → f < 256 → rules c f v < 256) where
-  pub condition-for : ConditionFor rules
+-- ---- after an accepted opening and calls
+
+abbrev pub afterCalls : Code → ℕ → List ℕ → List Call → State
+afterCalls d n sizes cs = after (opened d n (sizeIn sizes)) cs
+
+module _ (d : Code) (n : ℕ) (sizes : List ℕ) (cs : List Call) where
+  pub calls-fit : openStep d n sizes .number ≡ 0 → afterCalls d n sizes cs .n ≤ 254
+  calls-fit accepted =
+      subst (λ (k : ℕ). k ≤ 254) (sym (after-same (opened d n (sizeIn sizes)) cs .same-n)) (opened-represents d n sizes accepted .0)
+
+  pub calls-file : (f : ℕ) → isFile n f ≡ true → isFile (afterCalls d n sizes cs .n) f ≡ true
+  calls-file f r = subst (λ (k : ℕ). isFile k f ≡ true) (sym (after-same (opened d n (sizeIn sizes)) cs .same-n)) r
+
+module _ (rules : Code → ℕ → ℕ → ℕ) (d : Code) (n : ℕ) (sizes : List ℕ) (accepted : openStep d n sizes .number ≡ 0) (cs : List Call)
+    (rs : List Reply) (s : Inventory) (run : Run rules (openStep d n sizes .next) cs rs s) where
+  pub calls-sound : GivesAll rules (opened d n (sizeIn sizes)) cs rs × Represents (sizeIn sizes) (afterCalls d n sizes cs) s
+  calls-sound =
+      sound rules (sizeIn sizes) (opened d n (sizeIn sizes)) (openStep d n sizes .next) cs rs s (opened-represents d n sizes accepted .1) run
+
+  pub asked : (f : ℕ) → isFile n f ≡ true → afterCalls d n sizes cs .files f ≡ false
+      → (room : List ℕ) (r : Reply) (e : Inventory) → Step rules s (query f room) r e → GivesMissing (rules d) (afterCalls d n sizes cs) f room r
   unfolding Gives
-  condition-for d n sizes accepted cs rs s run = record {
-    replies = whole .0;
-    afterwards = λ adds told ra s′ run′ more r r′ e e′ ran ran′.
-        let R′ = subst (λ (t : State). Represents size t s′) (after-told d n size cs adds told) (sound rules size start o adds ra s′ R run′ .1) in
-        givesAll-one rules small now fits more r r′ (sound rules size now s more r e (whole .1) ran .0)
-        (sound rules size now s′ more r′ e′ R′ ran′ .0);
-    exactly = λ f r m room l number room′ e did.
-        missing-exactly (rules d) (small d) now f room l number room′ (queried number room′) refl (asked f r m room (queried number room′) e did);
-    follows = λ f r m room room′ e did X hX fragment from ks once.
-        ap (λ (k : ℕ). mulAddAll (place (take 255 room′)) fragment ks (replicate k 0))
-        (sym (ap (λ (g : ℕ → ℕ). g f) (after-same (opened d n size) cs .same-size)))
-        ∙ follow-file (rules d) (small d) now fits X hX f (in-range f r) m (take 255 room′)
-        (missing-weights (rules d) (small d) now f room room′ (queried 0 room′) refl (asked f r m room (queried 0 room′) e did)) fragment from ks once;
-  }
+  asked f q m room r e did =
+      subst (λ (b : Bool). GivesQuery (rules d) now f room true b r) m
+      (subst (λ (b : Bool). GivesQuery (rules d) now f room b (now .files f) r) (calls-file d n sizes cs f q)
+      (subst (λ (k : Code). GivesQuery (rules k) now f room (isFile (now .n) f) (now .files f) r)
+      (after-same (opened d n (sizeIn sizes)) cs .same-code)
+      (meets rules (sizeIn sizes) now s (query f room) r e (calls-sound .1) did .0)))
     where
-      size : ℕ → ℕ
-      size = sizeIn sizes
-
-      o : Inventory
-      o = openStep d n sizes .next
-
-      start : State
-      start = opened d n size
-
       now : State
-      now = after start cs
+      now = afterCalls d n sizes cs
 
-      R : Represents size start o
-      R = opened-represents d n sizes accepted .1
+-- ---- the claim
 
-      whole : GivesAll rules start cs rs × Represents size now s
-      whole = sound rules size start o cs rs s R run
+pub condition-for : ConditionOverRules
+condition-for rules small d n sizes accepted cs rs s run = record {
+  replies = whole .0;
+  afterwards = λ adds told ra s′ run′ more r r′ e e′ ran ran′.
+      let R′ = subst (λ (t : State). Represents size t s′) (after-told d n size cs adds told) (calls-sound rules d n sizes accepted adds ra s′ run′ .1) in
+      givesAll-one rules small now fits more r r′ (sound rules size now s more r e (whole .1) ran .0)
+      (sound rules size now s′ more r′ e′ R′ ran′ .0);
+  exactly = λ f r m room l number room′ e did.
+      missing-exactly (rules d) (small d) now f room l number room′ (queried number room′) refl (reply f r m room (queried number room′) e did);
+  follows = λ f r m room room′ e did X hX fragment from ks once.
+      ap (λ (k : ℕ). mulAddAll (place (take 255 room′)) fragment ks (replicate k 0))
+      (sym (ap (λ (g : ℕ → ℕ). g f) (after-same (opened d n size) cs .same-size)))
+      ∙ follow-file (rules d) (small d) now fits X hX f (calls-file d n sizes cs f r) m (take 255 room′)
+      (missing-weights (rules d) (small d) now f room room′ (queried 0 room′) refl (reply f r m room (queried 0 room′) e did)) fragment from ks once;
+}
+  where
+    size : ℕ → ℕ
+    size = sizeIn sizes
 
-      fits : now .n ≤ 254
-      fits = subst (λ (k : ℕ). k ≤ 254) (sym (after-same (opened d n size) cs .same-n)) (opened-represents d n sizes accepted .0)
+    now : State
+    now = afterCalls d n sizes cs
 
-      in-range : (f : ℕ) → isFile n f ≡ true → isFile (now .n) f ≡ true
-      in-range f r = subst (λ (k : ℕ). isFile k f ≡ true) (sym (after-same (opened d n size) cs .same-n)) r
+    whole : GivesAll rules (opened d n size) cs rs × Represents size now s
+    whole = calls-sound rules d n sizes accepted cs rs s run
 
-      asked : (f : ℕ) → isFile n f ≡ true → now .files f ≡ false → (room : List ℕ) (r : Reply) (e : Inventory) → Step rules s (query f room) r e
-          → GivesMissing (rules d) now f room r
-      asked f q m room r e did =
-          subst (λ (b : Bool). GivesQuery (rules d) now f room true b r) m
-          (subst (λ (b : Bool). GivesQuery (rules d) now f room b (now .files f) r) (in-range f q)
-          (subst (λ (k : Code). GivesQuery (rules k) now f room (isFile (now .n) f) (now .files f) r) (after-same (opened d n size) cs .same-code)
-          (meets rules size now s (query f room) r e (whole .1) did .0)))
+    fits : now .n ≤ 254
+    fits = calls-fit d n sizes cs accepted
+
+    reply : (f : ℕ) → isFile n f ≡ true → now .files f ≡ false → (room : List ℕ) (r : Reply) (e : Inventory) → Step rules s (query f room) r e
+        → GivesMissing (rules d) now f room r
+    reply = asked rules d n sizes accepted cs rs s run
 
 pub condition : Condition3
 condition = condition-for ruleOf rule-byte

@@ -19,12 +19,10 @@ use Rattle.inventory.specs.Recoverable.{State, isVolume}
 use Rattle.inventory.specs.Model.{addFile, removeFile, addVolume, removeVolume, quarantine, release, numberOf}
 use Rattle.inventory.specs.Model.{Call, change, count, query, Reply, reply, numbered, opened, after}
 use Rattle.inventory.specs.Model.{Gives, GivesQuery, GivesMissing, undetermined, noRoom, recoverable}
-use Rattle.inventory.specs.Steps.{openStep}
 use Rattle.inventory.specs.Claim.{sizeIn, AddsOther, OtherCodeRefusedFor, OtherCodeRefused}
 use Rattle.inventory.proofs.Representation.{meets}
-use Rattle.inventory.proofs.Openings.{opened-represents}
 use Rattle.inventory.proofs.Calls.{after-same}
-use Rattle.inventory.proofs.Condition.{sound}
+use Rattle.inventory.proofs.Condition.{calls-sound}
 
 -- ---- changes
 
@@ -99,7 +97,7 @@ pub other-code-refused-for : (rules : Code → ℕ → ℕ → ℕ) → OtherCod
 other-code-refused-for rules d n sizes well cs rs s run c k values e step =
     let size : ℕ → ℕ = sizeIn sizes in
     let start : State = opened d n size in
-    let R = sound rules size start (openStep d n sizes .next) cs rs s (opened-represents d n sizes well .1) run .1 in
+    let R = calls-sound rules d n sizes well cs rs s run .1 in
     subst (λ (m : ℕ). (k ≡ 29) ↔ AddsOther d m c) (after-same start cs .same-n)
     (subst (λ (x : Code). (k ≡ 29) ↔ AddsOther x (after start cs .n) c) (after-same start cs .same-code)
     (gives-29 rules (after start cs) c k values (meets rules size (after start cs) s c (reply k values) e R step .0)))

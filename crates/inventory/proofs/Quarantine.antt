@@ -20,8 +20,8 @@ use Rattle.parity.specs.Coefficient.{ruleOf}
 use Rattle.parity.proofs.Coefficients.{rule-byte}
 use Rattle.inventory.specs.Recoverable.{State, isVolume}
 use Rattle.inventory.specs.Model.{Change, addVolume, removeVolume, quarantine, release, insert, remove, withVolumes, changed, numberOf}
-use Rattle.inventory.specs.Model.{Call, change, Reply, numbered, opened, next, Gives, GivesAll}
-use Rattle.inventory.specs.Steps.{openStep, inRange}
+use Rattle.inventory.specs.Model.{Call, change, Reply, numbered, next, Gives, GivesAll}
+use Rattle.inventory.specs.Steps.{inRange}
 use Rattle.inventory.specs.Query.{stateOf}
 use Rattle.inventory.specs.Claim.{sizeIn, Given, Elsewhere, AllAgree}
 use Rattle.inventory.specs.Claim.{QuarantineAsRemovalFor, ReleaseAsAddingFor, QuarantineRefusalsFor}
@@ -32,8 +32,7 @@ use Rattle.inventory.proofs.ChangeNumbers.{accepted-tests}
 use Rattle.inventory.proofs.ValidInventories.{few-files}
 use Rattle.inventory.proofs.Calls.{givesAll-one}
 use Rattle.inventory.proofs.Representation.{Represents}
-use Rattle.inventory.proofs.Openings.{opened-represents}
-use Rattle.inventory.proofs.Condition.{sound}
+use Rattle.inventory.proofs.Condition.{sound, calls-sound}
 use Rattle.inventory.proofs.Beside.{Off, all-agree}
 
 -- ---- the model
@@ -225,7 +224,7 @@ module _ (rules : Code → ℕ → ℕ → ℕ) (s : Inventory) (given : Given r
   stands =
       let (d, n, sizes, cs, rs, well, run) = given in
       let size : ℕ → ℕ = sizeIn sizes in
-      let R = sound rules size (opened d n size) (openStep d n sizes .next) cs rs s (opened-represents d n sizes well .1) run .1 in
+      let R = calls-sound rules d n sizes well cs rs s run .1 in
       (size, subst (λ (t : State). Represents size t s) (R .state) R)
 
 pub quarantine-as-removal-for : (rules : Code → ℕ → ℕ → ℕ) → ((c : Code) (f v : ℕ) → f < 256 → rules c f v < 256) → QuarantineAsRemovalFor rules

@@ -35,13 +35,13 @@ use Rattle.inventory.proofs.Representation.{Represents}
 use Rattle.inventory.proofs.Openings.{opened-represents, nonempty-words, nonempty-member}
 use Rattle.inventory.proofs.Calls.{Ranged}
 use Rattle.inventory.proofs.Told.{opened-told, calls-for}
-use Rattle.inventory.proofs.Condition.{sound}
+use Rattle.inventory.proofs.Condition.{sound, calls-sound}
 use Rattle.inventory.proofs.Answered.{answered-for}
 
 given-valid : (rules : Code → ℕ → ℕ → ℕ) (d : Code) (n : ℕ) (sizes : List ℕ) → openStep d n sizes .number ≡ 0
     → (cs : List Call) (rs : List Reply) (s : Inventory) → Run rules (openStep d n sizes .next) cs rs s → isInventory s ≡ true
 given-valid rules d n sizes well cs rs s run =
-    sound rules (sizeIn sizes) (opened d n (sizeIn sizes)) (openStep d n sizes .next) cs rs s (opened-represents d n sizes well .1) run .1 .valid
+    calls-sound rules d n sizes well cs rs s run .1 .valid
 
 -- ---- calls keep the number of files, those that are not empty, and the code
 

@@ -29,10 +29,9 @@ use Rattle.inventory.specs.declared.Inventory.{Inventory}
 use Rattle.inventory.specs.declared.Answer.{Answer}
 use Rattle.inventory.specs.declared.recoverable.RecoverableFiles.{RecoverableFiles}
 use Rattle.inventory.proofs.Representation.{Represents}
-use Rattle.inventory.proofs.Openings.{opened-represents}
 use Rattle.inventory.proofs.Determined.{someSize, some-matches}
 use Rattle.inventory.proofs.Calls.{after-same}
-use Rattle.inventory.proofs.Condition.{sound, missing-exactly}
+use Rattle.inventory.proofs.Condition.{missing-exactly, calls-sound}
 
 -- ---- the set is determined
 
@@ -69,7 +68,7 @@ pub recoverable-after : RecoverableAfter
 recoverable-after d n sizes o cs rs s run r R f =
     let t : State = after (opened d n (sizeIn sizes)) cs in
     subst (λ (k : Code). (member (r .files) f ≡ true) ↔ RecoverableNow (ruleOf k) t f) (after-same (opened d n (sizeIn sizes)) cs .same-code)
-    (represented-set ruleOf (sizeIn sizes) t s (sound ruleOf (sizeIn sizes) _ _ cs rs s (opened-represents d n sizes o .1) run .1) r R f)
+    (represented-set ruleOf (sizeIn sizes) t s (calls-sound ruleOf d n sizes o cs rs s run .1) r R f)
 
 -- ---- what a query says
 

@@ -1,6 +1,6 @@
 -- Condition 3 of the tender, as document 02 (2026-10, 2026-13) has it: one claim about a whole list of calls on an inventory newly opened,
--- shown once over any rule for the coefficients of each code, and then at the rules of the two codes; what quarantine and release count as; and
--- which volumes are of the other code.
+-- shown once over any rule of bytes for the coefficients of each code, and then at the rules of the two codes; what quarantine and release count as;
+-- and which volumes are of the other code.
 --
 --   Step rules s c r s₁       the reply to the call c on the inventory s is r, and s₁ is what it hands back: by the very definitions that
 --                             the contracts of the calls cite
@@ -20,7 +20,9 @@
 --   ConditionFor rules        it holds for every accepted opening and every list of calls
 --   AnsweredFor rules, ExactlyGivenFor rules, QuarantineAsRemovalFor rules, ReleaseAsAddingFor rules, QuarantineRefusalsFor rules,
 --   OtherCodeRefusedFor rules     claims, over any rules
--- The claims, at the rules of the two codes:
+-- The claims:
+--   ConditionOverRules        the condition, over any rule of bytes for each code
+-- and at the rules of the two codes:
 --   Condition3                the condition
 --   Answered                  every list of calls has its replies, on whatever inventory
 --   Retold                    what is present and what is quarantined can be told to a new inventory
@@ -46,7 +48,7 @@ use mathlib.Core.Path.{_≡_}
 use mathlib.Core.Logic.{_↔_, _⊎_, _≢_}
 use mathlib.Core.Bool.{true, false, _||_}
 use mathlib.Core.List.{List, [], _∷_, List·Memᴰ}
-use Prim.Native.Nat.{ℕ, _≤_, _-_}
+use Prim.Native.Nat.{ℕ, _<_, _≤_, _-_}
 use lib.ListN.{length, getD, replicate, take}
 use Rattle.codes.specs.declared.Code.{Code}
 use Rattle.parity.specs.Coefficient.{ruleOf}
@@ -191,7 +193,7 @@ module _ (rules : Code → ℕ → ℕ → ℕ) where
         → mulAddAll (place (take 255 room′)) fragment ks (replicate (size f) 0) ≡ X f
 
   -- "For every list of calls on it from there (noting or withdrawing a file, noting or withdrawing a volume, counting, asking;
-  -- refused ones too)"; "Condition 3's list of calls holds setting aside and taking back too"; "condition 3 is shown once over the factor rule"
+  -- refused ones too)"; "Condition 3's list of calls holds setting aside and taking back too"
   abbrev pub ConditionFor : Type 0
   ConditionFor =
       (d : Code) (n : ℕ) (sizes : List ℕ) → openStep d n sizes .number ≡ 0
@@ -243,6 +245,12 @@ module _ (rules : Code → ℕ → ℕ → ℕ) where
       → (c : Call) (k : ℕ) (values : List ℕ) (e : Inventory) → Step s c (reply k values) e → (k ≡ 29) ↔ AddsOther d n c
 
 -- ---- the claims
+
+-- "condition 3 is shown once over the factor rule": whatever coefficients the codes have, so long as those of files are bytes
+-- proved: proofs/Condition.antt, `condition-for`
+abbrev pub ConditionOverRules : Type 0
+ConditionOverRules =
+    (rules : Code → ℕ → ℕ → ℕ) → ((c : Code) (f v : ℕ) → f < 256 → rules c f v < 256) → ConditionFor rules
 
 -- proved: proofs/Condition.antt, `condition`
 abbrev pub Condition3 : Type 0
