@@ -1,4 +1,5 @@
--- What a replay prints, in the words of document 02, 2026-11; the sentences in quotation marks are the request's.
+-- What a replay prints, in the words of document 02, 2026-11; the sentences in quotation marks are the request's. Openings and volumes are of Par 1.0's
+-- code: 2026-13, "(the replay keeps the old one)".
 --
 --   Arrival, letterOf a, changeBy a     the four kinds of an event, their letters, and their changes
 --   firstText n sizes        a first line; byte 10 included, as in the next

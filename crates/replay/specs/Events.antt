@@ -43,6 +43,7 @@ taken from o = record { number = o .number; over = false; from = from; inventory
 unfoldable pub openedBy : ℕ → Outcome → Event
 openedBy from o = cond (eqb (o .number) 0) (taken from o) (ended (o .number))
 
+-- 2026-13: "A sheet is opened for one code or the other (the replay keeps the old one)"
 unfoldable pub opening : List ℕ → Event
 opening log =
     let first : List ℕ = bodyOf (take (lineLength log) log) in

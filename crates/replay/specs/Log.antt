@@ -37,10 +37,11 @@ numbersOf l = map valueOf (wordsOf l)
 
 -- ---- an event
 
--- ""F 7" and "V 4" for noted, "f 7" and "v 4" for withdrawn"; "(the replay keeps the old one)" (2026-13)
+-- ""F 7" and "V 4" for noted, "f 7" and "v 4" for withdrawn"
 unfoldable pub isLetter : ℕ → Bool
 isLetter b = eqb b (code "F") || (eqb b (code "V") || (eqb b (code "f") || eqb b (code "v")))
 
+-- 2026-13: "noting a volume names its code"; "(the replay keeps the old one)"
 unfoldable pub changeOf : ℕ → Change
 changeOf b = cond (eqb b (code "F")) addFile (cond (eqb b (code "V")) (addVolume Powers) (cond (eqb b (code "f")) removeFile removeVolume))
 

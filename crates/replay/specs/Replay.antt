@@ -31,7 +31,8 @@ use Rattle.text.specs.TextLines.{lineLength}
 use Rattle.replay.specs.Log.{bodyOf, isFirstLine, numbersOf, changeOf, isEventLine, numberIn}
 use Rattle.replay.specs.Lines.{refusedLine, filesOf, numbersLine}
 
--- of the states of at most 254 files, as an opening gives
+-- of the states of at most 254 files, as an opening gives. The promise and the claims take it at `coefficient`, the rule of the old code, whatever
+-- the code of the state: so a replay that is opened for Cauchy coefficients is refused
 abbrev pub Decides : (ℕ → ℕ → ℕ) → (State → ℕ → Bool) → Type 0
 Decides rule d = (t : State) → t .n ≤ 254 → (f : ℕ) → (d t f ≡ true) ↔ RecoverableNow rule t f
 
@@ -51,7 +52,8 @@ module _ (d : State → ℕ → Bool) where
       let k : ℕ = numberIn (bodyOf l) in
       cond (isEventLine (bodyOf l)) (eventLine t c k ++ eventLines (next t (change c k)) ls rest) (refusedLine 28)
 
-  -- after an accepted opening; "so does 10 or 1 from opening, 10 too if the sizes are more or fewer than the first number says"
+  -- after an accepted opening; "so does 10 or 1 from opening, 10 too if the sizes are more or fewer than the first number says"; 2026-13: "(the replay
+  -- keeps the old one)"
   unfoldable pub openedLines : ℕ → List ℕ → List (List ℕ) → List ℕ → List ℕ
   openedLines n sizes ls rest =
       let number : ℕ = openStep Powers n sizes .number in
