@@ -60,14 +60,14 @@ module _ (n : ℕ) (fits : n ≤ 254) (files volumes : ℕ → Bool)
       (λ g l. ap (λ (b : Bool). isFile n g && b) (is-column g)) in
       omega arith
 
-  abbrev isColumn : ℕ → Bool
-  isColumn f = isFile n (suc f) && column t (suc f)
+  abbrev inColumn : ℕ → Bool
+  inColumn f = R.inColumn cauchy cauchy-byte t fits f
 
-  weightsIf : (f : ℕ) (b : Bool) → isColumn f ≡ b → ℕ → Byte
+  weightsIf : (f : ℕ) (b : Bool) → inColumn f ≡ b → ℕ → Byte
   weightsIf f true e = solution t fits as-many f e .0
   weightsIf f false e = λ s. K .𝟘
 
-  weights-solve : (f : ℕ) (b : Bool) (e : isColumn f ≡ b) → isColumn f ≡ true
+  weights-solve : (f : ℕ) (b : Bool) (e : inColumn f ≡ b) → inColumn f ≡ true
       → IsSolution K (matrix t fits) 256 (255 - n) f (weightsIf f b e)
   unfolding weightsIf
   weights-solve f true e h = solution t fits as-many f e .1
@@ -75,17 +75,17 @@ module _ (n : ℕ) (fits : n ≤ 254) (files volumes : ℕ → Bool)
 
   left : ℕ → ℕ → ℕ
   left zero v = 0
-  left (suc f) v = byVolume (weightsIf f (isColumn f) refl) v
+  left (suc f) v = byVolume (weightsIf f (inColumn f) refl) v
 
   left-byte : (f v : ℕ) → left f v < 256
   unfolding left
   left-byte zero v = omega arith
-  left-byte (suc f) v = byVolume-byte (weightsIf f (isColumn f) refl) v
+  left-byte (suc f) v = byVolume-byte (weightsIf f (inColumn f) refl) v
 
-  in-columns : (f : ℕ) → isFile n (suc f) ≡ true → files (suc f) ≡ true → isColumn f ≡ true
+  in-columns : (f : ℕ) → isFile n (suc f) ≡ true → files (suc f) ≡ true → inColumn f ≡ true
   in-columns f p q = ap₂ (λ (a b : Bool). a && b) p (is-column (suc f) ∙ q)
 
-  each : (w : ℕ → Byte) (s g : ℕ) → isColumn g ≡ true → (b : Bool) → volumes (suc s) ≡ b
+  each : (w : ℕ → Byte) (s g : ℕ) → inColumn g ≡ true → (b : Bool) → volumes (suc s) ≡ b
       → (w s ⊗ matrix t fits s g) .0 ≡ cond b (product (w s .0) (cauchy (suc g) (suc s))) 0
   each w s g h true e =
       let l = oneTo-inside n (suc g) (and-both (isFile n (suc g)) (column t (suc g)) h .0) in
@@ -103,11 +103,11 @@ module _ (n : ℕ) (fits : n ≤ 254) (files volumes : ℕ → Bool)
       sumBelow-same (255 - n) (λ s. cond (volumes (suc s)) (product (left (suc f) (suc s)) (cauchy (suc g) (suc s))) 0)
       (λ s. (w s ⊗ matrix t fits s g) .0) (λ s _. sym (each w s g (in-columns g a b) (volumes (suc s)) refl))
       ∙ sym (sum-value (255 - n) (λ s. w s ⊗ matrix t fits s g))
-      ∙ ap (λ (x : Byte). x .0) (weights-solve f (isColumn f) refl (in-columns f p q) .sums g (omega arith))
+      ∙ ap (λ (x : Byte). x .0) (weights-solve f (inColumn f) refl (in-columns f p q) .sums g (omega arith))
       ∙ δ-value f g ∙ sym (ap (λ (b : Bool). cond b 1 0) (eqb-suc f g))
     where
       w : ℕ → Byte
-      w = weightsIf f (isColumn f) refl
+      w = weightsIf f (inColumn f) refl
 
 pub left-inverses : LeftInverses
 left-inverses n fits files volumes enough =

@@ -1,6 +1,6 @@
 mod Sizes
-pub mod CauchyRows
-pub mod CauchyStates
+mod CauchyRows
+mod CauchyStates
 pub mod AnyWillDo
 pub mod Called
 pub mod LeftInverses

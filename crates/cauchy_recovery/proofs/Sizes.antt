@@ -4,10 +4,8 @@
 --   size-same        sets with the same numbers below the bound have one size
 --   size-shifted     the numbers less 1, where neither 0 nor the bound is in the set
 --   size-remove      one number less
---   some-member      a set has a number below a bound, or none
 -- Assumes nothing.
 use mathlib.Core.Path.{_≡_, refl, ap, ap₂, _∙_}
-use mathlib.Core.Logic.{_⊎_, inl, inr}
 use mathlib.Core.Bool.{Bool, true, false, not, cond, _&&_}
 use Prim.Native.Nat.{ℕ, zero, suc, _<_, _+_}
 use native.Mathlib.Nat.{not-suc-le-zero}
@@ -63,15 +61,3 @@ size-remove (suc m) s a l e =
           let same : _≡_ {A = ℕ} (cond (remove a s m) 1 0) (cond (s m) 1 0) = ap (λ (b : Bool). cond (not b && s m) 1 0) (ne-eqb m a q) in
           omega arith
     ]
-
--- ---- a number of a set
-
-pub some-member : (m : ℕ) (s : ℕ → Bool) → ((k : ℕ) × (k < m) × (s k ≡ true)) ⊎ ((k : ℕ) → k < m → s k ≡ false)
-some-member zero s = inr (λ k l. absurd (not-suc-le-zero l))
-some-member (suc m) s = go (some-member m s) (s m) refl
-  where
-    go : ((k : ℕ) × (k < m) × (s k ≡ true)) ⊎ ((k : ℕ) → k < m → s k ≡ false) → (b : Bool) → s m ≡ b
-        → ((k : ℕ) × (k < suc m) × (s k ≡ true)) ⊎ ((k : ℕ) → k < suc m → s k ≡ false)
-    go (inl (k, l, e)) b h = inl (k, omega arith, e)
-    go (inr none) true h = inl (m, omega arith, h)
-    go (inr none) false h = inr (λ k l. elim (ℕ-discrete k m) [ yes p ↦ ap s p ∙ h | no q ↦ none k (omega arith) ])
