@@ -17,7 +17,7 @@ use Rattle.gf256.specs.Polynomial.{coeff, sumBelow, polyProduct, remainder}
 use Rattle.gf256.specs.Field.{product, power}
 use Rattle.parity.specs.Coefficient.{coefficient}
 use Rattle.parity.specs.Parity.{greatest, parityByte, parity}
-use Rattle.worked_examples.specs.Examples.{contentsOf, volumeOf, Example, Holds, examples, ExamplesHold}
+use Rattle.worked_examples.specs.Examples.{contentsOf, volumeOf, twoFiles, Example, Holds, examples, ExamplesHold}
 use Rattle.worked_examples.specs.Examples.Example.{numbers, weights, recoverable, undetermined}
 use Rattle.worked_examples.proofs.Tests.{every}
 use Rattle.worked_examples.proofs.Chosen.{cancelsAt, usedBy}
@@ -44,7 +44,7 @@ same-equal (a ∷ l) (b ∷ m) h =
 unfoldable passes : Example → List (List ℕ) → Bool
 passes (numbers computed stated) ls = same computed stated
 -- for each volume stated the files that show it is used, or none if its weight is 0
-passes (weights t f start) ls = statedBy t f start ls
+passes (weights missing volumes f start) ls = statedBy (twoFiles missing volumes) f start ls
 -- the weights of the first volumes
 passes (recoverable n missing volumes f) ls = solves n missing volumes f (getD ls 0 [])
 -- files that cancel in each volume present
@@ -53,7 +53,7 @@ passes (undetermined n missing volumes f) ls = cancels n missing volumes f (getD
 passes-holds : (e : Example) (ls : List (List ℕ)) → passes e ls ≡ true → Holds e
 unfolding passes
 passes-holds (numbers computed stated) ls h = same-equal computed stated h
-passes-holds (weights t f start) ls h = stated-weights t f start ls h
+passes-holds (weights missing volumes f start) ls h = stated-weights (twoFiles missing volumes) f start ls h
 passes-holds (recoverable n missing volumes f) ls h = recoverable-by n missing volumes f (getD ls 0 []) h
 passes-holds (undetermined n missing volumes f) ls h = undetermined-by n missing volumes f (getD ls 0 []) h
 

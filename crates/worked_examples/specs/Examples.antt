@@ -21,7 +21,7 @@ use lib.ListN.{length, getD, replicate}
 use Rattle.gf256.specs.Field.{product, power}
 use Rattle.codes.specs.declared.Code.{Code}
 use Rattle.codes.specs.declared.Code.the-variants.{Powers}
-use Rattle.parity.specs.Coefficient.{coefficient}
+use Rattle.parity.specs.Coefficient.{ruleOf}
 use Rattle.parity.specs.Parity.{Contents, isFile, greatest, parity}
 use Rattle.inventory.specs.Recoverable.{State, Recoverable, IsWeights}
 
@@ -32,7 +32,7 @@ contentsOf files f = getD files (f - 1) []
 -- the data of volume v of these files, as long as the longest of them
 unfoldable pub volumeOf : List (List ℕ) → ℕ → List ℕ
 volumeOf files v =
-    parity coefficient (length files) (contentsOf files) v (greatest (length files) (λ f. length (contentsOf files f)))
+    parity (ruleOf Powers) (length files) (contentsOf files) v (greatest (length files) (λ f. length (contentsOf files f)))
 
 abbrev pub listed : ℕ → List ℕ → Bool
 listed k [] = false
@@ -55,8 +55,8 @@ twoFiles = stateOf Powers 2 (λ f. getD (2 ∷ 1 ∷ []) (f - 1) 0)
 pub data Example : Type 0 where
   -- the numbers that the definitions give are those stated
   numbers : (computed stated : List ℕ) → Example
-  -- the weights of file f in this state start so, and the rest is 0
-  weights : (t : State) (f : ℕ) (start : List ℕ) → Example
+  -- of two files, with these missing and these volumes present, the weights of file f start so, and the rest is 0
+  weights : (missing volumes : List ℕ) (f : ℕ) (start : List ℕ) → Example
   -- of n files, none empty, with these missing and these volumes present, file f is recoverable, or is not
   recoverable : (n : ℕ) (missing volumes : List ℕ) (f : ℕ) → Example
   undetermined : (n : ℕ) (missing volumes : List ℕ) (f : ℕ) → Example
@@ -66,11 +66,12 @@ NoneEmpty n size = (f : ℕ) → isFile n f ≡ true → 1 ≤ size f
 
 abbrev pub Holds : Example → Type 0
 Holds (numbers computed stated) = computed ≡ stated
-Holds (weights t f start) = IsWeights coefficient t f (start ++ replicate (255 - length start) 0)
+Holds (weights missing volumes f start) =
+    let t : State = twoFiles missing volumes in IsWeights (ruleOf (t .code)) t f (start ++ replicate (255 - length start) 0)
 Holds (recoverable n missing volumes f) =
-    (size : ℕ → ℕ) → NoneEmpty n size → Recoverable coefficient (stateOf Powers n size missing volumes) f
+    (size : ℕ → ℕ) → NoneEmpty n size → let t : State = stateOf Powers n size missing volumes in Recoverable (ruleOf (t .code)) t f
 Holds (undetermined n missing volumes f) =
-    (size : ℕ → ℕ) → NoneEmpty n size → ¬ Recoverable coefficient (stateOf Powers n size missing volumes) f
+    (size : ℕ → ℕ) → NoneEmpty n size → let t : State = stateOf Powers n size missing volumes in ¬ Recoverable (ruleOf (t .code)) t f
 
 abbrev pub examples : List Example
 examples =
@@ -89,12 +90,12 @@ examples =
     ∷ numbers (volumeOf ((1 ∷ 2 ∷ []) ∷ (3 ∷ []) ∷ []) 2) (7 ∷ 2 ∷ [])
     ∷ numbers (volumeOf ((1 ∷ 2 ∷ []) ∷ (3 ∷ []) ∷ []) 3) (13 ∷ 2 ∷ [])
     -- P7: n = 2, sizes 2 and 1, volumes 1 and 2 present: weights of file 2 and of file 1
-    ∷ weights (twoFiles (1 ∷ 2 ∷ []) (1 ∷ 2 ∷ [])) 2 (0 ∷ 0 ∷ 244 ∷ 244 ∷ [])
-    ∷ weights (twoFiles (1 ∷ 2 ∷ []) (1 ∷ 2 ∷ [])) 1 (0 ∷ 0 ∷ 245 ∷ 244 ∷ [])
+    ∷ weights (1 ∷ 2 ∷ []) (1 ∷ 2 ∷ []) 2 (0 ∷ 0 ∷ 244 ∷ 244 ∷ [])
+    ∷ weights (1 ∷ 2 ∷ []) (1 ∷ 2 ∷ []) 1 (0 ∷ 0 ∷ 245 ∷ 244 ∷ [])
     -- P8: the same with file 1 present and volume 2 only
-    ∷ weights (twoFiles (2 ∷ []) (2 ∷ [])) 2 (142 ∷ 0 ∷ 0 ∷ 142 ∷ [])
+    ∷ weights (2 ∷ []) (2 ∷ []) 2 (142 ∷ 0 ∷ 0 ∷ 142 ∷ [])
     -- P9: with volumes 1 and 2
-    ∷ weights (twoFiles (2 ∷ []) (1 ∷ 2 ∷ [])) 2 (1 ∷ 0 ∷ 1 ∷ 0 ∷ [])
+    ∷ weights (2 ∷ []) (1 ∷ 2 ∷ []) 2 (1 ∷ 0 ∷ 1 ∷ 0 ∷ [])
     -- P10: n = 24, none empty, all present but 7 and 24, volumes 1 and 4: neither is fixed
     ∷ undetermined 24 (7 ∷ 24 ∷ []) (1 ∷ 4 ∷ []) 7
     ∷ undetermined 24 (7 ∷ 24 ∷ []) (1 ∷ 4 ∷ []) 24
