@@ -11,7 +11,7 @@ use lib.Dec.{eqb, leb}
 use Rattle.codes.specs.declared.Code.{Code}
 use Rattle.codes.specs.declared.Code.the-variants.{Powers, Cauchy}
 
--- "code 0 is Par 1.0's, 1 Cauchy's"
+-- 0 is Par 1.0's, 1 that of Cauchy coefficients: no document numbers them
 abbrev pub codeNumber : Code → ℕ
 codeNumber Powers = 0
 codeNumber Cauchy = 1

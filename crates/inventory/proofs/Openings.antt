@@ -1,8 +1,9 @@
--- An accepted opening gives the model's opened state.
+-- An accepted opening gives the model's opened state, and a refused one zeros.
 --
 --   nonempty-words          the files that an opening has as not empty are four words of 64 bits
 --   nonempty-member         they are those of size 1 or more
 --   opened-represents       what an accepted opening gives stands for the opened state
+--   refused-next            what a refused one gives is the inventory of zeros
 -- Assumes nothing.
 use mathlib.Core.Path.{_≡_, refl, sym, ap, _∙_}
 use mathlib.Core.Logic.{_≢_}
@@ -20,7 +21,7 @@ use Rattle.codes.specs.declared.Code.{Code}
 use Rattle.parity.specs.Parity.{isFile}
 use Rattle.number_sets.specs.Sets.{member, inserted, Words}
 use Rattle.inventory.specs.Model.{opened, next}
-use Rattle.inventory.specs.Steps.{nonemptyOf, fresh, outcome, refusedOpening, openStep}
+use Rattle.inventory.specs.Steps.{zeros, nonemptyOf, fresh, outcome, refusedOpening, openStep}
 use Rattle.inventory.specs.Claim.{sizeIn}
 use Rattle.number_sets.proofs.Words.{member-inserted, member-none, words-none, words-inserted}
 use Rattle.inventory.proofs.ValidInventories.{within-by}
@@ -107,3 +108,13 @@ opened-represents d n sizes e =
         )
     go true p false z = absurd (omega arith)
     go false p b z = absurd (omega arith)
+
+pub refused-next : (d : Code) (n : ℕ) (sizes : List ℕ) → openStep d n sizes .number ≢ 0 → openStep d n sizes .next ≡ zeros
+unfolding openStep
+refused-next d n sizes = go (oneTo 254 n && eqb (length sizes) n) (allBelow n (λ i. leb (getD sizes i 0) 16777216))
+  where
+    go : (a b : Bool) → cond a (cond b (outcome (fresh d n sizes) 0) (refusedOpening 1)) (refusedOpening 10) .number ≢ 0
+        → cond a (cond b (outcome (fresh d n sizes) 0) (refusedOpening 1)) (refusedOpening 10) .next ≡ zeros
+    go true true h = absurd (h refl)
+    go true false h = refl
+    go false b h = refl

@@ -5,28 +5,29 @@
 --   length-inventory     the bytes of an inventory are 144
 --   loaded-back    the bytes of an inventory are that inventory
 --   stored-back    144 bytes whose code is one are the bytes of the inventory that they are
+--   zeros-bytes, refused-zeros     the inventory of a refused opening is 144 zeros
 -- Assumes nothing.
 use mathlib.Core.Path.{_≡_, refl, sym, ap, ap₂, _∙_}
 use mathlib.Core.Logic.{inl, inr, _≢_}
 use mathlib.Core.Bool.{Bool, true, false, cond, _&&_, and-false}
 use mathlib.Core.List.{List, [], _∷_, _++_, append-nil, append-assoc}
-use Prim.Native.Nat.{ℕ, zero, suc, _*_, _^_, _<_, _≤_}
+use Prim.Native.Nat.{ℕ, zero, suc, _*_, _^_, _<_}
 use native.Mathlib.Nat.{zero-lt-suc}
 use native.Mathlib.Omega.{arith}
-use lib.ListN.{length, getD, length-append}
+use lib.ListN.{length, getD, replicate, length-append}
 use lib.Seq.{take-all}
 use lib.Dec.{eqb}
-use borrow.Author.Tests.{eq-eqb, ne-eqb, leb-true}
+use borrow.Author.Tests.{eq-eqb, ne-eqb}
 use Rattle.codes.specs.Codes.{isCode, codeOf, codeNumber}
 use Rattle.codes.specs.declared.Code.{Code}
-use Rattle.codes.specs.declared.Code.the-variants.{Powers, Cauchy}
-use Rattle.codes.proofs.CodeLaws.{back}
+use Rattle.codes.proofs.CodeLaws.{back, number-back, number-small, number-code}
 use Rattle.inventory.specs.Steps.{zeros}
 use Rattle.inventory.specs.declared.Inventory.{Inventory}
-use Rattle.little_endian.specs.Bytes.{leAt, numbers, numbersAt}
+use Rattle.inventory.proofs.Openings.{refused-next}
+use Rattle.little_endian.specs.Bytes.{toLe, leAt, numbers, numbersAt}
 use Rattle.little_endian.proofs.NumberLists.{length-numbers, numbers-append, numbers-back, numbers-read}
 use Rattle.inventory_bytes.specs.Inventories.{codeIn, inventoryIn, inventoryOf, inventoryBytes}
-use Rattle.inventory_bytes.specs.Claim.{Held, LoadedBack, StoredBack, OtherBytes}
+use Rattle.inventory_bytes.specs.Claim.{Held, LoadedBack, StoredBack, OtherBytes, RefusedZeros}
 
 -- ---- the length and the code
 
@@ -79,15 +80,6 @@ one-number : (n : ℕ) → n < 2 ^ 64 → (j : ℕ) → getD (n ∷ []) j 0 < 2 
 one-number n h zero = h
 one-number n h (suc j) = zero-lt-suc 18446744073709551615
 
--- the number of a code, there and back
-code-small : (c : Code) → (codeNumber c < 2 ^ 64) × (isCode (codeNumber c) ≡ true)
-code-small Powers = (zero-lt-suc 18446744073709551615, refl)
-code-small Cauchy = (omega arith, refl)
-
-number-back : (k : ℕ) → isCode k ≡ true → codeNumber (codeOf k) ≡ k
-number-back zero h = refl
-number-back (suc k) h = let l : suc k ≤ 1 = leb-true (suc k) 1 h in omega arith
-
 same-parts : {n m : ℕ} {a b c d e f g h : List ℕ} {i j : Code} → n ≡ m → a ≡ b → c ≡ d → e ≡ f → g ≡ h → i ≡ j
     → _≡_ {A = Inventory} (record { n = n; files = a; volumes = c; nonempty = e; quarantined = g; code = i })
     (record { n = m; files = b; volumes = d; nonempty = f; quarantined = h; code = j })
@@ -118,9 +110,9 @@ loaded-back s h =
     part-back 136 1 (n ++ s .files ++ s .volumes ++ s .nonempty ++ s .quarantined) k []
     (sym (append-nil (all s)))
     (simp (length-append, h .files .four, h .volumes .four, h .nonempty .four, h .quarantined .four)) refl
-    (one-number (codeNumber (s .code)) (code-small (s .code) .0)) in
+    (one-number (codeNumber (s .code)) (omega (arith, number-small (s .code)))) in
     let number : codeIn (inventoryBytes s) ≡ codeNumber (s .code) = ap (λ (l : List ℕ). getD l 0 0) ks in
-    inventory-of (inventoryBytes s) (length-inventory s h) (ap isCode number ∙ code-small (s .code) .1)
+    inventory-of (inventoryBytes s) (length-inventory s h) (ap isCode number ∙ number-code (s .code))
     ∙ same-parts (ap (λ (l : List ℕ). getD l 0 0) ns) fs vs es qs (ap codeOf number ∙ back (s .code))
 
 -- the 18 numbers of an inventory are those of all its bytes
@@ -130,3 +122,12 @@ stored-back b bytes size code =
     ap inventoryBytes (inventory-of b size code)
     ∙ ap (λ (k : ℕ). numbers (leAt 8 b 0 ∷ numbersAt 4 b 8 ++ numbersAt 4 b 40 ++ numbersAt 4 b 72 ++ numbersAt 4 b 104 ++ (k ∷ []))) (number-back (codeIn b) code)
     ∙ numbers-read 18 b 0 bytes (omega arith) ∙ take-all 144 b (omega arith)
+
+-- ---- a refused opening
+
+zeros-bytes : inventoryBytes zeros ≡ replicate 144 0
+unfolding inventoryBytes numbers toLe
+zeros-bytes = refl
+
+pub refused-zeros : RefusedZeros
+refused-zeros c n sizes h = ap inventoryBytes (refused-next c n sizes h) ∙ zeros-bytes

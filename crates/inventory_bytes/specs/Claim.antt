@@ -4,18 +4,20 @@
 --   LoadedBack    the bytes of an inventory are that inventory
 --   StoredBack    144 bytes whose code is one are the bytes of the inventory that they are
 --   OtherBytes    all other bytes are zeros, which no calls give: every call refuses it with 10
+--   RefusedZeros  what a refused opening hands back is 144 bytes that are 0
 -- Assumes nothing.
 use mathlib.Core.Path.{_≡_}
 use mathlib.Core.Logic.{_⊎_, _≢_}
+use mathlib.Core.Bool.{true, false}
 use mathlib.Core.List.{List}
 use Prim.Native.Nat.{ℕ, _^_, _<_}
-use mathlib.Core.Bool.{true, false}
+use lib.ListN.{length, replicate}
 use Rattle.codes.specs.Codes.{isCode}
-use Rattle.inventory.specs.Steps.{zeros}
-use lib.ListN.{length}
-use Rattle.inventory.specs.declared.Inventory.{Inventory}
+use Rattle.codes.specs.declared.Code.{Code}
 use Rattle.little_endian.specs.Bytes.{Bytes}
 use Rattle.number_sets.specs.Sets.{Words}
+use Rattle.inventory.specs.Steps.{zeros, openStep}
+use Rattle.inventory.specs.declared.Inventory.{Inventory}
 use Rattle.inventory_bytes.specs.Inventories.{codeIn, inventoryOf, inventoryBytes}
 
 pub record Held (s : Inventory) : Type 0 where
@@ -37,3 +39,8 @@ StoredBack = (b : List ℕ) → Bytes b → length b ≡ 144 → isCode (codeIn 
 -- proved: proofs/BackLaws.antt, `other-bytes`
 abbrev pub OtherBytes : Type 0
 OtherBytes = (b : List ℕ) → (length b ≢ 144) ⊎ (isCode (codeIn b) ≡ false) → inventoryOf b ≡ zeros
+
+-- document 01: "Where a refused opening must hand back a sheet, every part of it is 0"
+-- proved: proofs/BackLaws.antt, `refused-zeros`
+abbrev pub RefusedZeros : Type 0
+RefusedZeros = (c : Code) (n : ℕ) (sizes : List ℕ) → openStep c n sizes .number ≢ 0 → inventoryBytes (openStep c n sizes .next) ≡ replicate 144 0
