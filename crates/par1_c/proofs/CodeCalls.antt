@@ -3,18 +3,17 @@
 --   known, unknown            the number of a code, and one that is none
 --   known-told, unknown-told  the same, as the code finds it out
 --   by-code                   the call by that code
---   no-code, other-code       what is the number of no code
+--   other-code                what is the number of no code
 -- Assumes nothing.
 use mathlib.Core.Path.{_≡_, refl, sym, ap, _∙_}
-use mathlib.Core.Logic.{_≢_}
 use mathlib.Core.Bool.{Bool, true, false, not}
 use mathlib.Core.List.{List}
-use Prim.Native.Nat.{ℕ, zero, suc}
-use native.Mathlib.Omega.{arith}
-use borrow.Author.Tests.{lt-leb, not-true, not-false}
-use Rattle.codes.specs.Codes.{codeNumber, isCode, codeOf}
+use Prim.Native.Nat.{ℕ}
+use borrow.Author.Tests.{not-true, not-false}
+use Rattle.codes.specs.Codes.{isCode, codeOf}
 use Rattle.codes.specs.declared.Code.{Code}
 use Rattle.codes.specs.declared.Code.the-variants.{Powers, Cauchy}
+use Rattle.codes.proofs.CodeLaws.{no-code}
 use Rattle.par1_c.specs.Codes.{byCode}
 use Rattle.par1_c.specs.Claim.{ByCode, OtherCode}
 
@@ -36,12 +35,6 @@ module _ (k : ℕ) (call : Code → ℕ × List ℕ) (lent : List ℕ) where
 pub by-code : ByCode
 by-code Powers call lent = known 0 call lent refl
 by-code Cauchy call lent = known 1 call lent refl
-
--- a number above 1
-no-code : (k : ℕ) → ((c : Code) → k ≢ codeNumber c) → isCode k ≡ false
-no-code zero h = absurd (h Powers refl)
-no-code (suc zero) h = absurd (h Cauchy refl)
-no-code (suc (suc k)) h = lt-leb (suc (suc k)) 1 (omega arith)
 
 pub other-code : OtherCode
 other-code k h =
