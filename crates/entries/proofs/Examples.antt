@@ -1,11 +1,13 @@
--- Worked examples of the definitions, computed: entries at the edges of the rules, and the numbering of saved entries.
+-- Worked examples of the definitions, computed: entries at the edges of the rules, names, and the numbering of saved entries.
 -- Assumes nothing.
 use mathlib.Core.Path.{_≡_, refl}
+use mathlib.Core.Bool.{true, false}
 use mathlib.Core.List.{List, [], _∷_, _++_}
 use Prim.Native.Nat.{ℕ}
 use lib.ListN.{replicate}
 use Rattle.little_endian.specs.Bytes.{fromLe, toLe, leAt}
-use Rattle.entries.specs.Entry.{unitsOf, unitAllowed, unitsAllowed, nameAllowed, entrySizeAllowed, bodyAllowed, entryAllowed}
+use Rattle.lent_bytes.specs.Equal.{equal}
+use Rattle.entries.specs.Entry.{unitsOf, unitAllowed, eachUnit, isDots, nameAllowed, entrySizeAllowed, bodyAllowed, entryAllowed}
 use Rattle.entries.specs.Numbering.{fileNumber}
 use Rattle.entries.specs.Walk.{faultOf, firstOf}
 use Rattle.entries.specs.declared.Fault.the-variants as fault
@@ -24,8 +26,27 @@ edges :
     × (firstOf (entry 58 16777217 65) ≡ Fault fault.FileSize)
     × (firstOf (entry 58 0 47) ≡ Fault fault.Name)
     × (firstOf (entry 58 0 92) ≡ Fault fault.Name)
-unfolding entry fromLe toLe leAt unitsOf unitAllowed unitsAllowed nameAllowed entrySizeAllowed bodyAllowed entryAllowed faultOf firstOf
-edges = (refl, refl, refl, refl, refl, refl, refl, refl)
+    × (firstOf (entry 58 0 46) ≡ Fault fault.Name)
+unfolding entry fromLe toLe leAt unitsOf unitAllowed eachUnit isDots equal nameAllowed entrySizeAllowed bodyAllowed entryAllowed faultOf firstOf
+edges = (refl, refl, refl, refl, refl, refl, refl, refl, refl)
+
+-- the units 0, "/", ":" and "\\" in a name, "." and ".."; and names that have a dot
+names :
+    (nameAllowed (toLe 2 0) ≡ false)
+    × (nameAllowed (toLe 2 65 ++ toLe 2 0) ≡ false)
+    × (nameAllowed (toLe 2 47) ≡ false)
+    × (nameAllowed (toLe 2 58) ≡ false)
+    × (nameAllowed (toLe 2 65 ++ toLe 2 58 ++ toLe 2 66) ≡ false)
+    × (nameAllowed (toLe 2 92) ≡ false)
+    × (nameAllowed (toLe 2 46) ≡ false)
+    × (nameAllowed (toLe 2 46 ++ toLe 2 46) ≡ false)
+    × (nameAllowed (toLe 2 46 ++ toLe 2 46 ++ toLe 2 46) ≡ true)
+    × (nameAllowed (toLe 2 46 ++ toLe 2 97) ≡ true)
+    × (nameAllowed (toLe 2 97 ++ toLe 2 46) ≡ true)
+    × (nameAllowed (toLe 2 46 ++ toLe 2 46 ++ toLe 2 97) ≡ true)
+    × (nameAllowed (toLe 2 11776) ≡ true)
+unfolding fromLe toLe leAt unitsOf unitAllowed eachUnit isDots equal nameAllowed
+names = (refl, refl, refl, refl, refl, refl, refl, refl, refl, refl, refl, refl, refl)
 
 -- no more than a status, which tells whether the entry is saved
 status : ℕ → List ℕ

@@ -6,7 +6,10 @@
 --   unitsOf n           the 16-bit units of the bytes n
 --   isSaved st, isCounted st   whether an entry with the status st is saved in the parity, and whether it counts for the data size
 --   savedCount st       how many saved entries an entry with the status st is: 1, or 0
---   unitAllowed u, unitsAllowed us    whether a unit may stand in a name, and whether each of the units us may
+--   unitAllowed u, isDot u     whether a unit may stand in a name, and whether it is a dot
+--   eachUnit f us       whether the test f passes for each of the units us
+--   unitsAllowed us, onlyDots us    whether each of the units us may stand in a name, and whether each is a dot
+--   isDots us           whether the units us are "." or ".."
 --   nameAllowed n       whether the bytes n are a name
 --   entrySizeAllowed n m     whether an entry of n bytes may stand at the front of m bytes
 --   fileSizeAllowed n   whether a listed file may have n bytes
@@ -15,11 +18,12 @@
 --   lengthOf s          the length of the entry that s begins with, 0 where there is none that keeps every rule
 -- Assumes nothing.
 use Prim.Native.Nat.{ℕ, _%_}
-use mathlib.Core.Bool.{Bool, true, cond, not, _&&_}
+use mathlib.Core.Bool.{Bool, true, cond, not, _&&_, _||_}
 use mathlib.Core.List.{List, [], _∷_}
 use lib.Dec.{leb, eqb}
 use lib.ListN.{length, take, drop}
 use Rattle.refusals.specs.Limits.{maxFileSize}
+use Rattle.lent_bytes.specs.Equal.{equal}
 use Rattle.little_endian.specs.Bytes.{leAt}
 
 -- ---- the fields: "64-bit entry size (itself included), 64-bit status, 64-bit file size, MD5 of the whole file, MD5 of its first
@@ -61,17 +65,31 @@ isCounted status = isSaved status
 
 -- ---- the rules
 
--- "no unit is 47 ("/") or 92 ("\\"), for 000 allows no paths"
+-- "no unit is 47 ("/") or 92 ("\\"), for 000 allows no paths"; document 02, 2026-14: "Units 0 and 58 (":") are now not allowed anywhere"
 unfoldable pub unitAllowed : ℕ → Bool
-unitAllowed u = not (eqb u 47) && not (eqb u 92)
+unitAllowed u = not (eqb u 0) && not (eqb u 47) && not (eqb u 58) && not (eqb u 92)
 
-unfoldable pub unitsAllowed : List ℕ → Bool
-unitsAllowed [] = true
-unitsAllowed (u ∷ us) = unitAllowed u && unitsAllowed us
+abbrev pub isDot : ℕ → Bool
+isDot u = eqb u 46
+
+unfoldable pub eachUnit : (ℕ → Bool) → List ℕ → Bool
+eachUnit f [] = true
+eachUnit f (u ∷ us) = f u && eachUnit f us
+
+abbrev pub unitsAllowed : List ℕ → Bool
+unitsAllowed us = eachUnit unitAllowed us
+
+abbrev pub onlyDots : List ℕ → Bool
+onlyDots us = eachUnit isDot us
+
+-- document 02, 2026-14: "nor the whole names "." and "..""
+unfoldable pub isDots : List ℕ → Bool
+isDots us = equal us (46 ∷ []) || equal us (46 ∷ 46 ∷ [])
 
 -- "a name has one unit or more", and whole units
 unfoldable pub nameAllowed : List ℕ → Bool
-nameAllowed name = leb 2 (length name) && eqb (length name % 2) 0 && unitsAllowed (unitsOf name)
+nameAllowed name =
+    leb 2 (length name) && eqb (length name % 2) 0 && (unitsAllowed (unitsOf name) && not (isDots (unitsOf name)))
 
 -- "A listed file: 0 to 16,777,216 bytes"
 abbrev pub fileSizeAllowed : ℕ → Bool

@@ -1,9 +1,10 @@
 // The entries of a Par 1.0 list (document 01, "Byte layout"): the first entry of a part of a list, and the walk over a whole one.
 ghost use mathlib.Core.Path.{_≡_};
 ghost use mathlib.Core.Bool.{cond};
-ghost use Prim.Native.Nat.{_+_, _<_, _^_, max};
-ghost use lib.ListN.{drop};
-ghost use Rattle.entries.specs.Entry.{unitAllowed, unitsAllowed, nameAllowed, unitsOf, entrySizeAllowed, isSaved, savedCount, isCounted};
+ghost use Prim.Native.Nat.{_+_, _%_, _<_, _≤_, _^_, max};
+ghost use lib.ListN.{length, drop};
+ghost use Rattle.entries.specs.Entry.{unitAllowed, isDot, unitsAllowed, onlyDots, isDots, nameAllowed, unitsOf};
+ghost use Rattle.entries.specs.Entry.{entrySizeAllowed, isSaved, savedCount, isCounted};
 ghost use Rattle.entries.specs.Walk.{faultNumber, refusalAt, firstOf, addEntry, walkOf};
 use refusals::Refusal;
 
@@ -20,6 +21,9 @@ pub const MD5_AT: usize = 24;
 pub const MD5_16K_AT: usize = 40;
 
 pub const NAME_AT: usize = 56;
+
+// The length of the name "..", in bytes: a longer one may be of dots alone.
+pub const MAX_DOTS: usize = 4;
 
 // The rule that an entry breaks: that on its own size, on its file's size, or on its name.
 pub enum Fault {
@@ -116,7 +120,7 @@ pub fn walk(list: &[u8]) -> Walked
     }
 }
 
-// Whether the bytes of a name are allowed: one unit or more, whole units, each of them allowed.
+// Whether the bytes of a name are allowed: one unit or more, whole units, each of them allowed, and neither "." nor "..".
 pub fn name_allowed(name: &[u8]) -> bool
     ensures { λ r. ⌜ r ≡ nameAllowed (now (name .entry)) ⌝ }
 {
@@ -126,7 +130,13 @@ pub fn name_allowed(name: &[u8]) -> bool
     if name.len() % 2 != 0 {
         return false;
     }
-    units_allowed(name)
+    if !units_allowed(name) {
+        return false;
+    }
+    if is_dots(name) {
+        return false;
+    }
+    true
 }
 
 // Whether an entry with this status is saved in the parity.
@@ -191,14 +201,52 @@ pub fn units_allowed(name: &[u8]) -> bool
     true
 }
 
-// Whether a unit may stand in a name: any but a slash and a backslash.
+// Whether each unit of a name is a dot.
+pub fn only_dots(name: &[u8]) -> bool
+    ensures { λ r. ⌜ r ≡ onlyDots (unitsOf (now (name .entry))) ⌝ }
+{
+    let mut at: usize = 0;
+    while 2 <= name.len() - at {
+        if !is_dot(little_endian::read16(name, at)) {
+            return false;
+        }
+        at += 2;
+    }
+    true
+}
+
+// Whether a unit may stand in a name: any but 0, a slash, a colon and a backslash.
 pub fn unit_allowed(unit: u16) -> bool
     ensures { λ r. ⌜ r ≡ unitAllowed unit ⌝ }
 {
+    if unit == 0 {
+        return false;
+    }
     if unit == 47 {
         return false;
     }
+    if unit == 58 {
+        return false;
+    }
     unit != 92
+}
+
+// Whether a unit is a dot.
+pub fn is_dot(unit: u16) -> bool
+    ensures { λ r. ⌜ r ≡ isDot unit ⌝ }
+{
+    unit == 46
+}
+
+// Whether a name of whole units, one or more, is "." or "..".
+fn is_dots(name: &[u8]) -> bool
+    requires { ⌜ (2 ≤ length (now name)) × (length (now name) % 2 ≡ 0) ⌝ }
+    ensures { λ r. ⌜ r ≡ isDots (unitsOf (now (name .entry))) ⌝ }
+{
+    if MAX_DOTS < name.len() {
+        return false;
+    }
+    only_dots(name)
 }
 
 // The greatest size that counts, with one entry more.

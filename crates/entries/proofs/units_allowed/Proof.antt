@@ -36,7 +36,7 @@ returns c =
     let b = c .before .before .before .before in
     let s : List ℕ = now (b .before .before .args .name) in
     let e = c .before .unit-allowed .ensures ∙ ap unitAllowed (c .before .before .read16 .ensures) in
-    sym (rule-more s (b .loop .at) (omega arith) e ∙ simp (not-true (c .before .unit-allowed .result) (c .if1 .taken))) ∙ b .loop .inv .1
+    sym (rule-more s (b .loop .at) unitAllowed (omega arith) e ∙ simp (not-true (c .before .unit-allowed .result) (c .if1 .taken))) ∙ b .loop .inv .1
 
 add-at : tie.Need-add-at Inv-loop μ-loop
 add-at c = omega arith
@@ -49,12 +49,12 @@ loop-again c =
     let b = c .before .before .before .before in
     let s : List ℕ = now (b .before .before .args .name) in
     let e = c .before .unit-allowed .ensures ∙ ap unitAllowed (c .before .before .read16 .ensures) in
-    (omega arith, sym (rule-more s (b .loop .at) (omega arith) e ∙ simp (not-false (c .before .unit-allowed .result) (c .if1 .left))) ∙ b .loop .inv .1)
+    (omega arith, sym (rule-more s (b .loop .at) unitAllowed (omega arith) e ∙ simp (not-false (c .before .unit-allowed .result) (c .if1 .left))) ∙ b .loop .inv .1)
 
 returns-2 : tie.Need-returns-2 Inv-loop μ-loop
 returns-2 c =
     let b = c .before in
-    sym (rule-none (now (b .before .before .args .name)) (b .loop .at) (omega arith)) ∙ b .loop .inv .1
+    sym (rule-none (now (b .before .before .args .name)) (b .loop .at) unitAllowed (omega arith)) ∙ b .loop .inv .1
 
 pub units-allowed-spec : {M : Type 1} → statement M
 units-allowed-spec =
