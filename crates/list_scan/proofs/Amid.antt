@@ -8,18 +8,18 @@
 use mathlib.Core.Path.{_≡_, refl, sym, ap, ap₂, _∙_, subst}
 use mathlib.Core.Bool.{Bool, true, false, cond, _&&_, and-false}
 use mathlib.Core.List.{List, [], _∷_, _++_}
-use Prim.Native.Nat.{ℕ, suc, _+_, _%_, _≤_, _<_}
+use Prim.Native.Nat.{ℕ, suc, _+_, _≤_, _<_}
 use native.Mathlib.Decide.{decLt}
 use native.Mathlib.Omega.{arith}
 use lib.Dec.{eqb}
 use lib.ListN.{length, take, drop, set, length-append, length-drop, length-set}
 use lib.Seq.{take-all, take-append-le, take-suc-set, set-out}
-use borrow.Author.Tests.{le-leb, eq-eqb, eqb-true}
+use borrow.Author.Tests.{eq-eqb, eqb-true}
 use Rattle.computed_tests.proofs.Tests.{and-both}
 use Rattle.little_endian.specs.Bytes.{leAt}
 use Rattle.lent_bytes.proofs.PartLaws.{part-take, number-take}
 use Rattle.md5.specs.declared.Md5.{Md5}
-use Rattle.entries.specs.Entry.{entrySize, statusOf, fileSizeOf, md5Of, nameOf, unitsOf, unitsAllowed}
+use Rattle.entries.specs.Entry.{entrySize, statusOf, fileSizeOf, md5Of, nameOf, unitsOf, eachUnit}
 use Rattle.entries.specs.Entry.{nameAllowed, fileSizeAllowed, entrySizeAllowed, bodyAllowed}
 use Rattle.entries.specs.Claim.{Keeps}
 use Rattle.entries.specs.Walk.{faultOf, addEntry}
@@ -28,10 +28,12 @@ use Rattle.entries.specs.declared.Totals.{Totals}
 use Rattle.entries.proofs.EntryLaws.{sized}
 use Rattle.entries.proofs.FirstFaults.{no-sizes}
 use Rattle.par1_rules.specs.Hashes.{hashEntry}
+use Rattle.list_scan.specs.declared.NameSoFar.{NameSoFar}
 use Rattle.list_scan.specs.declared.Scan.{Scan}
+use Rattle.list_scan.specs.Name.{nameEnded}
 use Rattle.list_scan.specs.Scan.{nameByte, isWhole, scanWith, entryEnded, stepOf}
 use Rattle.list_scan.specs.Found.{faultAt}
-use Rattle.list_scan.proofs.NameLaws.{lastOr, last-snoc, name-step}
+use Rattle.list_scan.proofs.NameLaws.{lastOr, last-snoc, soFar, name-step, name-end}
 
 -- ---- an entry, exactly
 
@@ -90,24 +92,20 @@ number-at {hd} {p} i h past within = ap (λ (l : List ℕ). leAt 8 l i) (head-al
 
 -- ---- the test whether the entry ends
 
--- a name of whole units, one or more
-name-units : (n : List ℕ) → 2 ≤ length n → length n % 2 ≡ 0 → nameAllowed n ≡ unitsAllowed (unitsOf n)
-unfolding nameAllowed
-name-units n low even = simp (le-leb 2 (length n) low, eq-eqb (length n % 2) 0 even)
-
-test-is : {hd p : List ℕ} → HeadOf hd p → isWhole hd (length p) (unitsAllowed (unitsOf (nameOf p))) ≡ whole p
+test-is : {hd p : List ℕ} → HeadOf hd p → isWhole hd (length p) (soFar (nameOf p)) ≡ whole p
 unfolding isWhole whole bodyAllowed
 test-is {hd} {p} h = by (entrySizeAllowed (length p) (length p)) refl
   where
-    by : (t : Bool) → entrySizeAllowed (length p) (length p) ≡ t → isWhole hd (length p) (unitsAllowed (unitsOf (nameOf p))) ≡ whole p
+    by : (t : Bool) → entrySizeAllowed (length p) (length p) ≡ t → isWhole hd (length p) (soFar (nameOf p)) ≡ whole p
     by false t = simp (t, and-false)
     by true t =
         let z = sized (length p) (length p) t in
         let past : 56 ≤ length p = omega (arith, z .low) in
         let size : leAt 8 hd 0 ≡ leAt 8 p 0 = number-at 0 h past (omega arith) in
         let file-size : leAt 8 hd 16 ≡ leAt 8 p 16 = number-at 16 h past (omega arith) in
-        let name : nameAllowed (nameOf p) ≡ unitsAllowed (unitsOf (nameOf p)) =
-        name-units (nameOf p) (omega (arith, length-drop 56 p, z .low)) (omega (arith, length-drop 56 p, z .low, z .even)) in
+        let name : nameEnded (soFar (nameOf p)) (length p) ≡ nameAllowed (nameOf p) =
+        name-end (nameOf p) (length p) (omega (arith, length-drop 56 p, z .low)) (omega (arith, length-drop 56 p, z .low, z .even))
+        (omega (arith, length-drop 56 p, z .low)) in
         rw (size, file-size, name)
 
 -- ---- amid an entry
@@ -115,7 +113,7 @@ test-is {hd} {p} h = by (entrySizeAllowed (length p) (length p)) refl
 pub record Amid (t : Totals) (h : Md5) (p : List ℕ) (sc : Scan) : Type 0 where
   pub at-is : sc .at ≡ length p
   pub low-is : sc .low ≡ lastOr 0 p
-  pub named-is : sc .named ≡ unitsAllowed (unitsOf (nameOf p))
+  pub named-is : sc .named ≡ soFar (nameOf p)
   pub totals-is : sc .totals ≡ t
   pub hash-is : sc .hash ≡ h
   pub head-size : length (sc .head) ≡ 56
@@ -128,7 +126,7 @@ module _ {t : Totals} {h : Md5} {p : List ℕ} {sc : Scan} (m : Amid t h p sc) (
   abbrev after : List ℕ
   after = set (sc .head) (sc .at) b
 
-  abbrev named : Bool
+  abbrev named : NameSoFar
   named = nameByte (sc .named) (sc .at) (sc .low) b
 
   next-at : sc .at + 1 ≡ length (snoc p b)
@@ -137,7 +135,7 @@ module _ {t : Totals} {h : Md5} {p : List ℕ} {sc : Scan} (m : Amid t h p sc) (
   next-head : HeadOf after (snoc p b)
   next-head = subst (λ (k : ℕ). HeadOf (set (sc .head) k b) (snoc p b)) (sym (m .at-is)) (head-step b (head-of m))
 
-  next-named : named ≡ unitsAllowed (unitsOf (nameOf (snoc p b)))
+  next-named : named ≡ soFar (nameOf (snoc p b))
   next-named = cc (name-step p b, m .named-is, m .at-is, m .low-is)
 
   step-is : {w : Bool} → whole (snoc p b) ≡ w
@@ -162,7 +160,7 @@ module _ {t : Totals} {h : Md5} {p : List ℕ} {sc : Scan} (m : Amid t h p sc) (
 
   pub step-whole : whole (snoc p b) ≡ true
       → Amid (addEntry t (statusOf (snoc p b)) (fileSizeOf (snoc p b))) (hashEntry h (statusOf (snoc p b)) (md5Of (snoc p b))) [] (stepOf sc b)
-  unfolding entryEnded unitsAllowed unitsOf
+  unfolding entryEnded eachUnit unitsOf
   step-whole e =
       let q : List ℕ = snoc p b in
       let past : 56 ≤ length q = omega (arith, sized (length q) (length q) (whole-keeps e .size-right) .low) in

@@ -9,7 +9,7 @@
 -- Assumes nothing.
 use mathlib.Core.Path.{_≡_, refl, sym, ap, ap₂, _∙_, subst}
 use mathlib.Core.Logic.{_⊎_, inl, inr}
-use mathlib.Core.Bool.{Bool, true, false, cond, _&&_}
+use mathlib.Core.Bool.{Bool, true, false, cond}
 use mathlib.Core.List.{List, [], _∷_, foldl}
 use Prim.Native.Nat.{ℕ, suc, _+_, _-_, _*_, _%_, _≤_, _<_, min}
 use native.Mathlib.Numerals.{add-one}
@@ -19,12 +19,14 @@ use lib.Seq.{sets, length-sets, length-take-le, drop-drop}
 use Rattle.little_endian.proofs.Stores.{sets-out}
 use Rattle.lent_bytes.proofs.PartLaws.{part-to-end}
 use Rattle.md5.specs.declared.Md5.{Md5}
-use Rattle.entries.specs.Entry.{entrySize, statusOf, fileSizeOf, md5Of, unitsOf, unitAllowed, unitsAllowed}
+use Rattle.entries.specs.Entry.{entrySize, statusOf, fileSizeOf, md5Of, unitsOf}
 use Rattle.entries.specs.Walk.{addEntry}
 use Rattle.entries.specs.declared.Totals.{Totals}
 use Rattle.par1_rules.specs.Hashes.{hashEntry}
+use Rattle.list_scan.specs.declared.NameSoFar.{NameSoFar}
 use Rattle.list_scan.specs.declared.Run.{Run}
 use Rattle.list_scan.specs.declared.Scan.{Scan}
+use Rattle.list_scan.specs.Name.{nameStart, nameUnit, nameUnits}
 use Rattle.list_scan.specs.Scan.{nameByte, isWhole, scanWith, entryEnded, settled, stepOf, scanned}
 use Rattle.list_scan.specs.Room.{hasRoom}
 use Rattle.list_scan.specs.Run.{namedAfter, NoneEnds, IsRun}
@@ -36,17 +38,17 @@ use Rattle.list_scan.proofs.StepLaws.{not-whole}
 -- ---- the scan after a run
 
 module _ (t : Totals) (h : Md5) where
-  scan-run : (hd : List ℕ) (at low : ℕ) (named : Bool) (l : List ℕ) → 0 < length l → NoneEnds hd at l
+  scan-run : (hd : List ℕ) (at low : ℕ) (named : NameSoFar) (l : List ℕ) → 0 < length l → NoneEnds hd at l
       → scanned (scanWith hd at low named t h) l
       ≡ settled (sets hd at l) (at + length l) (lastOr low l) (namedAfter named at low l) t h
   unfolding scanned stepOf namedAfter
   scan-run hd at low named [] some none = absurd (omega arith)
   scan-run hd at low named (b ∷ []) some none = refl
   scan-run hd at low named (b ∷ c ∷ l) some none =
-      let now : Bool = nameByte named at low b in
+      let now : NameSoFar = nameByte named at low b in
       let place : at + 1 + length (c ∷ l) ≡ at + length (b ∷ c ∷ l) = omega arith in
       let last : ℕ = lastOr low (b ∷ c ∷ l) in
-      let all : Bool = namedAfter named at low (b ∷ c ∷ l) in
+      let all : NameSoFar = namedAfter named at low (b ∷ c ∷ l) in
       ap (λ (w : Bool). foldl stepOf (cond w (entryEnded (set hd at b) t h) (scanWith (set hd at b) (at + 1) b now t h)) (c ∷ l))
       (none 1 (omega arith) (omega arith) now)
       ∙ scan-run (set hd at b) (at + 1) b now (c ∷ l) (omega arith) later
@@ -64,8 +66,8 @@ take-one : (s : List ℕ) → 0 < length s → take 1 s ≡ getD s 0 0 ∷ []
 take-one [] h = absurd (omega arith)
 take-one (b ∷ s) h = refl
 
-module _ (hd : List ℕ) (at low : ℕ) (named : Bool) (l : List ℕ) (some : 0 < length l) where
-  abbrev IsRunOf : ℕ → Bool → Type 0
+module _ (hd : List ℕ) (at low : ℕ) (named : NameSoFar) (l : List ℕ) (some : 0 < length l) where
+  abbrev IsRunOf : ℕ → NameSoFar → Type 0
   IsRunOf n w = IsRun hd at low named l (record { length = n; named = w })
 
   pub run-head : {n : ℕ} → at < 56 → n ≡ min (56 - at) (length l) → IsRunOf n named
@@ -79,7 +81,7 @@ module _ (hd : List ℕ) (at low : ℕ) (named : Bool) (l : List ℕ) (some : 0 
       }
 
   -- a single byte
-  run-byte : {w : Bool} → w ≡ nameByte named at low (getD l 0 0) → IsRunOf 1 w
+  run-byte : {w : NameSoFar} → w ≡ nameByte named at low (getD l 0 0) → IsRunOf 1 w
   unfolding namedAfter
   run-byte e =
       record {
@@ -89,14 +91,14 @@ module _ (hd : List ℕ) (at low : ℕ) (named : Bool) (l : List ℕ) (some : 0 
         named-is = e ∙ ap (namedAfter named at low) (sym (take-one l some));
       }
 
-  pub run-high : {w : Bool} → 56 ≤ at → at % 2 ≡ 1 → w ≡ (named && unitAllowed (low + 256 * getD l 0 0)) → IsRunOf 1 w
+  pub run-high : {w : NameSoFar} → 56 ≤ at → at % 2 ≡ 1 → w ≡ nameUnit named (low + 256 * getD l 0 0) → IsRunOf 1 w
   run-high h o e = run-byte (e ∙ sym (byte-high named at low (getD l 0 0) h o))
 
   pub run-low : (at % 2 ≡ 1 → ⊥) → IsRunOf 1 named
   run-low h = run-byte (sym (byte-low named at low (getD l 0 0) h))
 
-  pub run-units : {n size : ℕ} {w : Bool} → length hd ≡ 56 → 56 ≤ at → (at % 2 ≡ 1 → ⊥) → 0 < n → n ≤ length l → n % 2 ≡ 0
-      → size ≡ entrySize hd → (size ≤ at) ⊎ (at + n ≤ size + 1) → w ≡ (named && unitsAllowed (unitsOf (take n l))) → IsRunOf n w
+  pub run-units : {n size : ℕ} {w : NameSoFar} → length hd ≡ 56 → 56 ≤ at → (at % 2 ≡ 1 → ⊥) → 0 < n → n ≤ length l → n % 2 ≡ 0
+      → size ≡ entrySize hd → (size ≤ at) ⊎ (at + n ≤ size + 1) → w ≡ nameUnits named (unitsOf (take n l)) → IsRunOf n w
   run-units {n} {size} full h o pos fits whole size-is ends e =
       let length-is : length (take n l) ≡ n = length-take-le n l fits in
       record {
@@ -144,7 +146,7 @@ kept-on sc sd se s i n fits full k e =
     }
 
 -- a run at the front of what remains
-module _ (sc : Scan) (s : List ℕ) (i : ℕ) {hd : List ℕ} {at low : ℕ} {named : Bool} {t : Totals} {h : Md5}
+module _ (sc : Scan) (s : List ℕ) (i : ℕ) {hd : List ℕ} {at low : ℕ} {named : NameSoFar} {t : Totals} {h : Md5}
     (k : Kept sc (scanWith hd at low named t h) s i) {r : Run} (run : IsRun hd at low named (take (length s - i) (drop i s)) r) where
   abbrev taken : List ℕ
   taken = take (r .length) (take (length s - i) (drop i s))
@@ -165,7 +167,7 @@ module _ (sc : Scan) (s : List ℕ) (i : ℕ) {hd : List ℕ} {at low : ℕ} {na
         let last : ℕ = lastOr low taken in
         scan-run t h hd at low named taken (omega (arith, run-length, run .some)) (run .none-ends)
         ∙ ap₂ (λ (q : List ℕ) (n : ℕ). settled q (at + n) last (namedAfter named at low taken) t h) (sym head-is) run-length
-        ∙ ap (λ (m : Bool). settled head (at + r .length) last m t h) (sym (run .named-is)) ∙ ap ended (sym test)
+        ∙ ap (λ (m : NameSoFar). settled head (at + r .length) last m t h) (sym (run .named-is)) ∙ ap ended (sym test)
 
     kept-run : {x : Bool} {se : Scan} → w ≡ x → se .head ≡ head → se ≡ ended x → Kept sc se s (i + r .length)
     kept-run {x} {se} tested same e =
@@ -175,9 +177,9 @@ module _ (sc : Scan) (s : List ℕ) (i : ℕ) {hd : List ℕ} {at low : ℕ} {na
         ∙ ap (λ (q : List ℕ). scanned (scanWith hd at low named t h) (take (r .length) q)) (part-to-end s i))
 
     pub run-ends : {u : Totals} {g : Md5} → w ≡ true → u ≡ addEntry t (statusOf head) (fileSizeOf head)
-        → g ≡ hashEntry h (statusOf head) (md5Of head) → Kept sc (scanWith head 0 0 true u g) s (i + r .length)
+        → g ≡ hashEntry h (statusOf head) (md5Of head) → Kept sc (scanWith head 0 0 nameStart u g) s (i + r .length)
     unfolding entryEnded
-    run-ends ends totals-is hash-is = kept-run ends refl (ap₂ (λ (u : Totals) (g : Md5). scanWith head 0 0 true u g) totals-is hash-is)
+    run-ends ends totals-is hash-is = kept-run ends refl (ap₂ (λ (u : Totals) (g : Md5). scanWith head 0 0 nameStart u g) totals-is hash-is)
 
     pub run-goes-on : w ≡ false
         → Kept sc (scanWith head (at + r .length) (getD (take (r .length) (take (length s - i) (drop i s))) (r .length - 1) 0) (r .named) t h) s

@@ -15,7 +15,9 @@ use Rattle.md5.specs.declared.Md5.{Md5}
 use Rattle.entries.specs.declared.Totals.{Totals}
 use Rattle.entries.specs.Entry.{entrySize, fileSizeOf, fileSizeAllowed, entrySizeAllowed}
 use Rattle.entries.proofs.EntryLaws.{sized}
+use Rattle.list_scan.specs.declared.NameSoFar.{NameSoFar}
 use Rattle.list_scan.specs.declared.Scan.{Scan}
+use Rattle.list_scan.specs.Name.{nameEnded}
 use Rattle.list_scan.specs.Scan.{isWhole, scanWith, entryEnded, settled}
 
 pub record Whole (hd : List ℕ) (at : ℕ) : Type 0 where
@@ -23,11 +25,11 @@ pub record Whole (hd : List ℕ) (at : ℕ) : Type 0 where
   pub even : at % 2 ≡ 0
   pub low : 58 ≤ at
 
-module _ (hd : List ℕ) (at : ℕ) (named : Bool) where
+module _ (hd : List ℕ) (at : ℕ) (named : NameSoFar) where
   whole-at : isWhole hd at named ≡ true → Whole hd at
   unfolding isWhole
   whole-at e =
-      let body : Bool = fileSizeAllowed (fileSizeOf hd) && named in
+      let body : Bool = fileSizeAllowed (fileSizeOf hd) && nameEnded named at in
       let first = and-both (eqb (entrySize hd) at) (entrySizeAllowed at at && body) e in
       let z = sized at at (and-both (entrySizeAllowed at at) body (first .1) .0) in
       record { size-is = eqb-true _ _ (first .0); even = z .even; low = z .low }
@@ -39,7 +41,7 @@ module _ (hd : List ℕ) (at : ℕ) (named : Bool) where
       by true e = absurd (h (whole-at e))
       by false e = refl
 
-pub settled-either : (P : Scan → Type 0) (hd : List ℕ) (at low : ℕ) (named : Bool) (t : Totals) (h : Md5)
+pub settled-either : (P : Scan → Type 0) (hd : List ℕ) (at low : ℕ) (named : NameSoFar) (t : Totals) (h : Md5)
     → (58 ≤ at → P (entryEnded hd t h)) → P (scanWith hd at low named t h) → P (settled hd at low named t h)
 settled-either P hd at low named t h ends goes-on = by (isWhole hd at named) refl
   where

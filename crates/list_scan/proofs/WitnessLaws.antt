@@ -14,9 +14,10 @@ use lib.ListN.{length, getD, replicate, length-append, length-replicate}
 use Rattle.little_endian.specs.Bytes.{Bytes, fromLe, leAt}
 use Rattle.little_endian.proofs.Numbers.{bytes-append}
 use Rattle.little_endian.proofs.Reading.{leAt-suc}
+use Rattle.lent_bytes.specs.Equal.{equal}
 use Rattle.md5.specs.declared.Md5.{Md5}
 use Rattle.entries.specs.Entry.{savedCount, unitsOf, lengthOf}
-use Rattle.entries.specs.Entry.{unitAllowed, unitsAllowed, nameAllowed, entrySizeAllowed, bodyAllowed, entryAllowed}
+use Rattle.entries.specs.Entry.{unitAllowed, eachUnit, isDots, nameAllowed, entrySizeAllowed, bodyAllowed, entryAllowed}
 use Rattle.entries.specs.Walk.{firstOf, addEntry}
 use Rattle.entries.specs.declared.Totals.{Totals}
 use Rattle.entries.proofs.EntryLaws.{IsEntry, is-entry}
@@ -29,11 +30,11 @@ use Rattle.list_scan.proofs.WalkLaws.{runs, entry-scan, start-amid, sca
 -- ---- entries
 
 entry-saved : IsEntry (plainEntry 1) 58 1 0
-unfolding firstOf entryAllowed entrySizeAllowed bodyAllowed nameAllowed unitsAllowed unitsOf unitAllowed leAt fromLe plainEntry
+unfolding firstOf entryAllowed entrySizeAllowed bodyAllowed nameAllowed eachUnit isDots equal unitsOf unitAllowed leAt fromLe plainEntry
 entry-saved = is-entry refl
 
 entry-unsaved : IsEntry (plainEntry 0) 58 0 0
-unfolding firstOf entryAllowed entrySizeAllowed bodyAllowed nameAllowed unitsAllowed unitsOf unitAllowed leAt fromLe plainEntry
+unfolding firstOf entryAllowed entrySizeAllowed bodyAllowed nameAllowed eachUnit isDots equal unitsOf unitAllowed leAt fromLe plainEntry
 entry-unsaved = is-entry refl
 
 -- a scan between two entries, after n of them, s of them saved
@@ -143,8 +144,9 @@ bytes-zeros n i = omega (arith, zeros-at n i)
 bytes-entry : (status : ℕ) → status < 256 → Bytes (plainEntry status)
 unfolding plainEntry
 bytes-entry status h =
-    bytes-append (58 ∷ replicate 7 0) (status ∷ replicate 49 0) (bytes-cons 58 (replicate 7 0) (omega arith) (bytes-zeros 7))
-    (bytes-cons status (replicate 49 0) h (bytes-zeros 49))
+    bytes-append (58 ∷ replicate 7 0) (status ∷ replicate 47 0 ++ (65 ∷ 0 ∷ [])) (bytes-cons 58 (replicate 7 0) (omega arith) (bytes-zeros 7))
+    (bytes-cons status (replicate 47 0 ++ (65 ∷ 0 ∷ [])) h
+    (bytes-append (replicate 47 0) (65 ∷ 0 ∷ []) (bytes-zeros 47) (bytes-cons 65 (0 ∷ []) (omega arith) (bytes-zeros 1))))
 
 bytes-many : (k status : ℕ) → status < 256 → Bytes (many k status)
 unfolding many

@@ -1,4 +1,5 @@
 pub mod Found
+pub mod Name
 pub mod Room
 pub mod Run
 pub mod Scan

@@ -4,10 +4,11 @@ ghost use mathlib.Core.Bool.{true, _&&_};
 ghost use mathlib.Core.Logic.{_⊎_};
 ghost use Prim.Native.Nat.{_+_, _*_, _%_, _^_, _<_, _≤_, min};
 ghost use lib.ListN.{length};
-ghost use Rattle.entries.specs.Entry.{statusOf, fileSizeOf, md5Of, unitsOf, unitAllowed, unitsAllowed};
+ghost use Rattle.entries.specs.Entry.{statusOf, fileSizeOf, md5Of, unitsOf};
 ghost use Rattle.entries.specs.Walk.{addEntry};
 ghost use Rattle.md5.specs.Running.{finished};
 ghost use Rattle.par1_rules.specs.Hashes.{hashEntry};
+ghost use Rattle.list_scan.specs.Name.{nameUnit, nameUnits, nameEnded};
 ghost use Rattle.list_scan.specs.Scan.{isWhole, scanned, scanStart};
 ghost use Rattle.list_scan.specs.Run.{IsRun};
 ghost use Rattle.list_scan.specs.Found.{faultAt, foundOf};
@@ -19,13 +20,22 @@ use md5::Md5;
 use par1_rules::hashes;
 use par1_rules::layout;
 
-// A scan of a list: the first bytes of the entry at hand; how many of its bytes came; the last of them; whether the units of its name so far
-// are allowed; the totals of the entries before it; and the running hash over the saved ones.
+// How long an entry with the name ".." is; a longer one may have a name of dots alone.
+const MAX_DOTS_SIZE: u64 = (entries::NAME_AT + entries::MAX_DOTS) as u64;
+
+// What is known of the units of a name that came: whether each is allowed, and whether each is a dot.
+pub struct NameSoFar {
+    pub allowed: bool,
+    pub dots: bool,
+}
+
+// A scan of a list: the first bytes of the entry at hand; how many of its bytes came; the last of them; what is known of its name so far; the
+// totals of the entries before it; and the running hash over the saved ones.
 pub struct Scan {
     pub head: [u8; 56],
     pub at: u64,
     pub low: u8,
-    pub named: bool,
+    pub named: NameSoFar,
     pub totals: Totals,
     pub hash: Md5,
 }
@@ -39,7 +49,10 @@ pub fn start() -> Scan
         head: [0u8; 56],
         at: 0,
         low: 0,
-        named: true,
+        named: NameSoFar {
+            allowed: true,
+            dots: true,
+        },
         totals: Totals {
             entries: 0,
             saved: 0,
@@ -128,7 +141,10 @@ fn after(scan: Scan, bytes: &[u8]) -> Scan
             hash = hashed(hash, &head);
             at = 0;
             low = 0;
-            named = true;
+            named = NameSoFar {
+                allowed: true,
+                dots: true,
+            };
             continue;
         }
         low = taken[n - 1];
@@ -143,14 +159,14 @@ fn after(scan: Scan, bytes: &[u8]) -> Scan
     }
 }
 
-// A run: how many bytes of an entry are taken at once, and whether the units of its name are allowed with them.
+// A run: how many bytes of an entry are taken at once, and what is known of its name with them.
 struct Run {
     length: usize,
-    named: bool,
+    named: NameSoFar,
 }
 
 // The run at the front of `rest`: what there is of the entry's first bytes; or of its name, whole units up to its end; or a byte where a unit is cut.
-fn next_run(head: &[u8; 56], at: u64, low: u8, named: bool, rest: &[u8]) -> Run
+fn next_run(head: &[u8; 56], at: u64, low: u8, named: NameSoFar, rest: &[u8]) -> Run
     requires { ⌜ (0 < length (now rest)) × (length (now head) ≡ 56) ⌝ }
     ensures { λ r. ⌜ IsRun (now (head .entry)) at low named (now (rest .entry)) r ⌝ }
 {
@@ -163,7 +179,7 @@ fn next_run(head: &[u8; 56], at: u64, low: u8, named: bool, rest: &[u8]) -> Run
     if at % 2 == 1 {
         return Run {
             length: 1,
-            named: unit_allowed(named, low, rest[0]),
+            named: with_unit(named, low, rest[0]),
         };
     }
     if rest.len() == 1 {
@@ -172,7 +188,7 @@ fn next_run(head: &[u8; 56], at: u64, low: u8, named: bool, rest: &[u8]) -> Run
     let length = units_to_end(little_endian::read64(head, 0), at, rest.len());
     Run {
         length,
-        named: units_allowed(named, &rest[..length]),
+        named: with_units(named, &rest[..length]),
     }
 }
 
@@ -193,24 +209,45 @@ fn units_to_end(size: u64, at: u64, left: usize) -> usize
     (to_end + to_end % 2) as usize
 }
 
-// Whether the name is allowed so far, with a run of whole units.
-fn units_allowed(named: bool, units: &[u8]) -> bool
-    ensures { λ r. ⌜ r ≡ (named && unitsAllowed (unitsOf (now (units .entry)))) ⌝ }
+// What is known of a name with a run of whole units.
+fn with_units(named: NameSoFar, units: &[u8]) -> NameSoFar
+    ensures { λ r. ⌜ r ≡ nameUnits named (unitsOf (now (units .entry))) ⌝ }
 {
-    if !named {
-        return false;
+    NameSoFar {
+        allowed: both(named.allowed, entries::units_allowed(units)),
+        dots: both(named.dots, entries::only_dots(units)),
     }
-    entries::units_allowed(units)
 }
 
-// Whether the name is allowed so far, with a unit of which `low` came before.
-fn unit_allowed(named: bool, low: u8, high: u8) -> bool
-    ensures { λ r. ⌜ r ≡ (named && unitAllowed (low + 256 * high)) ⌝ }
+// What is known of a name with a unit of which `low` came before.
+fn with_unit(named: NameSoFar, low: u8, high: u8) -> NameSoFar
+    ensures { λ r. ⌜ r ≡ nameUnit named (low + 256 * high) ⌝ }
 {
-    if !named {
+    let unit = low as u16 + 256 * (high as u16);
+    NameSoFar {
+        allowed: both(named.allowed, entries::unit_allowed(unit)),
+        dots: both(named.dots, entries::is_dot(unit)),
+    }
+}
+
+// Whether the name of an entry of `size` bytes is allowed, where all of it came.
+fn name_ended(named: NameSoFar, size: u64) -> bool
+    ensures { λ r. ⌜ r ≡ nameEnded named size ⌝ }
+{
+    if !named.allowed {
         return false;
     }
-    entries::unit_allowed(low as u16 + 256 * (high as u16))
+    if !named.dots {
+        return true;
+    }
+    MAX_DOTS_SIZE < size
+}
+
+// Whether two tests pass.
+fn both(a: bool, b: bool) -> bool
+    ensures { λ r. ⌜ r ≡ (a && b) ⌝ }
+{
+    if a { b } else { false }
 }
 
 // The lesser of two lengths.
@@ -247,7 +284,7 @@ fn hashed(hash: Md5, head: &[u8; 56]) -> Md5
 }
 
 // Whether the entry ends after `at` bytes and keeps every rule.
-fn is_whole(head: &[u8; 56], at: u64, named: bool) -> bool
+fn is_whole(head: &[u8; 56], at: u64, named: NameSoFar) -> bool
     ensures { λ r. ⌜ r ≡ isWhole (now (head .entry)) at named ⌝ }
 {
     if little_endian::read64(head, 0) != at {
@@ -259,7 +296,7 @@ fn is_whole(head: &[u8; 56], at: u64, named: bool) -> bool
     if little_endian::read64(head, entries::FILE_SIZE_AT) > refusals::MAX_FILE_SIZE {
         return false;
     }
-    named
+    name_ended(named, at)
 }
 
 // The rule that an entry breaks of which the list has `at` bytes.

@@ -24,7 +24,7 @@ headed : (c : tie.Start Inv-loop μ-loop) → length (c .args .scan .head) ≡ 5
 headed c = search needs
 
 loop-holds : tie.Need-loop-holds Inv-loop μ-loop
-loop-holds c = let start = c .before .before .before .before in kept-start _ _ (headed start) (start .pre)
+loop-holds c = let start = c .before .before .before .before .before in kept-start _ _ (headed start) (start .pre)
 
 part-rest-start : tie.Need-part-rest-start Inv-loop μ-loop
 part-rest-start c = c .before .loop .inv .within
@@ -32,18 +32,18 @@ part-rest-start c = c .before .loop .inv .within
 next-run-requires : tie.Need-next-run-requires Inv-loop μ-loop
 next-run-requires c κs =
     let l = c .before .before .before .loop in
-    let s = now (c .before .before .before .before .before .before .before .before .args .bytes) in
+    let s = now (c .before .before .before .before .before .before .before .before .before .args .bytes) in
     (omega (arith, ap length (part-to-end s (l .i)), length-drop (l .i) s), l .inv .head-size)
 
 -- where the run ends, and how many bytes it has
 ends-at : (c : tie.After-next-run Inv-loop μ-loop)
     → let l = c .before .before .before .before in
-    l .loop .i + c .next-run .result .length ≤ length (now (l .before .before .before .before .before .args .bytes))
+    l .loop .i + c .next-run .result .length ≤ length (now (l .before .before .before .before .before .before .args .bytes))
 ends-at c = run-fits _ _ _ (c .before .before .before .before .loop .inv) (c .next-run .ensures)
 
 size-is : (c : tie.After-next-run Inv-loop μ-loop)
     → let l = c .before .before .before .before in
-    let s = now (l .before .before .before .before .before .args .bytes) in
+    let s = now (l .before .before .before .before .before .before .args .bytes) in
     let n = c .next-run .result .length in length (take n (take (length s - l .loop .i) (drop (l .loop .i) s))) ≡ n
 size-is c = run-length _ _ _ (c .before .before .before .before .loop .inv) (c .next-run .ensures)
 
@@ -61,40 +61,40 @@ add-at c = let run = c .before .before .before .before in omega (arith, ends-at 
 
 added-requires : tie.Need-added-requires Inv-loop μ-loop
 added-requires c κs =
-    let run = c .before .before .before .before .before .before .before .before in
+    let run = c .before .before .before .before .before .before .before .before .before in
     let room = run .before .before .before .before .loop .inv .room in
     let some = run .next-run .ensures .some in
     (omega (arith, ends-at run, some, room .entries-fit), omega (arith, ends-at run, some, room .saved-fit))
 
 loop-less : tie.Need-loop-less Inv-loop μ-loop
 loop-less c =
-    let run = c .before .before .before .before .before .before .before .before .before .before .before in
+    let run = c .before .before .before .before .before .before .before .before .before .before .before .before in
     omega (arith, ends-at run, run .next-run .ensures .some)
 
 loop-again : tie.Need-loop-again Inv-loop μ-loop
 loop-again c =
     let tested = c .before .before .before .before in
-    let put = tested .before .before .before .before in
+    let put = tested .before .before .before .before .before in
     let run = put .before .before .before in
     run-ends _ _ _ (run .before .before .before .before .loop .inv) (run .next-run .ensures) (put .put .ensures)
     (tested .before .is-whole .ensures) (tested .if1 .taken) (c .before .before .added .ensures) (c .hashed .ensures)
 
 sub-low : tie.Need-sub-low Inv-loop μ-loop
-sub-low c = c .before .before .before .before .before .before .before .next-run .ensures .some
+sub-low c = c .before .before .before .before .before .before .before .before .next-run .ensures .some
 
 shared-slice-read-low : tie.Need-shared-slice-read-low Inv-loop μ-loop
 shared-slice-read-low c =
-    let run = c .before .before .before .before .before .before .before .before in
+    let run = c .before .before .before .before .before .before .before .before .before in
     omega (arith, size-is run, run .next-run .ensures .some)
 
 loop-less-2 : tie.Need-loop-less-2 Inv-loop μ-loop
 loop-less-2 c =
-    let run = c .before .before .before .before .before .before .before .before in
+    let run = c .before .before .before .before .before .before .before .before .before in
     omega (arith, ends-at run, run .next-run .ensures .some)
 
 loop-again-2 : tie.Need-loop-again-2 Inv-loop μ-loop
 loop-again-2 c =
-    let put = c .before .before .before .before .before in
+    let put = c .before .before .before .before .before .before in
     let run = put .before .before .before in
     run-goes-on _ _ _ (run .before .before .before .before .loop .inv) (run .next-run .ensures) (put .put .ensures)
     (c .before .before .is-whole .ensures) (c .before .if1 .left)

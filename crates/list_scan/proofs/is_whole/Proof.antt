@@ -5,6 +5,7 @@ use mathlib.Core.Bool.{_&&_}
 use borrow.Author.Tests.{ne-eqb, eq-eqb, lt-leb, le-leb, not-true, not-false}
 use denote.Ref.{now}
 use Rattle.entries.specs.Entry.{fileSizeAllowed}
+use Rattle.list_scan.specs.Name.{nameEnded}
 use Rattle.list_scan.specs.Scan.{isWhole}
 use borrow.Author.Needs.{needs}
 use Rattle.list_scan.proofs.is_whole.Statement.{statement}
@@ -24,7 +25,7 @@ returns-2 c =
 -- where the entry's size is right, its file's size and its name decide
 decided : (c : tie.After-read642)
     → let a = c .before .before .before .before .before .before .before .args in
-    isWhole (now (a .head)) (a .at) (a .named) ≡ (fileSizeAllowed (c .read642 .result) && a .named)
+    isWhole (now (a .head)) (a .at) (a .named) ≡ (fileSizeAllowed (c .read642 .result) && nameEnded (a .named) (a .at))
 unfolding isWhole
 decided c =
     let allowed = c .before .before in
@@ -40,9 +41,9 @@ returns-3 : tie.Need-returns-3
 returns-3 c = simp (decided (c .before), lt-leb _ _ (c .if3 .taken))
 
 returns-4 : tie.Need-returns-4
-returns-4 c = simp (decided (c .before), le-leb _ _ (c .if3 .left))
+returns-4 c = c .name-ended .ensures ∙ sym (simp (decided (c .before .before), le-leb _ _ (c .before .if3 .left)))
 
 pub is-whole-spec : {M : Type 1} → statement M
 is-whole-spec =
     tie.close
-    (tie.spec (λ c κs. search needs) returns (λ c κs. search needs) returns-2 (λ c κs. search needs) returns-3 returns-4)
+    (tie.spec (λ c κs. search needs) returns (λ c κs. search needs) returns-2 (λ c κs. search needs) returns-3 (λ c κs. search needs) returns-4)

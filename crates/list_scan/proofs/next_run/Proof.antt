@@ -20,7 +20,7 @@ returns-2 c =
     let start = c .before .before .before .before .before in
     let a = start .args in
     run-high (now (a .head)) (a .at) (a .low) (a .named) (now (a .rest)) (start .pre .0) (c .before .before .before .if1 .left)
-    (c .before .before .if2 .taken) (c .unit-allowed .ensures)
+    (c .before .before .if2 .taken) (c .with-unit .ensures)
 
 returns-3 : tie.Need-returns-3
 returns-3 c =
@@ -31,8 +31,8 @@ returns-3 c =
 units-to-end-requires : tie.Need-units-to-end-requires
 units-to-end-requires c κs = omega (arith, c .before .before .if3 .left, c .before .before .before .before .before .before .pre .0)
 
-slice-aggregate-units-allowed : tie.Need-slice-aggregate-units-allowed
-slice-aggregate-units-allowed c = sym (length-take-le _ _ (c .before .units-to-end .ensures .1))
+slice-aggregate-with-units : tie.Need-slice-aggregate-with-units
+slice-aggregate-with-units c = sym (length-take-le _ _ (c .before .units-to-end .ensures .1))
 
 returns-4 : tie.Need-returns-4
 returns-4 c =
@@ -42,7 +42,7 @@ returns-4 c =
     let n = c .before .before .units-to-end .ensures in
     run-units (now (a .head)) (a .at) (a .low) (a .named) (now (a .rest)) (start .pre .0) (start .pre .1)
     (tests .before .before .if1 .left) (tests .before .if2 .left) (n .0) (n .1) (n .2) (c .before .before .before .read64 .ensures) (n .3)
-    (c .units-allowed .ensures)
+    (c .with-units .ensures)
 
 pub next-run-spec : {M : Type 1} → statement M
 next-run-spec =
@@ -57,6 +57,6 @@ next-run-spec =
     returns-3
     (λ c κs. search needs)
     units-to-end-requires
-    slice-aggregate-units-allowed
+    slice-aggregate-with-units
     (λ c κs. search needs)
     returns-4)
