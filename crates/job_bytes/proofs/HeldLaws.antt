@@ -15,6 +15,7 @@ use Rattle.computed_tests.proofs.Tests.{and-both}
 use Rattle.entries.specs.Entry.{entrySize, statusOf, fileSizeOf, md5Of, isSaved, isCounted, fileSizeAllowed, entrySizeAllowed}
 use Rattle.entries.specs.Walk.{addEntry}
 use Rattle.entries.specs.declared.Totals.{Totals}
+use Rattle.list_scan.specs.declared.NameSoFar.{NameSoFar}
 use Rattle.list_scan.specs.declared.Scan.{Scan}
 use Rattle.list_scan.specs.Scan.{nameByte, isWhole, scanWith, entryEnded, stepOf, scanned, scanStart}
 use Rattle.list_scan.proofs.CountLaws.{counted}
@@ -97,12 +98,12 @@ entry-greatest true g n h k = omega arith
 entry-greatest false g n h k = h
 
 -- an entry that ends has a size that is allowed
-whole-size : (head : List ℕ) (at : ℕ) (named : Bool) → isWhole head at named ≡ true → fileSizeOf head ≤ 16777216
+whole-size : (head : List ℕ) (at : ℕ) (named : NameSoFar) → isWhole head at named ≡ true → fileSizeOf head ≤ 16777216
 unfolding isWhole
 whole-size head at named e =
     let one = and-both (eqb (entrySize head) at) _ e in
     let two = and-both (entrySizeAllowed at at) _ (one .1) in
-    leb-true _ _ (and-both (fileSizeAllowed (fileSizeOf head)) named (two .1) .0)
+    leb-true _ _ (and-both (fileSizeAllowed (fileSizeOf head)) _ (two .1) .0)
 
 ended-kept : (head : List ℕ) (t : Totals) (h : Md5) → length head ≡ 56 → t .greatest ≤ 16777216 → fileSizeOf head ≤ 16777216 → HeldMd5 h
     → Kept (entryEnded head t h)
@@ -125,7 +126,7 @@ kept-step sc b h k = by (isWhole head at named) refl
     at : ℕ
     at = sc .at + 1
 
-    named : Bool
+    named : NameSoFar
     named = nameByte (sc .named) (sc .at) (sc .low) b
 
     size : length head ≡ 56

@@ -5,11 +5,12 @@
 use mathlib.Core.Path.{_≡_, refl, sym, ap, _∙_, subst}
 use mathlib.Core.Bool.{Bool, true, false}
 use mathlib.Core.List.{List, [], _∷_, flatten}
-use Prim.Native.Nat.{ℕ, _+_, _^_, _<_}
+use Prim.Native.Nat.{ℕ, _+_, _*_, _^_, _<_}
 use native.Mathlib.Omega.{arith}
 use lib.ListN.{length, take}
 use Rattle.entries.specs.declared.Totals.{Totals}
 use Rattle.lent_bytes.proofs.PartsInRow.{At, at-part, at-next, at-number, at-open}
+use Rattle.list_scan.specs.declared.NameSoFar.{NameSoFar}
 use Rattle.list_scan.specs.declared.Scan.{Scan}
 use Rattle.little_endian.specs.Bytes.{fromLe, toLe, leAt, numbers}
 use Rattle.little_endian.proofs.Numbers.{length-toLe}
@@ -17,7 +18,7 @@ use Rattle.md5.specs.declared.Md5.{Md5}
 use Rattle.md5_blocks.specs.declared.rounds.Words.{Words}
 use Rattle.running_read.specs.declared.RunningRead.{RunningRead}
 use Rattle.job_bytes.specs.Claim.{HeldMd5, HeldScan, HeldRead, ReadLoadedBack}
-use Rattle.job_bytes.specs.Marks.{markOf, isMarked}
+use Rattle.job_bytes.specs.Marks.{markOf, isMarked, nameMark, nameMarked}
 use Rattle.job_bytes.specs.Reads.{wordsBytes, md5Bytes, scanBytes, readJobBytes, wordsAt, md5At, scanIn, readJobIn}
 use Rattle.job_bytes.proofs.ReadLaws.{Sized, length-words, length-md5, length-scan, length-read, words-read, md5-read, scan-read, read-read, read-of}
 
@@ -55,6 +56,21 @@ module _ {f : List ℕ} {i : ℕ} {ps : List (List ℕ)} where
       back true = refl
       back false = refl
 
+  at-name : (n : NameSoFar) → At f i (toLe 8 (nameMark n) ∷ ps) → nameMarked (leAt 8 f i) ≡ n
+  at-name n a = ap nameMarked (at-number 8 (nameMark n) (small (n .allowed) (n .dots)) a) ∙ back (n .allowed) (n .dots)
+    where
+      small : (t u : Bool) → markOf t + 2 * markOf u < 256 ^ 8
+      small true true = omega arith
+      small true false = omega arith
+      small false true = omega arith
+      small false false = omega arith
+
+      back : (t u : Bool) → nameMarked (markOf t + 2 * markOf u) ≡ record { allowed = t; dots = u }
+      back true true = refl
+      back true false = refl
+      back false true = refl
+      back false false = refl
+
 -- ---- a hash
 
 module _ (f : List ℕ) (i : ℕ) where
@@ -86,18 +102,18 @@ unfolding scanBytes numbers flatten
 scan-back f sc k at =
     let t : Totals = sc .totals in
     let six : List (List ℕ) =
-    toLe 8 (sc .at) ∷ toLe 8 (sc .low) ∷ toLe 8 (markOf (sc .named)) ∷ toLe 8 (t .entries) ∷ toLe 8 (t .saved) ∷ toLe 8 (t .greatest) ∷ [] in
+    toLe 8 (sc .at) ∷ toLe 8 (sc .low) ∷ toLe 8 (nameMark (sc .named)) ∷ toLe 8 (t .entries) ∷ toLe 8 (t .saved) ∷ toLe 8 (t .greatest) ∷ [] in
     let first = at-open (sc .head ∷ flatten six ∷ md5Bytes (sc .hash) ∷ []) at in
     let one = at-open six (at-on 56 248 (k .head-size) refl first) in
     let two = past 8 (sc .at) 256 refl one in
     let three = past 8 (sc .low) 264 refl two in
-    let four = past 8 (markOf (sc .named)) 272 refl three in
+    let four = past 8 (nameMark (sc .named)) 272 refl three in
     let five = past 8 (t .entries) 280 refl four in
     let last = past 8 (t .saved) 288 refl five in
     let hash = past 8 (t .greatest) 296 refl last in
     sym
     (scan-read f (sym (at-part 56 (k .head-size) first)) (sym (at-number 8 (sc .at) (k .at-fits) one)) (sym (at-low (sc .low) (k .low-fits) two))
-    (sym (at-mark (sc .named) three)) refl (sym (at-number 8 (t .entries) (k .entries-fit) four)) (sym (at-number 8 (t .saved) (k .saved-fit) five))
+    (sym (at-name (sc .named) three)) refl (sym (at-number 8 (t .entries) (k .entries-fit) four)) (sym (at-number 8 (t .saved) (k .saved-fit) five))
     (sym (at-number 8 (t .greatest) (k .greatest-fits) last)) (sym (md5-back f 296 (sc .hash) (k .hash-held) hash)))
 
 -- ---- a job

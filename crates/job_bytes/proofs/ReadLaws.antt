@@ -20,6 +20,7 @@ use lib.Seq.{sets, length-take-le}
 use Rattle.answer_bytes.specs.Results.{readInto}
 use Rattle.lent_bytes.proofs.StoreLaws.{Stores, stored, stored-all, stores-flatten, sets-over}
 use Rattle.lent_bytes.proofs.WritingLaws.{written-fits, unless-none, unless-refused, numbered-as}
+use Rattle.list_scan.specs.declared.NameSoFar.{NameSoFar}
 use Rattle.list_scan.specs.declared.Scan.{Scan}
 use Rattle.little_endian.specs.Bytes.{toLe, leAt, numbers}
 use Rattle.little_endian.proofs.NumberLists.{length-numbers}
@@ -32,7 +33,7 @@ use Rattle.running_read.specs.declared.RunningRead.{RunningRead}
 use Rattle.running_read.specs.declared.Pushed.{Pushed}
 use Rattle.running_read.specs.declared.Ended.{Ended}
 use Rattle.running_read.specs.Running.{startRead, overOf, pushAnswer, endAnswer}
-use Rattle.job_bytes.specs.Marks.{markOf, isMarked}
+use Rattle.job_bytes.specs.Marks.{markOf, isMarked, nameMark, nameMarked}
 use Rattle.job_bytes.specs.Reads.{wordsBytes, md5Bytes, scanBytes, readJobBytes, wordsAt, md5At, scanIn, readJobIn, readJobOf}
 use Rattle.job_bytes.specs.Reads.{readStored, readPushed, jobNumber, readEnded}
 
@@ -99,7 +100,7 @@ module _ (s : List ℕ) where
       (stored-on 16 (i + 16) (length-words (h .words)) refl a
       (stored-on 64 (i + 80) tail (omega arith) b (stored 8 (length-toLe 8 (h .total)) c stored-all)))
 
-  pub scan-stored : (sc : Scan) {k : ℕ} {t u v : List ℕ} → length (sc .head) ≡ 56 → length (sc .hash .tail) ≡ 64 → k ≡ markOf (sc .named)
+  pub scan-stored : (sc : Scan) {k : ℕ} {t u v : List ℕ} → length (sc .head) ≡ 56 → length (sc .hash .tail) ≡ 64 → k ≡ nameMark (sc .named)
       → t ≡ sets s 192 (sc .head)
       → u ≡ sets t 248 (numbers (sc .at ∷ sc .low ∷ k ∷ sc .totals .entries ∷ sc .totals .saved ∷ sc .totals .greatest ∷ []))
       → v ≡ sets u 296 (md5Bytes (sc .hash)) → v ≡ sets s 192 (scanBytes sc)
@@ -108,7 +109,7 @@ module _ (s : List ℕ) where
       let six : ℕ → List ℕ = λ k. sc .at ∷ sc .low ∷ k ∷ sc .totals .entries ∷ sc .totals .saved ∷ sc .totals .greatest ∷ [] in
       stores-flatten
       (stored 56 head a
-      (stored 48 (length-numbers (six (markOf (sc .named)))) (b ∙ ap (λ (k : ℕ). sets t 248 (numbers (six k))) mark)
+      (stored 48 (length-numbers (six (nameMark (sc .named)))) (b ∙ ap (λ (k : ℕ). sets t 248 (numbers (six k))) mark)
       (stored 88 (length-md5 (sc .hash) tail) c stored-all)))
 
 pub read-stored : (j : RunningRead) {k : ℕ} {t u v w x : List ℕ} → Sized j → k ≡ markOf (j .ended) → t ≡ sets (replicate 392 0) 0 (toLe 8 (j .total))
@@ -157,8 +158,8 @@ module _ (b : List ℕ) where
       → record { words = w; tail = tail; total = n } ≡ md5At b i
   md5-read i p q r = cc
 
-  pub scan-read : {at low k entries saved greatest : ℕ} {head : List ℕ} {named : Bool} {hash : Md5} → head ≡ take 56 (drop 192 b) → at ≡ leAt 8 b 248
-      → low ≡ leAt 1 b 256 → named ≡ isMarked k → k ≡ leAt 8 b 264 → entries ≡ leAt 8 b 272 → saved ≡ leAt 8 b 280 → greatest ≡ leAt 8 b 288
+  pub scan-read : {at low k entries saved greatest : ℕ} {head : List ℕ} {named : NameSoFar} {hash : Md5} → head ≡ take 56 (drop 192 b) → at ≡ leAt 8 b 248
+      → low ≡ leAt 1 b 256 → named ≡ nameMarked k → k ≡ leAt 8 b 264 → entries ≡ leAt 8 b 272 → saved ≡ leAt 8 b 280 → greatest ≡ leAt 8 b 288
       → hash ≡ md5At b 296
       → record {
         head = head;

@@ -1,7 +1,8 @@
 -- A running read in lent bytes: 392 of them, one part after another, numbers lowest byte first and of 64 bits unless a width is said.
 -- Bytes so far; header (96 bytes); control hash; scan of the list; 0, or another number where the job is over. A hash is its four words (32 bits),
--- its tail (64 bytes) and its total. A scan is the first 56 bytes of the entry at hand; how many of its bytes came, the last of them, whether its
--- name is allowed so far (0 where it is not), entries, saved entries, greatest size; the hash over the saved ones.
+-- its tail (64 bytes) and its total. A scan is the first 56 bytes of the entry at hand; how many of its bytes came, the last of them, two marks of
+-- its name so far (bit 0 where each unit is allowed, bit 1 where each is a dot), entries, saved entries, greatest size; the hash over the saved
+-- ones.
 --
 --   wordsBytes w, md5Bytes h, scanBytes sc, readJobBytes j   the bytes of four words, of a hash, of a scan and of a job
 --   wordsAt b i, md5At b i   the four words and the hash at byte i of b
@@ -28,7 +29,7 @@ use Rattle.refusals.specs.Tests.{bare}
 use Rattle.refusals.specs.declared.Refusal.{Refusal}
 use Rattle.running_read.specs.declared.RunningRead.{RunningRead}
 use Rattle.running_read.specs.Running.{startRead, overOf, pushAnswer, endAnswer}
-use Rattle.job_bytes.specs.Marks.{markOf, isMarked}
+use Rattle.job_bytes.specs.Marks.{markOf, isMarked, nameMark, nameMarked}
 
 -- ---- the bytes of a job
 
@@ -43,7 +44,7 @@ scanBytes sc =
     let t = sc .totals in
     flatten
     (sc .head
-    ∷ numbers (sc .at ∷ sc .low ∷ markOf (sc .named) ∷ t .entries ∷ t .saved ∷ t .greatest ∷ [])
+    ∷ numbers (sc .at ∷ sc .low ∷ nameMark (sc .named) ∷ t .entries ∷ t .saved ∷ t .greatest ∷ [])
     ∷ md5Bytes (sc .hash)
     ∷ [])
 
@@ -66,7 +67,7 @@ scanIn b =
       head = take 56 (drop 192 b);
       at = leAt 8 b 248;
       low = leAt 1 b 256;
-      named = isMarked (leAt 8 b 264);
+      named = nameMarked (leAt 8 b 264);
       totals = record { entries = leAt 8 b 272; saved = leAt 8 b 280; greatest = leAt 8 b 288 };
       hash = md5At b 296;
     }

@@ -7,6 +7,8 @@ ghost use Rattle.job_bytes.specs.Reads.{wordsBytes, md5Bytes, scanBytes,
 ghost use Rattle.job_bytes.specs.Reads.{readStored, readStarted, readPushed, jobNumber, readEnded};
 use crate::marks::is_marked;
 use crate::marks::mark;
+use crate::marks::name_mark;
+use crate::marks::name_marked;
 use answer_bytes::put_reading;
 use entries::Totals;
 use lent_bytes::put;
@@ -117,7 +119,7 @@ fn scan_in(bytes: &[u8]) -> Scan
         head,
         at: read64(bytes, 248),
         low: read8(bytes, 256),
-        named: is_marked(read64(bytes, 264)),
+        named: name_marked(read64(bytes, 264)),
         totals: Totals {
             entries: read64(bytes, 272),
             saved: read64(bytes, 280),
@@ -187,12 +189,13 @@ fn put_scan(out: &mut [u8], scan: Scan)
     ensures { λ _. ⌜ now (out .exit) ≡ sets (now (out .entry)) 192 (scanBytes scan) ⌝ }
 {
     let head = scan.head;
+    let named = scan.named;
     let totals = scan.totals;
     let hash = scan.hash;
     let numbers = [
         scan.at,
         scan.low as u64,
-        mark(scan.named),
+        name_mark(named),
         totals.entries,
         totals.saved,
         totals.greatest,

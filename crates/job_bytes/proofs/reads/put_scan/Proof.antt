@@ -19,8 +19,8 @@ returns c =
     let numbered = hashed .before .before .before .before in
     let first = numbered .before .before .before .before .before in
     let marked = first .before .before .before in
-    let start = marked .before .before .before .before .before .before in
-    scan-stored _ (start .args .scan) (head-length start) (tail-length start) (marked .mark .ensures) (first .put .ensures)
+    let start = marked .before .before .before .before .before .before .before in
+    scan-stored _ (start .args .scan) (head-length start) (tail-length start) (marked .name-mark .ensures) (first .put .ensures)
     (numbered .write-numbers .ensures) (hashed .put-md5 .ensures)
 
 pub put-scan-spec : {M : Type 1} → statement M

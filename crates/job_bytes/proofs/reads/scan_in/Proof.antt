@@ -18,7 +18,7 @@ returns c =
     let start = stored .before .before .before .before in
     let b = now (start .args .bytes) in
     let head = copied 56 192 b (omega (arith, start .pre)) (stored .before .part .ensures) (stored .put .ensures) in
-    scan-read b head (numbered .read64 .ensures) (marked .before .before .read8 .ensures) (marked .is-marked .ensures)
+    scan-read b head (numbered .read64 .ensures) (marked .before .before .read8 .ensures) (marked .name-marked .ensures)
     (marked .before .read642 .ensures) (c .before .before .read643 .ensures) (c .before .read644 .ensures) (c .read645 .ensures)
     (numbered .before .md5-at .ensures)
 
