@@ -22,7 +22,7 @@ use Rattle.little_endian.proofs.Numbers.{length-toLe}
 use Rattle.little_endian.proofs.Reading.{leAt-append}
 use Rattle.md5.specs.Digest.{md5}
 use Rattle.refusals.specs.Tests.{bare, test}
-use Rattle.entries.specs.Entry.{entrySize, statusOf, fileSizeOf, md5Of, md5Of16k, nameOf, unitsOf, unitsAllowed, nameAllowed, fileSizeAllowed}
+use Rattle.entries.specs.Entry.{entrySize, statusOf, fileSizeOf, md5Of, md5Of16k, nameOf, nameAllowed, fileSizeAllowed}
 use Rattle.entries.specs.Walk.{firstOf, entriesOf}
 use Rattle.entries.specs.declared.Item.the-variants.{Entry}
 use Rattle.entries.proofs.EntryLaws.{first-entry, is-entry}
@@ -69,7 +69,7 @@ entry-fields m status name s n k =
 
 -- ---- the rules
 
--- a name that is written has whole units, one or more, each of them allowed
+-- a name that is written has whole units, one or more, and keeps the rule
 record Named (name : List ℕ) : Type 0 where
   some : 2 ≤ length name
   even : length name % 2 ≡ 0
@@ -78,7 +78,7 @@ record Named (name : List ℕ) : Type 0 where
 named-right : (name : List ℕ) → nameAllowed name ≡ true → Named name
 unfolding nameAllowed
 named-right name e =
-    let both = and-both (leb 2 (length name) && eqb (length name % 2) 0) (unitsAllowed (unitsOf name)) e in
+    let both = and-both (leb 2 (length name) && eqb (length name % 2) 0) _ e in
     let two = and-both (leb 2 (length name)) (eqb (length name % 2) 0) (both .0) in
     record { some = leb-true _ _ (two .0); even = eqb-true _ _ (two .1); allowed = e }
 
