@@ -6,6 +6,7 @@ pub mod FaultLaws
 mod LineLaws
 mod NameLaws
 mod Outcomes
+pub mod PassedOver
 pub mod RangeLaws
 mod SaysLaws
 pub mod ShapeLaws

@@ -5,6 +5,7 @@
 --   Line l               l is the line of some sum and name
 --   Shape                lines of that shape, and no others, are taken for lines
 --   Fits e, Names name e, Listed es name     the entry e fits a line; it has this name; one of the entries es does
+--   NamesPassedOver      a name that no entry may have is listed nowhere
 --   Spells sum md5       the digits sum spell the bytes md5
 --   Good es ls           the lines ls have the shape, and those of one listed name have one sum
 --   Faulty es ls s n     after the lines ls, what s begins with is faulty by the refusal n
@@ -33,6 +34,7 @@ use Rattle.refusals.specs.declared.Refusal.{Refusal}
 use Rattle.lent_bytes.specs.Writing.{refused, accepted}
 use Rattle.lent_bytes.specs.declared.Writing.the-variants.{Written, Refused}
 use Rattle.cut_lists.specs.All.{All}
+use Rattle.entries.specs.Claim.{Unstorable}
 use Rattle.entries.specs.Entry.{md5Of, nameOf, unitsOf}
 use Rattle.par1_read.specs.Reading.{entriesIn, readOf}
 use Rattle.par1_read.specs.declared.reading.Parts.{Parts}
@@ -76,6 +78,11 @@ Names name e = Fits e × (unitsOf (nameOf e) ≡ name)
 
 abbrev pub Listed : List (List ℕ) → List ℕ → Type 0
 Listed es name = (k : ℕ) × (k < length es) × Names name (getD es k [])
+
+-- document 02, 2026-14: "lines of md5sum text with such names are still passed over": a line of a name that is not listed is faulty by its shape
+-- alone (Faulty), and says nothing of an entry (Says); proved: proofs/PassedOver.antt, `names-passed-over`
+abbrev pub NamesPassedOver : Type 0
+NamesPassedOver = (f name : List ℕ) → Unstorable name → Listed (entriesIn f) name → ⊥
 
 -- two digits for each byte
 pub record Spells (sum md5 : List ℕ) : Type 0 where
