@@ -22,10 +22,11 @@ use Rattle.cut_lists.specs.Pieces.{Cut, before}
 use Rattle.cut_lists.proofs.AllLaws.{all-map}
 use Rattle.cut_lists.proofs.CutLaws.{cut-none}
 use Rattle.refusals.specs.Limits.{maxFiles, maxFileSize, maxEntries}
+use Rattle.lent_bytes.specs.Equal.{equal}
 use Rattle.little_endian.specs.Bytes.{Bytes, fromLe, toLe, leAt}
 use Rattle.little_endian.proofs.Numbers.{length-toLe, bytes-take, bytes-drop, bytes-append}
 use Rattle.little_endian.proofs.Reading.{to-leAt}
-use Rattle.entries.specs.Entry.{statusOf, fileSizeOf, md5Of, isSaved, savedCount, isCounted, nameAllowed, unitsAllowed, unitAllowed, unitsOf, fileSizeAllowed, lengthOf}
+use Rattle.entries.specs.Entry.{statusOf, fileSizeOf, md5Of, isSaved, savedCount, isCounted, nameAllowed, eachUnit, unitAllowed, isDots, unitsOf, fileSizeAllowed, lengthOf}
 use Rattle.entries.specs.Numbering.{savedOf}
 use Rattle.entries.specs.Walk.{entriesOf, greatestOf, totalsOf, walkedTo, walkOf}
 use Rattle.entries.specs.declared.Walked.the-variants as walked
@@ -95,7 +96,7 @@ abbrev SizeRight : List ℕ → Type 0
 SizeRight r = fileSizeAllowed (sizeOf r) ≡ true
 
 made : (r : List ℕ) → SizeRight r → Made r
-unfolding madeEntry nameAllowed unitsAllowed unitAllowed unitsOf leAt fromLe
+unfolding madeEntry nameAllowed eachUnit unitAllowed isDots equal unitsOf leAt fromLe
 made r h =
     let m : List ℕ = replicate (sizeOf r) 0 in
     let back : EntryBack (entryBytes m (madeStatus r) oneName) m (madeStatus r) oneName =
