@@ -66,7 +66,7 @@ pub const ENTRY_SIZE: u32 = 16;
 // The file size of an entry is above its limit; or so are the contents or the status of an entry to be written.
 pub const FILE_SIZE: u32 = 17;
 
-// The name of an entry has a unit that is not allowed; or that of an entry to be written is no name.
+// The name of an entry is not allowed: a unit of it is not, or it is "." or ".."; or that of an entry to be written is empty or odd.
 pub const NAME: u32 = 18;
 
 // The number of entries differs.
