@@ -43,7 +43,7 @@ enum {
     PAR1_DIFFERENT = 15,    /* length, MD5 or 16k MD5 differ from the entry */
     PAR1_ENTRY_SIZE = 16,   /* an entry's own size is odd, below 58 or past the end, or fewer than 8 bytes are left for it */
     PAR1_FILE_SIZE = 17,    /* an entry's file size is above its limit; or the contents or the status of an entry to be written */
-    PAR1_NAME = 18,         /* a unit of an entry's name is not allowed; or the name of an entry to be written is empty or odd */
+    PAR1_NAME = 18,         /* an entry's name has a unit 0, 47 (/), 58 (:) or 92 (\), or is . or ..; or that of one to be written is empty or odd */
     PAR1_ENTRY_COUNT = 19,  /* the number of entries differs */
     PAR1_JOB = 20,          /* the job is over, or no run of pushes gives it */
     PAR1_STRETCH = 21,      /* the stretch lies neither inside the file nor on its end, or the new entry does not go with it */
@@ -146,8 +146,8 @@ uint32_t par1_entry(const uint8_t *list, size_t list_len, uint8_t *out, size_t o
 
 /* Writes the entry of a file with these contents, status and name (in 16-bit units, two bytes each) over the first 56 + name_len bytes of
  * `out`. The status is 1 where the file is saved in the parity, else 0; bit 1, once "checked", is not written any more. Refuses with 17 where the
- * contents are above 16,777,216 bytes or the status is above 1, with 18 where the name is not one or more whole units other than 47 and 92, then
- * with 14 where `out` is shorter. */
+ * contents are above 16,777,216 bytes or the status is above 1, with 18 where the name is not one or more whole units other than 0, 47, 58
+ * and 92, or is the whole name . or .., then with 14 where `out` is shorter. */
 uint32_t par1_write_entry(const uint8_t *contents, size_t contents_len, uint64_t status, const uint8_t *name, size_t name_len, uint8_t *out,
                           size_t out_len);
 
@@ -303,12 +303,12 @@ uint32_t par1_mul_add_push(uint8_t *job, size_t job_len, const uint8_t *fragment
 /* Ends a mul_add. Refuses with 20. */
 uint32_t par1_mul_add_end(uint8_t *job, size_t job_len);
 
-/* A reading in chunks is 392 bytes: how many bytes came, a number that stops at 33,554,433; the first 96 of them; the running hash of those
- * from 32 on; of the entry at hand the first 56 bytes, then as numbers how many came, the last of them, and 1 where its name's units are
- * allowed so far; as numbers the entries before it, those saved, the greatest size; the running hash of the saved entries' MD5s; a number, 0
- * while it runs, any other where it is over. A running hash is `words`, `tail` and `total` as above. No run of pushes gives more than
- * 33,554,433 bytes, hashes of another number of bytes than these counts say, more saved entries than entries, or more bytes of entries, 58
- * for each whole one, than came after the first 96. */
+/* A reading in chunks is 392 bytes: how many bytes came, a number that stops at 33,554,433; the first 96 of them; the running hash of those from 32
+ * on; of the entry at hand the first 56 bytes, then as numbers how many came, the last of them, and 1 where its name's units are allowed so far, with
+ * 2 more where they are all dots; as numbers the entries before it, those saved, the greatest size; the running hash of the saved entries' MD5s; a
+ * number, 0 while it runs, any other where it is over. A running hash is `words`, `tail` and `total` as above. No run of pushes gives more than
+ * 33,554,433 bytes, hashes of another number of bytes than these counts say, more saved entries than entries, or more bytes of entries, 58 for each
+ * whole one, than came after the first 96. */
 
 /* Starts a reading in the first 392 bytes of `job`. Refuses with 14 where `job` is shorter. */
 uint32_t par1_read_start(uint8_t *job, size_t job_len);

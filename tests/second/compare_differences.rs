@@ -248,6 +248,8 @@ pub fn refused_files() -> Vec<(u32, Vec<u8>)> {
         (16, with(&|f| put(f, 96, 59))),
         (17, with(&|f| put(f, 96 + 16, 16_777_217))),
         (18, with(&|f| f[96 + 56] = 47)),
+        (18, with(&|f| f[96 + 58] = 58)),
+        (18, with(&|f| f[96 + 56..96 + 60].copy_from_slice(b".\0.\0"))),
         (19, with(&|f| put(f, 56, 4))),
         (7, with(&|f| put(f, 48, 254))),
         (8, with(&|f| f[32] ^= 1)),

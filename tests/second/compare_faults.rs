@@ -18,7 +18,7 @@ pub fn good(entries: usize) -> Vec<u8> {
 /// What is wrong, its number, and how it is made in a part of a list, at the entry that the part begins with.
 pub type Fault = (&'static str, u32, fn(&mut [u8]));
 
-pub const FAULTS: [Fault; 12] = [
+pub const FAULTS: [Fault; 17] = [
     ("entry size 0", 16, |rest| put(rest, 0, 0)),
     ("entry size 56", 16, |rest| put(rest, 0, 56)),
     ("entry size 57", 16, |rest| put(rest, 0, 57)),
@@ -31,6 +31,11 @@ pub const FAULTS: [Fault; 12] = [
     ("first unit 47", 18, |rest| rest[56] = 47),
     ("first unit 92", 18, |rest| rest[56] = 92),
     ("last unit 47", 18, |rest| rest[58] = 47),
+    ("first unit 0", 18, |rest| rest[56] = 0),
+    ("last unit 0", 18, |rest| rest[58] = 0),
+    ("first unit 58", 18, |rest| rest[56] = 58),
+    ("last unit 58", 18, |rest| rest[58] = 58),
+    ("the name ..", 18, |rest| rest[56..60].copy_from_slice(b".\0.\0")),
 ];
 
 pub fn put(rest: &mut [u8], at: usize, number: u64) {
@@ -167,7 +172,8 @@ fn lone(counts: &mut Counts) {
 fn written(counts: &mut Counts) {
     let long = vec![0; 16_777_217];
     let names: [(&[u8], u32); 7] = [(b"A\0", 0), (b"", 18), (b"A", 18), (b"A\0B", 18), (b"/\0", 18), (b"A\0\\\0", 18), (b"/\0A", 18)];
-    for (name, named) in names {
+    let unstorable: [(&[u8], u32); 6] = [(b"\0\0", 18), (b"A\0:\0", 18), (b".\0", 18), (b".\0.\0", 18), (b".\0.\0.\0", 0), (b".\0A\0", 0)];
+    for (name, named) in names.into_iter().chain(unstorable) {
         let statuses = [(&b"12345"[..], 1, 0), (b"", 2, 17), (b"", 3, 17), (b"", 4, 17), (b"", u64::MAX, 17), (&long, 0, 17), (&long, 2, 17)];
         for (contents, status, sized) in statuses {
             for room in [0, 100] {

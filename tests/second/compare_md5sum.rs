@@ -5,6 +5,7 @@
 use crate::compare_codes::turned;
 use crate::compare_differences::refused_files;
 use crate::compare_faults::at;
+use crate::compare_par1::unhashed;
 use crate::field::Code;
 use crate::files::{list, File};
 use crate::{calls, expected, par1, rounds, small, Counts, Random};
@@ -141,7 +142,7 @@ fn each_byte(counts: &mut Counts) {
 /// A name of each length, in texts with it, with a byte more, a byte less, and another last byte.
 fn lengths(counts: &mut Counts, random: &mut Random) {
     for n in (1..=300).step_by(if small() { 29 } else { 1 }) {
-        let name: Vec<u8> = (0..n).map(|_| b"ABC.~ "[random.below(6)]).collect();
+        let name: Vec<u8> = (0..n).map(|i| b"ABC.~ "[random.below(if i == 0 { 3 } else { 6 })]).collect();
         let whole = index(&[file(b"a", &name), file(b"b", b"X")]);
         let mut other = name.clone();
         other[n - 1] ^= 1;
@@ -156,11 +157,18 @@ fn lengths(counts: &mut Counts, random: &mut Random) {
     }
 }
 
-/// Names of one unit: those of 32 to 126 fit; the others have no line, whatever bytes a line has.
+/// Names with a unit: those of 32 to 126 fit; the others have no line, whatever bytes a line has; a name with 0, 47, 58 or 92 is in no list.
 fn fits(counts: &mut Counts) {
     let all = (0..=300).chain([0x4100, 0x4141, 0x0a41, 0x2020, 0x7e00, 0x8041, 0xd83d, 0xfffe, 0xffff]);
-    for unit in all.filter(|unit| ![47, 92].contains(unit)).step_by(if small() { 13 } else { 1 }) {
+    for unit in all.step_by(if small() { 13 } else { 1 }) {
         let name = [&[b'A', 0][..], &(unit as u16).to_le_bytes()].concat();
+        if [0, 47, 58, 92].contains(&unit) {
+            let whole = unhashed(0, 1, &File { contents: b"a".to_vec(), status: 1, name }.entry());
+            let got = export(counts, "a unit", &whole, &[0xee; 73]).0;
+            counts.same(|| format!("a name with unit {unit} exported"), got, at(18, 1));
+            says(counts, &format!("unit {unit}"), &whole, b"", at(18, 1), &[0; 2]);
+            continue;
+        }
         let whole = index(&[file(b"1", b"X"), File { contents: b"a".to_vec(), status: 1, name }]);
         let fit = (32..=126).contains(&unit);
         let (low, high) = ((unit % 256) as u8, (unit / 256) as u8);

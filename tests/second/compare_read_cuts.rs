@@ -63,9 +63,9 @@ fn in_three(counts: &mut Counts, whole: &Whole) {
     }
 }
 
-/// Entries with these names, sizes and states, and one unit a name that is no slash however its bytes are paired with their neighbours.
+/// Entries with these names, sizes and states: units that are allowed, and would not be if their bytes were paired with their neighbours'; and dots.
 fn names() -> Vec<u8> {
-    let units: [&[u8]; 4] = [b"A\0", b"/\x01\0/\0\\\\\x02", b"\0/\0\\", b"x\0y\0z\0"];
+    let units: [&[u8]; 7] = [b"A\0", b"/\x01\0/\0\\\\\x02", b"\0/\0\\", b"x\0y\0z\0", b":\x01\0:\0.", b".\0.\0.\0", b".\0A\0"];
     (0..).zip(units).flat_map(|(status, name)| File { contents: b"12345".to_vec(), status, name: name.to_vec() }.entry()).collect()
 }
 

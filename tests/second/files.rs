@@ -12,10 +12,11 @@ pub struct File {
 }
 
 impl File {
-    /// Its entry, with any status: writing an entry takes none above 1.
+    /// Its entry, with any status and any units in its name: writing an entry takes no status above 1, and not every name.
     pub fn entry(&self) -> Vec<u8> {
-        let mut entry = par1::write_entry(&self.contents, 0, &self.name).unwrap();
+        let mut entry = par1::write_entry(&self.contents, 0, &b"A\0".repeat(self.name.len() / 2)).unwrap();
         put(&mut entry, 8, self.status);
+        entry[56..].copy_from_slice(&self.name);
         entry
     }
 

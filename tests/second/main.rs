@@ -25,6 +25,7 @@ mod compare_inventory;
 mod compare_md5;
 mod compare_md5sum;
 mod compare_mul_add_job;
+mod compare_names;
 mod compare_par1;
 mod compare_parity;
 mod compare_quarantine;
@@ -90,7 +91,7 @@ impl Random {
 fn main() {
     let mut counts = Counts { passed: 0, failed: 0 };
     let mut random = Random(2026);
-    let parts: [(&str, fn(&mut Counts, &mut Random)); 24] = [
+    let parts: [(&str, fn(&mut Counts, &mut Random)); 25] = [
         ("md5", compare_md5::run),
         ("field", compare_field::run),
         ("parity", compare_parity::run),
@@ -115,6 +116,7 @@ fn main() {
         ("replays", compare_replay::run),
         ("sums", compare_sums::run),
         ("codes", compare_codes::run),
+        ("names", compare_names::run),
     ];
     for (name, run) in parts {
         let before = counts.passed + counts.failed;

@@ -1,5 +1,5 @@
 //! Par 1.0 files, written from document 000, document 01 ("Byte layout", "What comes back") and document 02 (2026-01, 2026-02,
-//! 2026-09, 2026-13) alone.
+//! 2026-09, 2026-13, 2026-14) alone.
 
 use crate::field::{Code, CODES};
 use crate::md5::digest;
@@ -58,8 +58,11 @@ pub struct Entry {
     pub name: Vec<u8>,
 }
 
+/// "no unit is 47 ("/") or 92 ("\\")"; "Units 0 and 58 (":") are now not allowed anywhere, nor the whole names "." and "..""
 fn name_allowed(name: &[u8]) -> bool {
-    !name.is_empty() && name.len() % 2 == 0 && name.chunks(2).all(|u| ![47, 92].contains(&number(u)))
+    let units: Vec<u64> = name.chunks(2).map(number).collect();
+    let whole = name.len() % 2 == 0 && !units.is_empty();
+    whole && units != [46] && units != [46, 46] && units.iter().all(|unit| ![0, 47, 58, 92].contains(unit))
 }
 
 /// "entry size odd, below 58, past the list's end .. or fewer than 8 bytes left": the size of the first entry, where it is none of these
