@@ -208,9 +208,9 @@ fn every_unit(counts: &mut Counts) {
 pub fn run(counts: &mut Counts, _: &mut Random) {
     let names = refused().into_iter().map(|name| (name, false)).chain(allowed().into_iter().map(|name| (name, true)));
     for (i, (units, fits)) in names.enumerate() {
-        let code = CODES[i % 2];
         entries(counts, &units, fits);
-        for place in [1, 2, 3].into_iter().skip(if small() { i % 3 } else { 0 }).take(if small() { 1 } else { 3 }) {
+        let places = CODES.into_iter().flat_map(|code| [1, 2, 3].map(|place| (code, place)));
+        for (code, place) in places.skip(if small() { i % 6 } else { 0 }).take(if small() { 1 } else { 6 }) {
             written(counts, code, &units, place, fits);
             read(counts, code, &units, place, fits);
             amended(counts, code, &units, place, fits);
