@@ -305,10 +305,10 @@ uint32_t par1_mul_add_end(uint8_t *job, size_t job_len);
 
 /* A reading in chunks is 392 bytes: how many bytes came, a number that stops at 33,554,433; the first 96 of them; the running hash of those from 32
  * on; of the entry at hand the first 56 bytes, then as numbers how many came, the last of them, and 1 where its name's units are allowed so far, with
- * 2 more where they are all dots; as numbers the entries before it, those saved, the greatest size; the running hash of the saved entries' MD5s; a
- * number, 0 while it runs, any other where it is over. A running hash is `words`, `tail` and `total` as above. No run of pushes gives more than
- * 33,554,433 bytes, hashes of another number of bytes than these counts say, more saved entries than entries, or more bytes of entries, 58 for each
- * whole one, than came after the first 96. */
+ * 2 more where they are all dots, so 3 before its first unit (other bits have no meaning); as numbers the entries before it, those saved, the greatest
+ * size; the running hash of the saved entries' MD5s; a number, 0 while it runs, any other where it is over. A running hash is `words`, `tail` and
+ * `total` as above. No run of pushes gives more than 33,554,433 bytes, hashes of another number of bytes than these counts say, more saved entries than
+ * entries, or more bytes of entries, 58 for each whole one, than came after the first 96. A reading belongs to the build that began it. */
 
 /* Starts a reading in the first 392 bytes of `job`. Refuses with 14 where `job` is shorter. */
 uint32_t par1_read_start(uint8_t *job, size_t job_len);
