@@ -8,6 +8,7 @@
 --   WrittenRead                  every accepted file, written from what reading gave, has the same bytes
 --   EntryAccepted                the entry of a file that keeps the rules is written as the format defines, where there is room for it
 --   StatusRefused                no entry is written with a status above 1, whatever else is given
+--   NameRefused                  an entry with contents and a status that are allowed is refused with 18 exactly where its name is bad
 --   EntryBack e m st name        the entry e is that of a file with the contents m, the status st and the name
 --   EntryWritten                 every written entry is that of its file
 --   FaultWritten                 a list with an entry that breaks a rule is refused for the first one
@@ -28,7 +29,7 @@ use Rattle.refusals.specs.declared.Refusal.{Refusal}
 use Rattle.cut_lists.specs.Pieces.{before}
 use Rattle.little_endian.specs.Bytes.{Bytes}
 use Rattle.codes.specs.declared.Code.{Code}
-use Rattle.entries.specs.Claim.{Breaks, FirstFault}
+use Rattle.entries.specs.Claim.{Breaks, FirstFault, BadName}
 use Rattle.entries.specs.Entry.{entrySize, statusOf, fileSizeOf, md5Of, md5Of16k, nameOf, nameAllowed, fileSizeAllowed}
 use Rattle.entries.specs.Numbering.{savedOf}
 use Rattle.entries.specs.Walk.{firstOf, entriesOf, walkOf}
@@ -114,6 +115,14 @@ EntryAccepted =
 -- "Refusals: writing an entry with status 2 or 3 now gives 17", and nothing is written; proved: proofs/EntryWritten.antt, `status-refused`
 abbrev pub StatusRefused : Type 0
 StatusRefused = (m : List ℕ) (status : ℕ) (name out : List ℕ) → 1 < status → writeEntryOf m status name out ≡ refused (bare 17) out
+
+-- document 02, 2026-14: "Every call that meets an entry's name follows the new rule .. Refusals: 18, as for the slashes", and nothing is written;
+-- proved: proofs/EntryWritten.antt, `name-refused`
+abbrev pub NameRefused : Type 0
+NameRefused =
+    (m : List ℕ) (status : ℕ) (name out : List ℕ) → fileSizeAllowed (length m) ≡ true → status ≤ 1
+    → (writeEntryOf m status name out ≡ refused (bare 18) out → BadName name)
+    × (BadName name → writeEntryOf m status name out ≡ refused (bare 18) out)
 
 pub record EntryBack (e m : List ℕ) (status : ℕ) (name : List ℕ) : Type 0 where
   -- at the front of a list, whatever follows
