@@ -11,7 +11,7 @@
 --   BadName n         the bytes n are no name: they have no unit, or half a unit, or are unstorable
 --   NameRule          nameAllowed fails of a name exactly where it is that
 --   NamesRefused      an entry of the right sizes is refused with 18 exactly where its name is unstorable
--- The contract of walk cites walkOf, and that of every call that meets a name of its own nameAllowed.
+-- The contract of walk cites walkOf; the contracts of the other calls that meet a name lead to nameAllowed.
 -- Assumes nothing.
 use mathlib.Core.Path.{_≡_}
 use mathlib.Core.Bool.{true, false}

@@ -34,7 +34,8 @@ unfoldable pub faultOf : List ℕ → Fault
 faultOf s =
     cond (entrySizeAllowed (entrySize s) (length s)) (cond (fileSizeAllowed (fileSizeOf (take (entrySize s) s))) Name FileSize) Size
 
--- "16 entry size odd, below 58, past the list's end or .. fewer than 8 bytes left; 17 file size above the limit ..; 18 name unit not allowed"
+-- "16 entry size odd, below 58, past the list's end or .. fewer than 8 bytes left; 17 file size above the limit ..; 18 name unit not allowed";
+-- 2026-14, for names: "18, as for the slashes"
 abbrev pub faultNumber : Fault → ℕ
 faultNumber Size = 16
 faultNumber FileSize = 17

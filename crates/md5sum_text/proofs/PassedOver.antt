@@ -1,4 +1,6 @@
--- Names that no entry may have are listed nowhere: the entries of a file keep every rule.
+-- Names that no entry may have are listed nowhere.
+--
+--   names-passed-over    the claim: the entries of a file keep every rule, so none of them has such a name
 -- Assumes nothing.
 use mathlib.Core.Path.{sym, _∙_, subst}
 use mathlib.Core.Bool.{true≢false}

@@ -1,4 +1,4 @@
--- The numbers 16 to 19 stand where document 01 alone has 6, and the other code's version is 3 by it.
+-- The numbers 16 to 19 stand where document 01 alone has 6, names by the rule as it is now (2026-14), and the other code's version is 3 by it.
 --
 --   Formerly n k      k is what document 01 has for the number n of a refusal, which is not 6 itself
 --   tests-formerly    tests 1 to 5, and then those on the list

@@ -5,7 +5,7 @@
 --   ReadPlaced     so is the refusal of every file
 --   FaultRead      where tests 1 to 5 hold nowhere and an entry breaks a rule, the file is refused for it
 --   FormerSix      a file whose version is not the other code's is refused with 16 to 19 exactly where document 01 alone has 6, and with the same
---                  number everywhere else
+--                  number everywhere else, where the data size and names go by the rules as they are now (2026-02, 2026-14)
 --   FormerThree    a file of the other code's version, with the length and the signature that it must have, is 3 by document 01 alone
 -- The contracts of read_from and read cite readFrom and readOf.
 -- Assumes nothing.

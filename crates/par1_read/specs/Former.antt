@@ -1,6 +1,6 @@
 -- The number of a file's refusal as document 01 has it ("Reading tests 1 to 9 in this order and returns the first that holds"), with 6
 -- for every fault of an entry, of the list and of the count, and Par 1.0's version alone. Test 9 goes by the data size as it is now (document
--- 02, 2026-02).
+-- 02, 2026-02), and names go by the rule as it is now (2026-14): a name of a colon alone is 6 here, and document 01 alone accepts it.
 --
 --   formerNumber n        what document 01 has for the number n of document 02, 2026-01: "Where 01 says 6, read these"
 --   formerInList f w      the first of tests 6 to 9 that holds of the file f, where w is the walk over its list, 0 where none does

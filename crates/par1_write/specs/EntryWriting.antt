@@ -32,7 +32,7 @@ abbrev pub statusAllowed : ℕ → Bool
 statusAllowed status = leb status 1
 
 -- "17 file size above the limit (and contents or status in writing an entry); 18 name unit not allowed (in writing also a name empty or of
--- odd length)"
+-- odd length)"; 2026-14, for names: "18, as for the slashes"
 unfoldable pub entryRefusal : ℕ → ℕ → List ℕ → ℕ
 entryRefusal size status name =
     test (faultNumber fault.FileSize) (fileSizeAllowed size)
