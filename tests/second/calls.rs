@@ -1,7 +1,9 @@
-//! The C library's calls. Each room that a call writes has guard bytes on both sides; those of mul_add's buffer are where it is compared.
+//! The C library's calls. Each room that a call writes has guard bytes on both sides; those of mul_add's buffer are where it is compared. Where `pages`
+//! says so, rooms and slices lie beside pages that cannot be touched instead.
 
 use crate::amend::Amendment;
 use crate::inventory::Change;
+use crate::pages::{self, readable};
 use std::sync::atomic::{AtomicU64, Ordering};
 
 extern "C" {
@@ -52,6 +54,9 @@ pub fn came_back() -> Vec<u64> {
 
 /// Lends a copy of `room` with guard bytes around it: the call's answer, and the room after it. A guard that changed ends the run.
 pub fn guarded<A>(room: &[u8], call: impl FnOnce(*mut u8, usize) -> A) -> (A, Vec<u8>) {
+    if let Some(side) = pages::side() {
+        return pages::lent(side, room, call);
+    }
     let mut space = vec![0xa5; GUARD];
     space.extend_from_slice(room);
     space.extend(vec![0x5a; GUARD]);
@@ -69,6 +74,7 @@ pub fn lent<A: Copy + Into<u64>>(room: &[u8], call: impl FnOnce(*mut u8, usize) 
 }
 
 pub fn md5(bytes: &[u8], room: &[u8]) -> (u32, Vec<u8>) {
+    let [bytes] = readable([bytes]);
     lent(room, |out, len| unsafe { par1_md5(bytes.as_ptr(), bytes.len(), out, len) })
 }
 
@@ -81,33 +87,37 @@ pub fn coefficient(code: u32, file: u64, volume: u64, room: &[u8]) -> (u32, Vec<
 }
 
 pub fn mul_add(weight: u8, fragment: &[u8], buffer: &mut [u8]) {
+    let [fragment] = readable([fragment]);
     unsafe { par1_mul_add(weight, fragment.as_ptr(), fragment.len(), buffer.as_mut_ptr(), buffer.len()) }
 }
 
 pub fn read(file: &[u8], room: &[u8]) -> (u64, Vec<u8>) {
+    let [file] = readable([file]);
     lent(room, |out, len| unsafe { par1_read(file.as_ptr(), file.len(), out, len) })
 }
 
 pub fn entry(list: &[u8], room: &[u8]) -> (u32, Vec<u8>) {
+    let [list] = readable([list]);
     lent(room, |out, len| unsafe { par1_entry(list.as_ptr(), list.len(), out, len) })
 }
 
 pub fn check(entry: &[u8], contents: &[u8]) -> u32 {
+    let [entry, contents] = readable([entry, contents]);
     counted(unsafe { par1_check(entry.as_ptr(), entry.len(), contents.as_ptr(), contents.len()) })
 }
 
 pub fn write_entry(contents: &[u8], status: u64, name: &[u8], room: &[u8]) -> (u32, Vec<u8>) {
-    let (m, n) = (contents, name);
+    let [m, n] = readable([contents, name]);
     lent(room, |out, len| unsafe { par1_write_entry(m.as_ptr(), m.len(), status, n.as_ptr(), n.len(), out, len) })
 }
 
 pub fn write_volume(code: u32, program: u32, number: u64, list: &[u8], data: &[u8], room: &[u8]) -> (u64, Vec<u8>) {
-    let (l, d) = (list, data);
+    let [l, d] = readable([list, data]);
     lent(room, |out, len| unsafe { par1_write_volume(code, program, number, l.as_ptr(), l.len(), d.as_ptr(), d.len(), out, len) })
 }
 
 pub fn amend(room: &[u8], length: u64, a: &Amendment) -> (u64, Vec<u8>) {
-    let (o, n, e) = (&a.old, &a.new, &a.entry);
+    let [o, n, e] = readable([&a.old, &a.new, &a.entry]);
     let amend = |volume, len| unsafe {
         par1_amend(volume, len, length, a.file, a.place, o.as_ptr(), o.len(), n.as_ptr(), n.len(), e.as_ptr(), e.len())
     };
@@ -115,18 +125,22 @@ pub fn amend(room: &[u8], length: u64, a: &Amendment) -> (u64, Vec<u8>) {
 }
 
 pub fn compare(one: &[u8], two: &[u8], room: &[u8]) -> (u64, Vec<u8>) {
+    let [one, two] = readable([one, two]);
     lent(room, |out, len| unsafe { par1_compare(one.as_ptr(), one.len(), two.as_ptr(), two.len(), out, len) })
 }
 
 pub fn export(file: &[u8], room: &[u8]) -> (u64, Vec<u8>) {
+    let [file] = readable([file]);
     lent(room, |out, len| unsafe { par1_export(file.as_ptr(), file.len(), out, len) })
 }
 
 pub fn import(file: &[u8], text: &[u8], room: &[u8]) -> (u64, Vec<u8>) {
+    let [file, text] = readable([file, text]);
     lent(room, |out, len| unsafe { par1_import(file.as_ptr(), file.len(), text.as_ptr(), text.len(), out, len) })
 }
 
 pub fn open(code: u32, n: u64, sizes: &[u8], room: &[u8]) -> (u32, Vec<u8>) {
+    let [sizes] = readable([sizes]);
     lent(room, |out, len| unsafe { par1_open(code, n, sizes.as_ptr(), sizes.len(), out, len) })
 }
 
@@ -145,15 +159,18 @@ pub fn change(inventory: &[u8], change: Change, number: u64) -> (u32, Vec<u8>) {
 }
 
 pub fn count(inventory: &[u8], room: &[u8]) -> (u32, Vec<u8>) {
+    let [inventory] = readable([inventory]);
     lent(room, |out, len| unsafe { par1_count(inventory.as_ptr(), inventory.len(), out, len) })
 }
 
 pub fn query(inventory: &[u8], file: u64, room: &[u8]) -> (u32, Vec<u8>) {
+    let [inventory] = readable([inventory]);
     lent(room, |out, len| unsafe { par1_query(inventory.as_ptr(), inventory.len(), file, out, len) })
 }
 
 /// The numbers of the lines `refused N` are counted too: 28 comes back in no other way.
 pub fn replay(log: &[u8], room: &[u8]) -> (u64, Vec<u8>) {
+    let [log] = readable([log]);
     let (answer, after) = lent(room, |out, len| unsafe { par1_replay(log.as_ptr(), log.len(), out, len) });
     let text = String::from_utf8_lossy(&after[..after.len().min((answer / 32) as usize)]);
     text.lines().filter_map(|line| line.strip_prefix("refused ")?.parse::<u32>().ok()).for_each(|number| {

@@ -2,6 +2,7 @@
 
 use crate::calls::{counted, lent};
 use crate::catalog::Row;
+use crate::pages::{self, readable};
 
 /// `struct par1_row` as memory has it: the file number in the low half of the first word, whose other half is padding; the size; the MD5.
 type Record = [u64; 4];
@@ -14,10 +15,12 @@ extern "C" {
 }
 
 pub fn open(file: &[u8], room: &[u8]) -> (u64, Vec<u8>) {
+    let [file] = readable([file]);
     lent(room, |out, len| unsafe { par1_catalog_open(file.as_ptr(), file.len(), out, len) })
 }
 
 pub fn add(room: &[u8], volume: &[u8]) -> (u64, Vec<u8>) {
+    let [volume] = readable([volume]);
     lent(room, |catalog, len| unsafe { par1_catalog_add(catalog, len, volume.as_ptr(), volume.len()) })
 }
 
@@ -30,11 +33,25 @@ fn row(record: &Record) -> Row {
     Row { number: record[0] as u32, size: record[1], hash: hash.try_into().unwrap() }
 }
 
+/// Lends records out of the middle of these, which have a guard of two on both sides, or a page that cannot be touched beside them.
+fn lent_records(space: &mut [Record], call: impl FnOnce(*mut Record) -> u64) -> u64 {
+    let middle = 2..space.len() - 2;
+    let Some(side) = pages::side() else { return call(space[middle].as_mut_ptr()) };
+    let bytes: Vec<u8> = space[middle.clone()].iter().flatten().flat_map(|word| word.to_le_bytes()).collect();
+    let (answer, after) = pages::lent(side, &bytes, |records, _| call(records.cast()));
+    for (word, bytes) in space[middle].iter_mut().flatten().zip(after.chunks(8)) {
+        *word = u64::from_le_bytes(bytes.try_into().unwrap());
+    }
+    answer
+}
+
 /// The answer and the records that it says are filled. One past them that changed, or a guard, ends the run.
 pub fn load(catalog: &[u8], records: usize) -> (u64, Vec<Row>) {
+    let [catalog] = readable([catalog]);
     let paint: Vec<Record> = (0..records as u64 + 4).map(|i| [!i, i << 40 | 5, !i << 9, i << 50 | 7]).collect();
     let mut space = paint.clone();
-    let answer = counted(unsafe { par1_catalog_load(catalog.as_ptr(), catalog.len(), space[2..].as_mut_ptr(), records) });
+    let answer = lent_records(&mut space, |rows| unsafe { par1_catalog_load(catalog.as_ptr(), catalog.len(), rows, records) });
+    counted(answer);
     let filled = if answer % 32 == 0 { (answer / 32) as usize } else { 0 };
     assert!(filled <= records, "more records than were lent");
     assert!(space[..2] == paint[..2] && space[2 + filled..] == paint[2 + filled..], "a record past those filled was written");

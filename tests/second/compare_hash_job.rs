@@ -113,7 +113,7 @@ fn little_room(counts: &mut Counts) {
 }
 
 /// A hash of random bytes whose tail is zeros past those that wait; it is over unless its mark is 0.
-fn random_hash(random: &mut Random) -> Hash {
+pub fn random_hash(random: &mut Random) -> Hash {
     let totals = [0, 1, 63, 64, 1 << 29, (1 << 61) - 1, 1 << 61, u64::MAX - 70, u64::MAX - 1, u64::MAX];
     let total = totals[random.below(10)].wrapping_sub(random.below(3) as u64);
     let ended = [0, 0, 0, 1, 2, 256, 1 << 32, 1 << 63, u64::MAX][random.below(9)];

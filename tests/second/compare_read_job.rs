@@ -96,7 +96,7 @@ fn near(random: &mut Random, number: u64) -> u64 {
 }
 
 /// Random bytes with counts that go together, or nearly so.
-fn random_job(random: &mut Random) -> Vec<u8> {
+pub fn random_job(random: &mut Random) -> Vec<u8> {
     let totals = [0, 1, 31, 32, 33, 95, 96, 97, 153, 154, 155, 212, 1000, 65_536, MOST - 1, MOST, MOST + 1, 1 << 32, u64::MAX];
     let total = totals[random.below(19)];
     let list = total.saturating_sub(96);

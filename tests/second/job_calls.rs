@@ -3,6 +3,7 @@
 
 use crate::calls::{counted, guarded, lent};
 use crate::jobs::Hash;
+use crate::pages::{self, readable};
 
 extern "C" {
     fn par1_hash_start(hash: *mut Hash);
@@ -18,6 +19,10 @@ extern "C" {
 
 /// Lends a copy of `hash` with guard numbers around it: the call's answer, and the hash after it.
 fn owned<A>(hash: &Hash, call: impl FnOnce(*mut Hash) -> A) -> (A, Hash) {
+    if let Some(side) = pages::side() {
+        let (answer, after) = pages::lent(side, &hash.bytes(), |bytes, _| call(bytes.cast()));
+        return (answer, Hash::of(&after));
+    }
     #[repr(C)]
     struct Guarded {
         before: [u64; 4],
@@ -35,6 +40,7 @@ pub fn hash_start(hash: &Hash) -> Hash {
 }
 
 pub fn hash_push(hash: &Hash, bytes: &[u8]) -> (u32, Hash) {
+    let [bytes] = readable([bytes]);
     let (answer, after) = owned(hash, |hash| unsafe { par1_hash_push(hash, bytes.as_ptr(), bytes.len()) });
     (counted(answer), after)
 }
@@ -51,6 +57,7 @@ pub fn mul_add_start(weight: u8, room: &[u8]) -> (u32, Vec<u8>) {
 
 /// The number, the job after it, the buffer after it.
 pub fn mul_add_push(job: &[u8], fragment: &[u8], buffer: &[u8]) -> (u32, Vec<u8>, Vec<u8>) {
+    let [fragment] = readable([fragment]);
     let push = |job, job_len, out, len| unsafe { par1_mul_add_push(job, job_len, fragment.as_ptr(), fragment.len(), out, len) };
     let ((number, buffer), job) = guarded(job, |job, job_len| lent(buffer, |out, len| push(job, job_len, out, len)));
     (number, job, buffer)
@@ -65,6 +72,7 @@ pub fn read_start(room: &[u8]) -> (u32, Vec<u8>) {
 }
 
 pub fn read_push(job: &[u8], bytes: &[u8]) -> (u32, Vec<u8>) {
+    let [bytes] = readable([bytes]);
     lent(job, |job, len| unsafe { par1_read_push(job, len, bytes.as_ptr(), bytes.len()) })
 }
 

@@ -17,6 +17,15 @@ pub struct Hash {
 pub const HASH: Hash = Hash { words: md5::START, tail: [0; 64], total: 0, ended: 0 };
 
 impl Hash {
+    /// As it lies in memory, and back.
+    pub fn bytes(&self) -> [u8; 96] {
+        unsafe { std::mem::transmute(*self) }
+    }
+
+    pub fn of(bytes: &[u8]) -> Hash {
+        unsafe { std::mem::transmute::<[u8; 96], Hash>(bytes.try_into().unwrap()) }
+    }
+
     /// Whole blocks go into the words, the rest waits in the tail.
     pub fn pushed(mut self, bytes: &[u8]) -> Hash {
         let all = [&self.tail[..self.total as usize % 64], bytes].concat();

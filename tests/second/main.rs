@@ -2,7 +2,8 @@
 //!
 //! `md5`, `field`, `par1`, `inventory`, `jobs`, `amend`, `differences`, `md5sum`, `catalog`, `replay` work the answers out; `expected` gives each call's
 //! number and lent bytes from them; `calls`, `catalog_calls` and `job_calls` make the library's calls, on lent bytes with guards on both sides;
-//! `cuts` has ways of cutting an input, `files` sets of files and their volumes; `compare_*` are the comparisons.
+//! `cuts` has ways of cutting an input, `files` sets of files and their volumes; `compare_*` are the comparisons. `guarded*` make the calls on memory
+//! beside pages that cannot be touched, `pages`.
 
 mod amend;
 mod calls;
@@ -38,11 +39,15 @@ mod differences;
 mod expected;
 mod field;
 mod files;
+mod guarded;
+mod guarded_calls;
+mod guarded_inputs;
 mod inventory;
 mod job_calls;
 mod jobs;
 mod md5;
 mod md5sum;
+mod pages;
 mod par1;
 mod replay;
 
@@ -88,8 +93,8 @@ impl Random {
     }
 }
 
-fn main() {
-    let mut counts = Counts { passed: 0, failed: 0 };
+/// The comparisons one after another, then whether each number of the documents came back.
+fn compare(counts: &mut Counts) {
     let mut random = Random(2026);
     let parts: [(&str, fn(&mut Counts, &mut Random)); 25] = [
         ("md5", compare_md5::run),
@@ -120,7 +125,7 @@ fn main() {
     ];
     for (name, run) in parts {
         let before = counts.passed + counts.failed;
-        run(&mut counts, &mut random);
+        run(counts, &mut random);
         println!("{name}: {} comparisons", counts.passed + counts.failed - before);
     }
     for (number, times) in calls::came_back().into_iter().enumerate() {
@@ -129,6 +134,16 @@ fn main() {
             println!("number {number} came back {times} times");
         }
         counts.same(|| format!("whether number {number} comes back"), times > 0, given);
+    }
+}
+
+/// With the word `guarded` the calls are made beside guard pages instead, in all rounds or in that of the seed that follows.
+fn main() {
+    let mut counts = Counts { passed: 0, failed: 0 };
+    let mut words = std::env::args().skip(1);
+    match words.next().as_deref() {
+        Some("guarded") => guarded::run(&mut counts, words.next().and_then(|seed| seed.parse().ok())),
+        _ => compare(&mut counts),
     }
     println!("{} passed, {} failed", counts.passed, counts.failed);
     std::process::exit((counts.failed > 0) as i32);
