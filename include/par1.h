@@ -7,11 +7,62 @@
  * Each call that can refuse answers the number 0 where it is accepted, else the number of its refusal; a par1_answer tells more beside it. A
  * refused call changes no byte, but that the end of a job ends it (see Jobs). A call reads and writes only the bytes it is lent, each a pointer and
  * a length; bytes past those written stay as they were. The pointer is not NULL, also where the length is 0: lend the address of any byte. Bytes
- * that a call writes must not overlap others that it is lent. Numbers in lent bytes are 64 bits wide, in a catalog 32 or 64, lowest byte first.
+ * that a call writes must not overlap others that it is lent. Numbers in lent bytes are 64 bits wide, in a catalog 32 or 64, lowest byte first. Lent
+ * bytes need no alignment; the two structs lie at multiples of 8, as a compiler puts them.
  *
- * Stack: par1_query takes 68 KiB, par1_replay 74; par1_md5, par1_read, par1_write_entry, par1_write_volume, par1_amend, par1_compare, par1_export,
- * par1_import, par1_catalog_open, par1_catalog_add, par1_check, par1_open, par1_hash_push, par1_hash_end and the calls on a reading in chunks less than
- * 4 KiB; the others less than 1 KiB (measured, docs/BENCHMARKS.md).
+ * The calls: their refusals in the order of the tests, so that of those that hold the first is answered; how many bytes they write where they are
+ * accepted, which are the first of those lent for a result (with fewer they refuse with 14); and their stack in bytes, measured on accepted calls and
+ * rounded up to hundreds (docs/BENCHMARKS.md). R stands for 1 to 5, 16 to 19, 7 to 9, the refusals of reading a file.
+ *
+ *   call                 refusals               writes                                      stack
+ *
+ *   hash and field
+ *   par1_md5             14                     16                                          2,000
+ *   par1_inverse         10 14                  1                                             600
+ *   par1_coefficient     10 14                  1                                             600
+ *   par1_mul_add         none                   the buffer, as far as the fragment goes       700
+ *
+ *   index files and volumes
+ *   par1_read            R 14                   64                                          2,900
+ *   par1_entry           16-18 14               24                                            200
+ *   par1_check           16-18 15               nothing                                     2,200
+ *   par1_write_entry     17 18 14               56 + name_len                               2,100
+ *   par1_write_volume    10 16-18 7 9 1 14      96 + list_len + data_len                    2,600
+ *   par1_amend           14 R 10 16-18 21 1 14  in the volume, up to its new length         3,500
+ *
+ *   jobs, for what is too long to hold
+ *   par1_hash_start      none                   the struct, 96                                100
+ *   par1_hash_push       20                     the struct                                  1,900
+ *   par1_hash_end        20 14                  16, and the struct                          2,100
+ *   par1_mul_add_start   14                     24                                            100
+ *   par1_mul_add_push    20                     the job's 24, the buffer from the position    800
+ *   par1_mul_add_end     20                     the job's 24                                  100
+ *   par1_read_start      14                     392                                         1,300
+ *   par1_read_push       20                     the job's 392                               3,100
+ *   par1_read_end        20 R 14                64, and the job's 392                       3,200
+ *
+ *   what is present, and what comes back
+ *   par1_open            10 1 14                144                                         2,700
+ *   par1_add_file        10 11                  the inventory's 144                           800
+ *   par1_remove_file     10 11                  the inventory's 144                           800
+ *   par1_add_volume      10 29 27 11            the inventory's 144                           900
+ *   par1_remove_volume   10 11                  the inventory's 144                         1,000
+ *   par1_quarantine      10 11                  the inventory's 144                         1,000
+ *   par1_release         10 11                  the inventory's 144                         1,000
+ *   par1_count           10 14                  24                                            400
+ *   par1_query           10 13 12 14            255                                        69,000
+ *
+ *   text
+ *   par1_compare         14                     the text                                    3,000
+ *   par1_export          R 24 14                the text, at most as long as the list       3,000
+ *   par1_import          R, 22 or 23, 14        1 for each entry                            3,100
+ *   par1_replay          14                     the text, at most 14,760,448               75,200
+ *
+ *   catalogs
+ *   par1_catalog_open    R 26 14                16 + 28 for each entry                      3,100
+ *   par1_catalog_add     R 30 10 25 26 11 14    in the catalog, and 28 on its end           3,300
+ *   par1_catalog_drop    30 10 11               in the catalog                                300
+ *   par1_catalog_load    30 14                  a record, 32, for each entry                  300
  */
 #ifndef PAR1_H
 #define PAR1_H
@@ -26,11 +77,12 @@ extern "C" {
 /* What calls answer. */
 enum {
     PAR1_ACCEPTED = 0,
-    PAR1_SIZE = 1,          /* the length of a file or volume, or a size, is out of range */
+    PAR1_SIZE = 1,          /* the length of an index file or volume, or of a log in the text of its replay, or a size, is out of range */
     PAR1_SIGNATURE = 2,     /* the first eight bytes differ */
     PAR1_VERSION = 3,       /* the version is neither 65,536 nor 131,328 */
     PAR1_LAYOUT = 4,        /* list or data does not lie where it must */
     PAR1_CONTROL_HASH = 5,  /* the control hash differs */
+    /* 6 is not used: 16 to 19 have its place */
     PAR1_VOLUME_NUMBER = 7, /* too many files, or the volume number does not go with them */
     PAR1_SET_HASH = 8,      /* the set hash differs */
     PAR1_DATA_SIZE = 9,     /* the data's size is odd in an index, or in a volume not the greatest file size among the saved entries */
@@ -41,7 +93,8 @@ enum {
     PAR1_PRESENT = 13,      /* the file is present */
     PAR1_NO_ROOM = 14,      /* the bytes or records lent for the result, or the bytes for a volume to be amended, are too few */
     PAR1_DIFFERENT = 15,    /* length, MD5 or 16k MD5 differ from the entry */
-    PAR1_ENTRY_SIZE = 16,   /* an entry's own size is odd, below 58 or past the end, or fewer than 8 bytes are left for it */
+    PAR1_ENTRY_SIZE = 16,   /* an entry's own size is odd, below 58 or past the end, or fewer than 8 bytes are left for it; or an entry that is lent
+                               alone does not fill its bytes */
     PAR1_FILE_SIZE = 17,    /* an entry's file size is above its limit; or the contents or the status of an entry to be written */
     PAR1_NAME = 18,         /* an entry's name has a unit 0, 47 (/), 58 (:) or 92 (\), or is . or ..; or that of one to be written is empty or odd */
     PAR1_ENTRY_COUNT = 19,  /* the number of entries differs */
@@ -68,7 +121,7 @@ enum { PAR1_POWERS = 0, PAR1_CAUCHY = 1 };
  * in its list, from 1, and 0 where it stands in none; of 22 and 23 it is the line's number, from 1; of any other refusal it is 0, so that a refusal
  * without a place is its bare number. The value of an accepted par1_amend is the volume's new length, of a par1_compare, par1_export or par1_replay
  * the length of its text, of par1_catalog_open, par1_catalog_add and par1_catalog_drop the catalog's length, of par1_import and par1_catalog_load the
- * number of entries; any other accepted call answers 0. */
+ * number of entries; any other accepted call answers 0. Calls that answer a uint32_t tell no place: their entry stands alone, or is the first one. */
 typedef uint64_t par1_answer;
 #define PAR1_NUMBER(a) ((uint32_t)((a) % 32))
 #define PAR1_VALUE(a) ((a) / 32)
@@ -197,7 +250,8 @@ par1_answer par1_amend(uint8_t *volume, size_t volume_len, uint64_t length, uint
  *   refused S N   par1_read refuses `one` (S is 1) or `two` (S is 2) with the number N; then nothing else is written but such a line for the other
  *
  * Refuses with 14 where `out` is shorter than the lines, and with nothing else: a file that is refused is a line. The lines of files that are
- * nearly alike are short; in the worst case, every second byte of the data differing, they are some eleven times as long as a file. */
+ * nearly alike are short; in the worst case, every second byte of the data differing, they are some eleven times as long as a file. Room of 12 times
+ * the longer length, and of 26 bytes at the least, for two refused files, is always enough. */
 par1_answer par1_compare(const uint8_t *one, size_t one_len, const uint8_t *two, size_t two_len, uint8_t *out, size_t out_len);
 
 /* The MD5s of the listed files of an index file or volume as text that md5sum -c takes, over the first bytes of `out`: for each entry, saved or
@@ -229,7 +283,7 @@ par1_answer par1_import(const uint8_t *file, size_t file_len, const uint8_t *tex
  * to 255 - n (n files are saved; none where n is 0), a data size other than the greatest size of a saved file. */
 enum { PAR1_CATALOG_HEAD = 16, PAR1_CATALOG_ROW = 28 };
 
-/* An entry row as par1_catalog_load fills it; what it leaves between the fields is free. */
+/* An entry row as par1_catalog_load fills it: 32 bytes at a multiple of 8, `file` at 0, `size` at 8, `md5` at 16; the 4 bytes after `file` are free. */
 struct par1_row {
     uint32_t file; /* the file number, 0 where the file is not saved */
     uint64_t size;
@@ -238,7 +292,7 @@ struct par1_row {
 
 /* Opens a catalog of the list of an index file or volume, with no volumes, over the first bytes of `out`; it takes PAR1_CATALOG_HEAD +
  * PAR1_CATALOG_ROW * entries. The value is its length. Refuses, in this order, with 1 to 5, 16 to 19, 7 to 9: as par1_read, with the place in the
- * list; 26: the list has more than 1,024 entries; 14: `out` is shorter. */
+ * list; 26: the list has more than 1,024 entries; 14: `out` is shorter. Most of the time goes to reading the file, which hashes it. */
 par1_answer par1_catalog_open(const uint8_t *file, size_t file_len, uint8_t *out, size_t out_len);
 
 /* Adds a volume to the catalog in the room `catalog`: its row goes between those of lower and of greater numbers, the greater ones move up by a row,
@@ -246,16 +300,17 @@ par1_answer par1_catalog_open(const uint8_t *file, size_t file_len, uint8_t *out
  * code are not in the rows: volumes of either code go into one catalog, one of each number. Refuses, in this order, with 1 to 5, 16 to 19, 7 to 9: as
  * par1_read of the volume, with the place in the list; 30; 10: its number is 0 (an index) or above 255 - n, n being the saved files of the catalog; 25:
  * its list gives other entry rows; 26: its list has more than 1,024 entries, which 25 forestalls; 11: a volume of its number is there; 14: the room is
- * shorter than the new length. */
+ * shorter than the new length. Most of the time goes to reading the volume; the rest goes with the lengths of its list and of the catalog. */
 par1_answer par1_catalog_add(uint8_t *catalog, size_t catalog_len, const uint8_t *volume, size_t volume_len);
 
 /* Drops a volume: its row goes, the greater ones move down by a row, and the number of volumes is one less; nothing else changes, so that the bytes of
  * the last row stay in the room. The value is the new length. Refuses, in this order, with 30; 10: the number is 0 or above 255 - n; 11: no volume of
- * that number is there. */
+ * that number is there. The time goes with the length of the catalog, all of which is tested. */
 par1_answer par1_catalog_drop(uint8_t *catalog, size_t catalog_len, uint64_t number);
 
 /* The entry rows of a catalog into the first records of `rows`, one for each entry, in order; records past them stay. `rows_len` counts records. The
- * value is the number of entries. Refuses with 30, then with 14 where there are fewer records than entries. */
+ * value is the number of entries. Refuses with 30, then with 14 where there are fewer records than entries. The time goes with the length of the
+ * catalog, all of which is tested. */
 par1_answer par1_catalog_load(const uint8_t *catalog, size_t catalog_len, struct par1_row *rows, size_t rows_len);
 
 /* Whether `contents` are those of the file that `entry` describes. Refuses with 16, 17 or 18, the first that holds, where the entry
@@ -270,9 +325,9 @@ uint32_t par1_check(const uint8_t *entry, size_t entry_len, const uint8_t *conte
  * nothing changes. Any other refusal of theirs comes at the end only, so a push answers 0 or 20. An end that is not refused with 20 ends the job, also
  * where it is refused with another number. */
 
-/* A running hash, 96 bytes. `words` are MD5's A, B, C, D after the whole blocks so far; `tail` has the total % 64 bytes that wait for the
- * rest of their block, then zeros; `total` counts the bytes pushed, modulo 2^64 as MD5 does, so no total is refused; `ended` is 0 while the
- * hash runs, and any other number where it is over. */
+/* A running hash, 96 bytes at a multiple of 8, without padding. `words` are MD5's A, B, C, D after the whole blocks so far; `tail` has the total % 64
+ * bytes that wait for the rest of their block, then zeros; `total` counts the bytes pushed, modulo 2^64 as MD5 does, so no total is refused; `ended` is
+ * 0 while the hash runs, and any other number where it is over. */
 struct par1_hash {
     uint32_t words[4];
     uint8_t tail[64];
@@ -346,14 +401,15 @@ uint32_t par1_quarantine(uint8_t *inventory, size_t inventory_len, uint64_t volu
 uint32_t par1_release(uint8_t *inventory, size_t inventory_len, uint64_t volume);
 
 /* How many files and how many volumes are present, and how many volumes are in quarantine, into the first 24 bytes of `out`: three numbers, at
- * PAR1_COUNT_... Refuses with 14 where `out` is shorter. */
+ * PAR1_COUNT_... Refuses with 10, as every call on an inventory, then with 14 where `out` is shorter. */
 uint32_t par1_count(const uint8_t *inventory, size_t inventory_len, uint8_t *out, size_t out_len);
 
 /* Whether a file comes back from what is present. 0: it does, and its 255 weights are the first 255 bytes of `out`, file f's at f - 1,
  * volume v's at n + v - 1: par1_mul_add of each fragment present with its weight, in any order, into zeros of the file's size gives the
  * file. 13: it is present. 12: it is undetermined, what is present does not determine it; of an inventory of PAR1_CAUCHY it is so exactly where fewer
  * volumes are present than files of size 1 or more are missing, and the file is one of these. Refuses with 10 where the file is not 1 to n, and
- * with 14, after 13 and 12, where `out` is shorter. Takes 68 KiB of stack. */
+ * with 14, after 13 and 12, where `out` is shorter. Takes 68 KiB of stack, and one elimination over the missing files of size 1 or more and the
+ * volumes present: less than a millisecond for 127 of them and 128, on a server (docs/BENCHMARKS.md). */
 uint32_t par1_query(const uint8_t *inventory, size_t inventory_len, uint64_t file, uint8_t *out, size_t out_len);
 
 /* Replays a log of arrivals, as text over the first bytes of `out`: what the program par_replay prints. The value is the length of the text.
