@@ -222,7 +222,7 @@ par1_answer par1_write_volume(uint32_t code, uint32_t program, uint64_t number, 
  * `place` on. The entry's size and hashes, the set hash, the control hash and the data size are put right, and nothing else changes. So after any run
  * of accepted amendments, given true old bytes and entries, the volume is the one that par1_write_volume writes from the files as they are now.
  * Whether they are true is the caller's: `old` is not held against the data, nor `entry` against the file. An inventory that was opened before is
- * opened again: it knows which files are empty.
+ * opened again: it knows which files are empty. So is a catalog: its rows have sizes and MD5s, and it refuses the amended volume with 25.
  *
  * For a file whose status par1_write_entry does not write (old volumes carry 2 and 3), write the entry with 0 or 1 and put the volume's 8 bytes of
  * status over its bytes 8 to 15.
