@@ -1,40 +1,34 @@
 -- Condition 2, for entries: a written entry walks back to its fields, and checking accepts the contents that it was written from.
 --
 --   entry-accepted    the entry of a file that keeps the rules is written
---   status-refused    one with a status above 1 is not
---   name-refused      nor one with a bad name, which is the one way to 18
 --   entry-back        it is that of its file
 --   entry-written     and so is every written entry
 -- Assumes nothing.
 use mathlib.Core.Path.{_≡_, refl, sym, ap, ap₂, _∙_, subst}
-use mathlib.Core.Bool.{Bool, true, false, cond, _&&_}
+use mathlib.Core.Bool.{true, _&&_}
 use mathlib.Core.List.{List, [], _∷_, _++_, append-nil}
 use Prim.Native.Nat.{ℕ, _+_, _%_, _^_, _<_, _≤_}
 use native.Mathlib.Omega.{arith}
 use lib.Dec.{leb, eqb}
 use lib.ListN.{length, take, drop, length-append}
 use lib.Seq.{take-append-seam, drop-append-seam}
-use borrow.Author.Tests.{leb-true, eqb-true, eq-eqb, le-leb, lt-leb}
-use Rattle.lent_bytes.specs.Writing.{refused, accepted, written, writtenUnless, writingRefusal}
-use Rattle.lent_bytes.specs.declared.Writing.{Writing}
-use Rattle.lent_bytes.proofs.WritingLaws.{never, unless-accepted, unless-refused, unless-tells}
+use borrow.Author.Tests.{leb-true, eqb-true, eq-eqb, le-leb}
+use Rattle.lent_bytes.proofs.WritingLaws.{unless-accepted, unless-tells}
 use Rattle.computed_tests.proofs.Tests.{and-both}
 use Rattle.cut_lists.specs.Pieces.{before}
 use Rattle.little_endian.specs.Bytes.{toLe}
 use Rattle.little_endian.proofs.Numbers.{length-toLe}
 use Rattle.little_endian.proofs.Reading.{leAt-append}
 use Rattle.md5.specs.Digest.{md5}
-use Rattle.refusals.specs.Tests.{bare, test}
-use Rattle.entries.specs.Claim.{BadName}
+use Rattle.refusals.specs.Tests.{bare}
 use Rattle.entries.specs.Entry.{entrySize, statusOf, fileSizeOf, md5Of, md5Of16k, nameOf, nameAllowed, fileSizeAllowed}
 use Rattle.entries.specs.Walk.{firstOf, entriesOf}
 use Rattle.entries.specs.declared.Item.the-variants.{Entry}
 use Rattle.entries.proofs.EntryLaws.{first-entry, is-entry}
 use Rattle.entries.proofs.FirstFaults.{sized-right}
-use Rattle.entries.proofs.NameFaults.{name-rule}
 use Rattle.entries.proofs.WalkLaws.{entries-more}
 use Rattle.par1_rules.specs.Hashes.{md5First}
-use Rattle.par1.specs.Claim.{EntryAccepted, StatusRefused, NameRefused, EntryBack, EntryWritten}
+use Rattle.par1.specs.Claim.{EntryAccepted, EntryBack, EntryWritten}
 use Rattle.par1.specs.Checking.{loneRefusal, isDescribed, checkOf}
 use Rattle.par1_write.specs.EntryWriting.{entryBytes, entryRefusal, writeEntryOf}
 use Rattle.par1.proofs.CheckingLaws.{check-lone}
@@ -138,43 +132,6 @@ pub entry-accepted : EntryAccepted
 unfolding writeEntryOf entryRefusal
 entry-accepted m status name out size-right status-right name-right fits =
     unless-accepted (bare (entryRefusal (length m) status name)) (entryBytes m status name) out (simp (size-right, le-leb status 1 status-right, name-right)) fits
-
-pub status-refused : StatusRefused
-unfolding writeEntryOf entryRefusal
-status-refused m status name out h =
-    let number : entryRefusal (length m) status name ≡ 17 = simp (lt-leb status 1 h) (by (fileSizeAllowed (length m))) in
-    sym (unless-refused (entryBytes m status name) out (ap bare (sym number)) (λ z. omega arith) refl)
-  where
-    by : (sized : Bool) → test 17 sized 17 ≡ 17
-    by true = refl
-    by false = refl
-
--- where the tests before 14 hold nowhere, the answer is an acceptance or 14
-never-18 : (s out : List ℕ) → writtenUnless (bare 0) s out ≡ refused (bare 18) out → ⊥
-unfolding writtenUnless written
-never-18 s out e = by (leb (length s) (length out)) e
-  where
-    by : (fits : Bool) → cond fits (accepted s out) (refused (bare 14) out) ≡ refused (bare 18) out → ⊥
-    by true e = never (sym e)
-    by false e = let z : _≡_ {A = ℕ} 14 18 = ap (λ (p : Writing × List ℕ). writingRefusal (p .0) .number) e in omega arith
-
-pub name-refused : NameRefused
-unfolding writeEntryOf entryRefusal
-name-refused m status name out sized small = (λ e. told (nameAllowed name) refl e, gives)
-  where
-    number : (named : Bool) → nameAllowed name ≡ named → entryRefusal (length m) status name ≡ test 18 named 0
-    number named h = simp (sized, le-leb status 1 small, h)
-
-    told : (named : Bool) → nameAllowed name ≡ named → writeEntryOf m status name out ≡ refused (bare 18) out → BadName name
-    told false h e = name-rule name .0 h
-    told true h e =
-        let none = ap (λ (n : ℕ). writtenUnless (bare n) (entryBytes m status name) out) (sym (number true h)) in
-        absurd (never-18 (entryBytes m status name) out (none ∙ e))
-
-    gives : BadName name → writeEntryOf m status name out ≡ refused (bare 18) out
-    gives bad =
-        let is-18 : 18 ≡ entryRefusal (length m) status name = sym (number false (name-rule name .1 bad)) in
-        sym (unless-refused (entryBytes m status name) out (ap bare is-18) (λ z. omega arith) refl)
 
 pub entry-back : (m : List ℕ) (status : ℕ) (name : List ℕ) → fileSizeAllowed (length m) ≡ true → status < 2 ^ 64 → nameAllowed name ≡ true
     → length (entryBytes m status name) < 2 ^ 64 → EntryBack (entryBytes m status name) m status name

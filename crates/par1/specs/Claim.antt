@@ -1,29 +1,35 @@
 -- Condition 2 of the tender: a volume is written as the format defines, is read back, and is written again with the same bytes.
 --
 --   VolumeAccepted               what keeps the rules is written as the format defines, where there is room for it
+--   BadNumber v n, BadData v g d   what tests 7 and 9 find: of volume v, n saved files of at most g bytes and d bytes of data
+--   VolumeRefuses v list area out r    r is the first refusal of writing volume v that holds, in the document's order
+--   VolumeRefused                writing gives it, and no byte of the room changes; and nothing else is refused
 --   VolumeWritten                whatever is written has the bytes that the format defines
 --   partsFor c p v list area     what reading returns of volume v of the code c and the program p, with this list and this data
 --   ReadBack f c p v list area   the file f is read so, and its areas are this list and this data
 --   ReadWritten                  every written volume is read back
 --   WrittenRead                  every accepted file, written from what reading gave, has the same bytes
 --   EntryAccepted                the entry of a file that keeps the rules is written as the format defines, where there is room for it
---   StatusRefused                no entry is written with a status above 1, whatever else is given
---   NameRefused                  an entry with contents and a status that are allowed is refused with 18 exactly where its name is bad
+--   EntryRefuses m st name out r     r is the first refusal of writing an entry that holds
+--   EntryRefused                 writing gives it, and no byte of the room changes; and nothing else is refused
 --   EntryBack e m st name        the entry e is that of a file with the contents m, the status st and the name
 --   EntryWritten                 every written entry is that of its file
 --   FaultWritten                 a list with an entry that breaks a rule is refused for the first one
 --   LoneBreaks e n               n is the number of the first rule that e breaks, standing alone
 --   LoneRefused                  checking refuses an entry that stands alone with that number
+--   Differs e m                  the contents m differ in length or a hash from those that the entry e tells
+--   Checks e m r                 r is the refusal of the contents m by the entry e, with the number 0 where there is none
+--   Checked                      checking answers it, and nothing else
 -- The contracts of write_volume, read, write_entry and check cite writeVolumeOf, readOf, writeEntryOf and checkOf.
 -- Assumes nothing.
 use mathlib.Core.Path.{_≡_}
 use mathlib.Core.Bool.{true}
 use mathlib.Core.List.{List, _++_}
-use Prim.Native.Nat.{ℕ, _+_, _^_, _<_, _≤_}
+use Prim.Native.Nat.{ℕ, _+_, _%_, _^_, _<_, _≤_}
 use lib.ListN.{length, take, drop}
 use Rattle.lent_bytes.specs.Writing.{refused, accepted}
-use Rattle.lent_bytes.specs.declared.Writing.the-variants.{Written}
-use Rattle.refusals.specs.Limits.{maxVolumeLength}
+use Rattle.lent_bytes.specs.declared.Writing.the-variants.{Written, Refused}
+use Rattle.refusals.specs.Limits.{maxFileSize, maxVolumeLength}
 use Rattle.refusals.specs.Tests.{bare}
 use Rattle.refusals.specs.declared.Refusal.{Refusal}
 use Rattle.cut_lists.specs.Pieces.{before}
@@ -56,6 +62,40 @@ VolumeAccepted =
     → numberAllowed number (t .saved) ≡ true → dataAllowed number (t .greatest) (length area) ≡ true
     → length (volumeBytes c program number list area) ≤ maxVolumeLength → length (volumeBytes c program number list area) ≤ length out
     → writeVolumeOf c program number list area out ≡ accepted (volumeBytes c program number list area) out
+
+-- ---- and what is refused: "Writing a volume from program identifier, number (0 writes an index), list and data tests 6 (the list's rules; it
+-- ---- makes the count itself), 7, 9, 1 (the total), 14"
+
+-- "7: n above 254; or volume number 1 or more with n = 0 or number + n above 255"
+pub data BadNumber (v n : ℕ) : Type 0 where
+  too-many : 254 < n → BadNumber v n
+  no-files : 1 ≤ v → n ≡ 0 → BadNumber v n
+  past-255 : 1 ≤ v → 255 < v + n → BadNumber v n
+
+-- "9: data size breaks its rule": "In the index the data area is a comment in 16-bit units, so its size is even."; document 02, 2026-02: "data size is
+-- the greatest size among saved entries"
+pub data BadData (v greatest n : ℕ) : Type 0 where
+  odd-comment : v ≡ 0 → n % 2 ≡ 1 → BadData v greatest n
+  other-size : 1 ≤ v → (n ≡ greatest → ⊥) → BadData v greatest n
+
+-- each test with those before it passed; the list is first, with the place of its first entry that breaks a rule. A file has 96 bytes, its list and
+-- its data
+pub data VolumeRefuses (number : ℕ) (list area out : List ℕ) : Refusal → Type 0 where
+  list-fault : {r : Refusal} → FirstFault list r → VolumeRefuses number list area out r
+  bad-number : {t : Totals} → walkOf list ≡ walked.Entries t → BadNumber number (t .saved) → VolumeRefuses number list area out (bare 7)
+  bad-data : {t : Totals} → walkOf list ≡ walked.Entries t → (BadNumber number (t .saved) → ⊥) → BadData number (t .greatest) (length area)
+      → VolumeRefuses number list area out (bare 9)
+  total-long : {t : Totals} → walkOf list ≡ walked.Entries t → (BadNumber number (t .saved) → ⊥) → (BadData number (t .greatest) (length area) → ⊥)
+      → maxVolumeLength < 96 + length list + length area → VolumeRefuses number list area out (bare 1)
+  volume-room : {t : Totals} → walkOf list ≡ walked.Entries t → (BadNumber number (t .saved) → ⊥) → (BadData number (t .greatest) (length area) → ⊥)
+      → 96 + length list + length area ≤ maxVolumeLength → length out < 96 + length list + length area → VolumeRefuses number list area out (bare 14)
+
+-- of each code, by each program; proved: proofs/WritingRefusals.antt, `volume-refused`
+abbrev pub VolumeRefused : Type 0
+VolumeRefused =
+    (c : Code) (program number : ℕ) (list area out : List ℕ) (r : Refusal)
+    → (VolumeRefuses number list area out r → writeVolumeOf c program number list area out ≡ refused r out)
+    × ((room : List ℕ) → writeVolumeOf c program number list area out ≡ (Refused r, room) → VolumeRefuses number list area out r × (room ≡ out))
 
 -- ---- "A volume written is, byte by byte, the one that Par 1.0, RFC 1321 and document 01 define."
 
@@ -112,17 +152,22 @@ EntryAccepted =
     → nameAllowed name ≡ true → length (entryBytes m status name) ≤ length out
     → writeEntryOf m status name out ≡ accepted (entryBytes m status name) out
 
--- "Refusals: writing an entry with status 2 or 3 now gives 17", and nothing is written; proved: proofs/EntryWritten.antt, `status-refused`
-abbrev pub StatusRefused : Type 0
-StatusRefused = (m : List ℕ) (status : ℕ) (name out : List ℕ) → 1 < status → writeEntryOf m status name out ≡ refused (bare 17) out
+-- "Writing an entry from contents, status and name bytes tests 6 (contents too long, status above 3, bad name), then 14"; document 02, 2026-01: "17 file
+-- size above the limit (and contents or status in writing an entry); 18 name unit not allowed (in writing also a name empty or of odd length)"; 2026-09:
+-- "writing an entry with status 2 or 3 now gives 17"; 2026-14: "Every call that meets an entry's name follows the new rule .. Refusals: 18, as for the
+-- slashes". An entry has 56 bytes and its name
+pub data EntryRefuses (m : List ℕ) (status : ℕ) (name out : List ℕ) : Refusal → Type 0 where
+  long-contents : maxFileSize < length m → EntryRefuses m status name out (bare 17)
+  other-status : 1 < status → EntryRefuses m status name out (bare 17)
+  bad-name : length m ≤ maxFileSize → status ≤ 1 → BadName name → EntryRefuses m status name out (bare 18)
+  entry-room : length m ≤ maxFileSize → status ≤ 1 → (BadName name → ⊥) → length out < 56 + length name → EntryRefuses m status name out (bare 14)
 
--- document 02, 2026-14: "Every call that meets an entry's name follows the new rule .. Refusals: 18, as for the slashes", and nothing is written;
--- proved: proofs/EntryWritten.antt, `name-refused`
-abbrev pub NameRefused : Type 0
-NameRefused =
-    (m : List ℕ) (status : ℕ) (name out : List ℕ) → fileSizeAllowed (length m) ≡ true → status ≤ 1
-    → (writeEntryOf m status name out ≡ refused (bare 18) out → BadName name)
-    × (BadName name → writeEntryOf m status name out ≡ refused (bare 18) out)
+-- proved: proofs/WritingRefusals.antt, `entry-refused`
+abbrev pub EntryRefused : Type 0
+EntryRefused =
+    (m : List ℕ) (status : ℕ) (name out : List ℕ) (r : Refusal)
+    → (EntryRefuses m status name out r → writeEntryOf m status name out ≡ refused r out)
+    × ((room : List ℕ) → writeEntryOf m status name out ≡ (Refused r, room) → EntryRefuses m status name out r × (room ≡ out))
 
 pub record EntryBack (e m : List ℕ) (status : ℕ) (name : List ℕ) : Type 0 where
   -- at the front of a list, whatever follows
@@ -159,3 +204,21 @@ pub data LoneBreaks (e : List ℕ) : ℕ → Type 0 where
 -- "Within an entry in that order", "place 0, as for a lone entry"; proved: proofs/Faults.antt, `lone-refused`
 abbrev pub LoneRefused : Type 0
 LoneRefused = (e m : List ℕ) (n : ℕ) → LoneBreaks e n → checkOf e m ≡ bare n
+
+-- ---- "Checking tests 6 (the lent entry, which fills its slice), then 15"
+
+-- "15: rebuilt bytes differ in length, MD5 or 16k MD5 from the entry"
+pub data Differs (e m : List ℕ) : Type 0 where
+  in-length : (fileSizeOf e ≡ length m → ⊥) → Differs e m
+  in-md5 : (md5Of e ≡ md5 m → ⊥) → Differs e m
+  in-md5-16k : (md5Of16k e ≡ md5First m → ⊥) → Differs e m
+
+-- 16 to 18 by the entry alone, then 15; else the contents are those of its file
+pub data Checks (e m : List ℕ) : Refusal → Type 0 where
+  bad-entry : {n : ℕ} → LoneBreaks e n → Checks e m (bare n)
+  different : ((n : ℕ) → LoneBreaks e n → ⊥) → Differs e m → Checks e m (bare 15)
+  as-told : ((n : ℕ) → LoneBreaks e n → ⊥) → (Differs e m → ⊥) → Checks e m (bare 0)
+
+-- proved: proofs/Faults.antt, `checked`
+abbrev pub Checked : Type 0
+Checked = (e m : List ℕ) (r : Refusal) → (Checks e m r → checkOf e m ≡ r) × (checkOf e m ≡ r → Checks e m r)

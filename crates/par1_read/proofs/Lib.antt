@@ -3,3 +3,4 @@ pub mod HeaderLaws
 pub mod PlaceLaws
 pub mod RangeLaws
 pub mod ReadingLaws
+pub mod VersionLaws

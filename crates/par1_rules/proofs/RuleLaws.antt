@@ -2,13 +2,15 @@
 --
 --   signature-is             the signature, as a number
 --   version-passed, code-back, version-back, version-fits     the version of a code
+--   code-versions            the claim
 --   Between, between, long-enough, too-long     a right length, in numbers
 --   Laid, laid, not-laid, laid-out              a right layout, in numbers
 -- A test of document 01 is passed where it does not hold.
 -- Assumes nothing.
-use mathlib.Core.Path.{_≡_, refl, sym}
+use mathlib.Core.Path.{_≡_, refl, sym, ap, _∙_}
 use mathlib.Core.Bool.{Bool, true, false, cond, _&&_, _||_}
 use mathlib.Core.List.{List}
+use mathlib.Core.Logic.{_⊎_, inl, inr}
 use Prim.Native.Nat.{ℕ, _+_, _^_, _≤_, _<_}
 use native.Mathlib.Omega.{arith}
 use lib.Dec.{leb, eqb}
@@ -18,6 +20,7 @@ use Rattle.codes.specs.declared.Code.{Code}
 use Rattle.codes.specs.declared.Code.the-variants.{Powers, Cauchy}
 use Rattle.little_endian.specs.Bytes.{fromLe}
 use Rattle.refusals.specs.Limits.{maxVolumeLength}
+use Rattle.par1_rules.specs.Claim.{CodeVersions}
 use Rattle.par1_rules.specs.Layout.{signature, versionFor, listStartOf, listSizeOf, dataStartOf, dataSizeOf}
 use Rattle.par1_rules.specs.Rules.{lengthAllowed, versionAllowed, codeIn, layoutAllowed}
 
@@ -51,6 +54,26 @@ version-back v = by (eqb v 65536) refl
 pub version-fits : (c : Code) → versionFor c < 2 ^ 32
 version-fits Powers = omega arith
 version-fits Cauchy = omega arith
+
+either-version : (v : ℕ) → versionAllowed v ≡ true → (v ≡ 65536) ⊎ (v ≡ 131328)
+unfolding versionAllowed
+either-version v = by (eqb v 65536) refl
+  where
+    by : (b : Bool) → b ≡ eqb v 65536 → (b || eqb v 131328) ≡ true → (v ≡ 65536) ⊎ (v ≡ 131328)
+    by true e h = inl (eqb-true _ _ (sym e))
+    by false e h = inr (eqb-true _ _ h)
+
+both-allowed : (v : ℕ) → (v ≡ 65536) ⊎ (v ≡ 131328) → versionAllowed v ≡ true
+both-allowed v (inl e) = ap versionAllowed e ∙ version-passed Powers
+both-allowed v (inr e) = ap versionAllowed e ∙ version-passed Cauchy
+
+pub code-versions : CodeVersions
+code-versions =
+    record {
+      powers-version = (refl, code-back Powers);
+      cauchy-version = (refl, code-back Cauchy);
+      no-others = λ v. (either-version v, both-allowed v);
+    }
 
 -- ---- the length
 

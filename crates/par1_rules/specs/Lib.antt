@@ -1,3 +1,4 @@
+pub mod Claim
 pub mod Layout
 pub mod Hashes
 pub mod Rules
