@@ -21,7 +21,7 @@ use Rattle.elimination.proofs.Sums as S
 use Rattle.elimination.proofs.Solutions.{search}
 use Rattle.inventory.specs.Model.{remove}
 use Rattle.inventory.proofs.ModelSets.{remove-inside}
-use Rattle.cauchy_recovery.proofs.Sizes.{counts-one, counts-none, size-remove}
+use Rattle.inventory.proofs.Sizes.{counts-one, counts-none, size-remove}
 
 module _ {F : Type 0} (K : Field F) where
   open Field K using (𝟘, 𝟙, add as _⊕_, mul as _⊗_, inv, add-comm, add-assoc, zero-add, add-self, mul-comm, mul-assoc, one-mul, mul-add, inv-mul)

@@ -30,8 +30,8 @@ use Rattle.inventory.specs.Model.{remove}
 use Rattle.inventory.proofs.ModelSets.{remove-here, remove-inside}
 use Rattle.inventory.proofs.Rows as R
 use Rattle.inventory.proofs.Rows.{K, mask}
+use Rattle.inventory.proofs.Sizes.{size-shifted, size-remove}
 use Rattle.cauchy_recovery.specs.Claim.{volumesPresent, nonemptyMissing}
-use Rattle.cauchy_recovery.proofs.Sizes.{size-shifted, size-remove}
 use Rattle.cauchy_recovery.proofs.CauchyRows as C
 use Rattle.cauchy_recovery.proofs.CauchyRows.{Apart, apart-turned, apart-fewer, no-kernel}
 open Field K using (𝟘, mul as _⊗_, inv)

@@ -19,9 +19,9 @@ use Rattle.inventory.specs.Model.{Call, change, addVolume, changed, numberOf, n
 use Rattle.inventory.specs.Steps.{openStep}
 use Rattle.inventory.specs.declared.Inventory.{Inventory}
 use Rattle.inventory.proofs.Answered.{answered}
+use Rattle.inventory.proofs.Sizes.{size-same}
 use Rattle.worked_examples.specs.Examples.{listed, stateOf, NoneEmpty}
 use Rattle.cauchy_recovery.specs.Claim.{volumesPresent, nonemptyMissing, stateAfter, Reached, BothReached, byTwoVolumes, BesideP10}
-use Rattle.cauchy_recovery.proofs.Sizes.{size-same}
 use Rattle.cauchy_recovery.proofs.AnyWillDo.{any-will-do}
 
 -- where no file is empty, those listed are the missing ones of size 1 or more

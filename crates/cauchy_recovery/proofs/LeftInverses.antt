@@ -26,8 +26,8 @@ use Rattle.inventory.specs.Recoverable.{State, isVolume, column}
 use Rattle.inventory.proofs.Tests.{eqb-suc}
 use Rattle.inventory.proofs.Rows as R
 use Rattle.inventory.proofs.Rows.{K}
+use Rattle.inventory.proofs.Sizes.{size-same}
 use Rattle.cauchy_recovery.specs.Claim.{volumesPresent, nonemptyMissing, LeftInverses}
-use Rattle.cauchy_recovery.proofs.Sizes.{size-same}
 use Rattle.cauchy_recovery.proofs.CauchyStates.{matrix, solution}
 open Field K using (mul as _⊗_)
 

@@ -1,4 +1,3 @@
-mod Sizes
 mod CauchyRows
 mod CauchyStates
 pub mod AnyWillDo

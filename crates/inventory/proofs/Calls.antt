@@ -4,10 +4,12 @@
 --   next-same, after-same     calls keep the number of files, their sizes, and the code
 --   Ranged t                  what is present or quarantined in t is in range, and no volume is both
 --   next-ranged, after-ranged     calls keep that
+--   missing-not               a reply to a query of a missing file has no other number than 0, 12 or 14
 --   gives-one, givesAll-one   the model gives one reply at most to each call
 --   one-reply                 so at the rules of the two codes
 -- Assumes nothing.
 use mathlib.Core.Path.{_≡_, refl, sym, ap, ap₂, _∙_, subst}
+use mathlib.Core.Logic.{_≢_}
 use mathlib.Core.Bool.{Bool, true, false, cond, false≢true}
 use mathlib.Core.List.{List, [], _∷_, _++_}
 use Prim.Native.Nat.{ℕ, _<_, _≤_}
@@ -24,7 +26,7 @@ use Rattle.inventory.specs.Model.{Change, addFile, removeFile, addVolume
 use Rattle.inventory.specs.Steps.{inRange, whileQuarantined}
 use Rattle.inventory.proofs.ChangeNumbers.{accepted-tests}
 use Rattle.inventory.proofs.ModelSets.{insert-inside, remove-inside, Apart, apart-insert, apart-remove, apart-moved, apart-back}
-use Rattle.inventory.specs.Model.{Call, change, count, query, Reply, queried, opened, withFiles, withVolumes, next, after}
+use Rattle.inventory.specs.Model.{Call, change, count, query, Reply, reply, queried, opened, withFiles, withVolumes, next, after}
 use Rattle.inventory.specs.Model.{Gives, GivesQuery, GivesMissing, undetermined, noRoom, recoverable, GivesAll}
 use Rattle.inventory.specs.Claim.{OneReply}
 use Rattle.inventory.proofs.Weights.{one-weights}
@@ -119,6 +121,14 @@ pub after-ranged : (t : State) (cs : List Call) → Ranged t → Ranged (after t
 unfolding after
 after-ranged t [] h = h
 after-ranged t (c ∷ cs) h = after-ranged (next t c) cs (next-ranged t c h)
+
+-- ---- the numbers of queries
+
+module _ (rule : ℕ → ℕ → ℕ) (t : State) (f : ℕ) (room : List ℕ) (j : ℕ) (values : List ℕ) where
+  pub missing-not : j ≢ 0 → j ≢ 12 → j ≢ 14 → (r : Reply) → r ≡ reply j values → GivesMissing rule t f room r → ⊥
+  missing-not a b c r e (undetermined n) = b (cc)
+  missing-not a b c r e (noRoom y l) = c (cc)
+  missing-not a b c r e (recoverable y l w W) = a (cc)
 
 -- ---- the model determines each reply
 

@@ -11,6 +11,7 @@ mod QuerySteps
 mod Queries
 mod ChangeNumbers
 pub mod ModelSets
+pub mod Sizes
 pub mod RecoverableFiles
 pub mod Calls
 mod Beside
@@ -23,6 +24,8 @@ pub mod Representation
 pub mod Openings
 pub mod Condition
 pub mod Quarantine
+pub mod QuarantineCounts
+pub mod RangeRefusals
 pub mod OtherCode
 pub mod RecoverableAnswers
 pub mod Decided

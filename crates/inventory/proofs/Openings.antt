@@ -1,9 +1,10 @@
--- An accepted opening gives the model's opened state, and a refused one zeros.
+-- An accepted opening gives the model's opened state, and a refused one zeros; the number of each opening.
 --
 --   nonempty-words          the files that an opening has as not empty are four words of 64 bits
 --   nonempty-member         they are those of size 1 or more
 --   opened-represents       what an accepted opening gives stands for the opened state
 --   refused-next            what a refused one gives is the inventory of zeros
+--   opening-numbers         the number of each opening
 -- Assumes nothing.
 use mathlib.Core.Path.{_≡_, refl, sym, ap, _∙_}
 use mathlib.Core.Logic.{_≢_}
@@ -22,8 +23,11 @@ use Rattle.parity.specs.Parity.{isFile}
 use Rattle.number_sets.specs.Sets.{member, inserted, Words}
 use Rattle.inventory.specs.Model.{opened, next}
 use Rattle.inventory.specs.Steps.{zeros, nonemptyOf, fresh, outcome, refusedOpening, openStep}
-use Rattle.inventory.specs.Claim.{sizeIn}
+use Rattle.inventory.specs.Claim.{sizeIn, OpeningNumbers}
+use Rattle.inventory.specs.declared.Outcome.{Outcome}
 use Rattle.number_sets.proofs.Words.{member-inserted, member-none, words-none, words-inserted}
+use Rattle.inventory.proofs.Tests.{outside-exactly}
+use Rattle.inventory.proofs.Outcomes.{open-out-of-range, open-miscounted, open-too-large, open-accepted}
 use Rattle.inventory.proofs.ValidInventories.{within-by}
 use Rattle.inventory.proofs.Representation.{Represents, IsSet, represents}
 
@@ -118,3 +122,16 @@ refused-next d n sizes = go (oneTo 254 n && eqb (length sizes) n) (allBelow n (�
     go true true h = absurd (h refl)
     go true false h = refl
     go false b h = refl
+
+-- ---- the number of each opening
+
+told : (d : Code) (n : ℕ) (sizes : List ℕ) {r : Outcome} → r ≡ openStep d n sizes → openStep d n sizes .number ≡ r .number
+told d n sizes e = sym (ap (λ (o : Outcome). o .number) e)
+
+pub opening-numbers : OpeningNumbers
+opening-numbers = record {
+  out-of-range = λ d n sizes h. told d n sizes (open-out-of-range d n sizes (outside-exactly 254 n .1 h));
+  miscounted = λ d n sizes q. told d n sizes (open-miscounted d n sizes q);
+  too-large = λ d n sizes a b c i l h. told d n sizes (open-too-large d n sizes (oneTo-in 254 n a b) c i l h);
+  accepted = λ d n sizes a b c h. told d n sizes (open-accepted d n sizes (oneTo-in 254 n a b) c h);
+}

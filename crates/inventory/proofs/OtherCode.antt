@@ -17,11 +17,10 @@ use Rattle.parity.specs.Coefficient.{ruleOf}
 use Rattle.parity.specs.Parity.{isFile}
 use Rattle.inventory.specs.Recoverable.{State, isVolume}
 use Rattle.inventory.specs.Model.{addFile, removeFile, addVolume, removeVolume, quarantine, release, numberOf}
-use Rattle.inventory.specs.Model.{Call, change, count, query, Reply, reply, numbered, opened, after}
-use Rattle.inventory.specs.Model.{Gives, GivesQuery, GivesMissing, undetermined, noRoom, recoverable}
+use Rattle.inventory.specs.Model.{Call, change, count, query, reply, numbered, opened, after, Gives, GivesQuery}
 use Rattle.inventory.specs.Claim.{sizeIn, AddsOther, OtherCodeRefusedFor, OtherCodeRefused}
 use Rattle.inventory.proofs.Representation.{meets}
-use Rattle.inventory.proofs.Calls.{after-same}
+use Rattle.inventory.proofs.Calls.{after-same, missing-not}
 use Rattle.inventory.proofs.Condition.{calls-sound}
 
 -- ---- changes
@@ -58,15 +57,11 @@ module _ (t : State) (c : Code) (v : ℕ) where
 -- ---- queries
 
 module _ (rule : ℕ → ℕ → ℕ) (t : State) (f : ℕ) (room : List ℕ) (values : List ℕ) where
-  missing-not-29 : (r : Reply) → r ≡ reply 29 values → GivesMissing rule t f room r → ⊥
-  missing-not-29 r e (undetermined n) = let z : _≡_ {A = ℕ} 12 29 = cc in omega arith
-  missing-not-29 r e (noRoom y l) = let z : _≡_ {A = ℕ} 14 29 = cc in omega arith
-  missing-not-29 r e (recoverable y l w W) = let z : _≡_ {A = ℕ} 0 29 = cc in omega arith
-
   query-not-29 : (inRange has : Bool) → GivesQuery rule t f room inRange has (reply 29 values) → ⊥
   query-not-29 false has g = let z : _≡_ {A = ℕ} 10 29 = cc in omega arith
   query-not-29 true true g = let z : _≡_ {A = ℕ} 13 29 = cc in omega arith
-  query-not-29 true false g = missing-not-29 (reply 29 values) refl g
+  query-not-29 true false g =
+      missing-not rule t f room 29 values (λ z. omega arith) (λ z. omega arith) (λ z. omega arith) (reply 29 values) refl g
 
 -- ---- every call
 

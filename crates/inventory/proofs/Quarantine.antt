@@ -1,5 +1,7 @@
 -- What quarantine and release count as (document 02, 2026-10).
 --
+--   next-accepted             the state after an accepted change
+--   aside-removed-0           removal of a volume in quarantine is accepted
 --   quarantine-as-removal-for, quarantine-as-removal     after quarantine of a volume replies to calls elsewhere are those after its removal:
 --                             over any rules, and at those of the two codes
 --   release-as-adding-for, release-as-adding     after release of a volume all replies are those after its removal and its addition
@@ -41,7 +43,7 @@ number-is : (j k : ℕ) → numbered j ≡ numbered k → j ≡ k
 number-is j k e = cc
 
 module _ (t : State) (v : ℕ) where
-  next-accepted : (c : Change) → numberOf t c v ≡ 0 → next t (change c v) ≡ changed c t v
+  pub next-accepted : (c : Change) → numberOf t c v ≡ 0 → next t (change c v) ≡ changed c t v
   unfolding next
   next-accepted c e = ap (λ (k : ℕ). cond (eqb k 0) (changed c t v) t) e
 
@@ -140,7 +142,7 @@ module _ (t : State) (v : ℕ) (ranged : isVolume (t .n) v ≡ true) where
   unfolding numberOf
   quarantined-0 q = simp (ranged, q)
 
-  aside-removed-0 : t .volumes v ≡ false → t .quarantined v ≡ true → numberOf t removeVolume v ≡ 0
+  pub aside-removed-0 : t .volumes v ≡ false → t .quarantined v ≡ true → numberOf t removeVolume v ≡ 0
   unfolding numberOf
   aside-removed-0 p q = simp (ranged, p, q)
 

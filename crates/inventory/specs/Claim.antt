@@ -1,6 +1,6 @@
 -- Condition 3 of the tender, as document 02 (2026-10, 2026-13) has it: one claim about a whole list of calls on an inventory newly opened,
 -- shown once over any rule of bytes for the coefficients of each code, and then at the rules of the two codes; what quarantine and release count as;
--- and which volumes are of the other code.
+-- the number of each opening, which numbers are out of range, and which volumes are of the other code.
 --
 --   Step rules s c r s₁       the reply to the call c on the inventory s is r, and s₁ is what it hands back: by the very definitions that
 --                             the contracts of the calls cite
@@ -13,13 +13,17 @@
 --   sizeIn sizes f            the size of file f in the sizes of an opening
 --   roomOf c                  the room lent to the call c
 --   Elsewhere v c             the call c changes nothing of volume v
+--   OneAside r r′             the replies r and r′ to counts: in the second a volume less is present, and one more quarantined
+--   OneGone r r′              in the second one less is quarantined
+--   Outside m k               the number k is not 1 to m
+--   OutOfRange n c            the number of the file or the volume of the call c is out of its range, of n files
 --   AddsOther d n c           the call c adds a volume in range, of n files, of another code than d
 --   Agrees c r r′             the replies r and r′ to the call c are the same, but for how many volumes are quarantined
 --   AllAgree cs rs rs′        so are those to the calls cs
 --   Condition rules d n size o cs rs s     what holds after the calls cs on the inventory o opened for the code d and n files of these sizes
 --   ConditionFor rules        it holds for every accepted opening and every list of calls
---   AnsweredFor rules, ExactlyGivenFor rules, QuarantineAsRemovalFor rules, ReleaseAsAddingFor rules, QuarantineRefusalsFor rules,
---   OtherCodeRefusedFor rules     claims, over any rules
+--   AnsweredFor rules, ExactlyGivenFor rules, QuarantineAsRemovalFor rules, ReleaseAsAddingFor rules, QuarantineCountedFor rules,
+--   QuarantineRefusalsFor rules, RangeRefusedFor rules, OtherCodeRefusedFor rules     claims, over any rules
 -- The claims:
 --   ConditionOverRules        the condition, over any rule of bytes for each code
 -- and at the rules of the two codes:
@@ -28,8 +32,12 @@
 --   Retold                    what is present and what is quarantined can be told to a new inventory
 --   QuarantineAsRemoval       after quarantine of a volume every reply to calls elsewhere is that after its removal
 --   ReleaseAsAdding           after release of a volume every reply is that after its removal, which is accepted, and its addition
+--   QuarantineCounted         quarantine takes one off the volumes counted as present and puts one on those counted as quarantined, release the
+--                             reverse; removal of a volume in quarantine takes one off these
 --   QuarantineRefusals        what is refused of a volume in quarantine, and of one that is neither present nor in quarantine; and that one in
 --                             quarantine is released once, and removed once
+--   OpeningNumbers            the number of each opening, for either code: 10, 1 or 0
+--   RangeRefused              after any list of calls a call is refused with 10 exactly where the number of its file or volume is out of range
 --   OtherCodeRefused          after any list of calls a call is refused with 29 exactly where it adds a volume in range of the other code
 --   OneReply                  the model has one reply at most to each call
 --   OneAnswer, OneCount       what a query and a count promise determines the answer and the room
@@ -48,7 +56,7 @@ use mathlib.Core.Path.{_≡_}
 use mathlib.Core.Logic.{_↔_, _⊎_, _≢_}
 use mathlib.Core.Bool.{true, false, _||_}
 use mathlib.Core.List.{List, [], _∷_, List·Memᴰ}
-use Prim.Native.Nat.{ℕ, _<_, _≤_, _-_}
+use Prim.Native.Nat.{ℕ, suc, _<_, _≤_, _-_}
 use lib.ListN.{length, getD, replicate, take}
 use Rattle.codes.specs.declared.Code.{Code}
 use Rattle.parity.specs.Coefficient.{ruleOf}
@@ -57,7 +65,7 @@ use Rattle.mul_add.specs.Once.{Once}
 use Rattle.parity.specs.Parity.{Contents, isFile}
 use Rattle.number_sets.specs.Sets.{member, Words}
 use Rattle.inventory.specs.Recoverable.{State, isVolume, IsContents, Recoverable, IsWeights, place, present, ComeFrom}
-use Rattle.inventory.specs.Model.{Call, change, count, query, Reply, reply, numbered, queried, opened, after, GivesAll}
+use Rattle.inventory.specs.Model.{Call, change, count, query, Reply, reply, numbered, counts, queried, opened, after, GivesAll}
 use Rattle.inventory.specs.Model.{addFile, removeFile, addVolume, removeVolume, quarantine, release}
 use Rattle.inventory.specs.Steps.{isInventory, zeros, openStep, changeStep, countReply, countStep, answerNumber}
 use Rattle.inventory.specs.Query.{Queried}
@@ -126,6 +134,32 @@ AllAgree [] (r ∷ rs) rs′ = ⊥
 AllAgree (c ∷ cs) [] rs′ = ⊥
 AllAgree (c ∷ cs) (r ∷ rs) [] = ⊥
 AllAgree (c ∷ cs) (r ∷ rs) (r′ ∷ rs′) = Agrees c r r′ × AllAgree cs rs rs′
+
+-- ---- "The sheet also counts those set aside."
+
+-- as many files in hand in both
+abbrev pub OneAside : Reply → Reply → Type 0
+OneAside r r′ = (files : ℕ) × (volumes : ℕ) × (aside : ℕ) × (r ≡ counts files (suc volumes) aside) × (r′ ≡ counts files volumes (suc aside))
+
+-- as many files and volumes in hand in both
+abbrev pub OneGone : Reply → Reply → Type 0
+OneGone r r′ = (files : ℕ) × (volumes : ℕ) × (aside : ℕ) × (r ≡ counts files volumes (suc aside)) × (r′ ≡ counts files volumes aside)
+
+-- ---- "10 if f is not 1 to n", "Volume v: the same, with 1 to 255 - n for its range", "Ask about f: 10 if f is not 1 to n"; "number checks first":
+-- whatever is in hand or set aside, and of either code
+
+abbrev pub Outside : ℕ → ℕ → Type 0
+Outside m k = (k < 1) ⊎ (m < k)
+
+unfoldable pub OutOfRange : ℕ → Call → Type 0
+OutOfRange n (change addFile f) = Outside n f
+OutOfRange n (change removeFile f) = Outside n f
+OutOfRange n (change (addVolume c) v) = Outside (255 - n) v
+OutOfRange n (change removeVolume v) = Outside (255 - n) v
+OutOfRange n (change quarantine v) = Outside (255 - n) v
+OutOfRange n (change release v) = Outside (255 - n) v
+OutOfRange n count = ⊥
+OutOfRange n (query f room) = Outside n f
 
 -- ---- "29 a volume of the other code noted, after 10": in range; "before 27 and 11": whether it is in hand, set aside, or neither
 
@@ -220,6 +254,17 @@ module _ (rules : Code → ℕ → ℕ → ℕ) where
       → Run s (change removeVolume v ∷ change (addVolume (s .code)) v ∷ more) (numbered j ∷ numbered k ∷ r′) e′
       → (j ≡ 0) × (k ≡ 0) × (r ≡ r′)
 
+  -- counts before and after an accepted quarantine, an accepted release, and removal of what is quarantined by the model
+  abbrev pub QuarantineCountedFor : Type 0
+  QuarantineCountedFor =
+      (d : Code) (n : ℕ) (sizes : List ℕ) → openStep d n sizes .number ≡ 0
+      → (cs : List Call) (rs : List Reply) (s : Inventory) → Run (openStep d n sizes .next) cs rs s
+      → (v : ℕ) (r r′ : Reply) (e : Inventory)
+      → (Run s (count ∷ change quarantine v ∷ count ∷ []) (r ∷ numbered 0 ∷ r′ ∷ []) e → OneAside r r′)
+      × (Run s (count ∷ change release v ∷ count ∷ []) (r ∷ numbered 0 ∷ r′ ∷ []) e → OneAside r′ r)
+      × (after (opened d n (sizeIn sizes)) cs .quarantined v ≡ true
+      → (a : Reply) → Run s (count ∷ change removeVolume v ∷ count ∷ []) (r ∷ a ∷ r′ ∷ []) e → (a ≡ numbered 0) × OneGone r r′)
+
   -- a volume that is set aside is noted, and set aside again; one that is withdrawn is set aside, and taken back; one that is set aside is
   -- taken back, and again; or withdrawn, and again
   abbrev pub QuarantineRefusalsFor : Type 0
@@ -234,6 +279,15 @@ module _ (rules : Code → ℕ → ℕ → ℕ) where
       → (r ≡ numbered 0) × (r′ ≡ numbered 11))
       × (Run s (change quarantine v ∷ change removeVolume v ∷ change removeVolume v ∷ []) (numbered 0 ∷ r ∷ r′ ∷ []) e
       → (r ≡ numbered 0) × (r′ ≡ numbered 11))
+
+  -- ---- numbers out of range
+
+  -- by the number of files of the opening; whatever is in hand or set aside
+  abbrev pub RangeRefusedFor : Type 0
+  RangeRefusedFor =
+      (d : Code) (n : ℕ) (sizes : List ℕ) → openStep d n sizes .number ≡ 0
+      → (cs : List Call) (rs : List Reply) (s : Inventory) → Run (openStep d n sizes .next) cs rs s
+      → (c : Call) (k : ℕ) (values : List ℕ) (e : Inventory) → Step s c (reply k values) e → (k ≡ 10) ↔ OutOfRange n c
 
   -- ---- the other code
 
@@ -276,11 +330,33 @@ QuarantineAsRemoval = QuarantineAsRemovalFor ruleOf
 abbrev pub ReleaseAsAdding : Type 0
 ReleaseAsAdding = ReleaseAsAddingFor ruleOf
 
+-- "The sheet also counts those set aside."; "setting aside counts as withdrawal .. for the count", "taking it back counts as noting"; "Withdrawing a
+-- set-aside volume is accepted and removes it"
+-- proved: proofs/QuarantineCounts.antt, `quarantine-counted`
+abbrev pub QuarantineCounted : Type 0
+QuarantineCounted = QuarantineCountedFor ruleOf
+
 -- "27 noted while set aside; 11 for setting aside what is not in hand, or taking back what is not set aside"; "Withdrawing a set-aside volume is
 -- accepted and removes it"
 -- proved: proofs/Quarantine.antt, `quarantine-refusals`
 abbrev pub QuarantineRefusals : Type 0
 QuarantineRefusals = QuarantineRefusalsFor ruleOf
+
+-- "A sheet needs n from 1 to 254 and one size each (10), each at most 16,777,216 (1)."; one of the four holds of any numbers
+-- proved: proofs/Openings.antt, `opening-numbers`
+pub record OpeningNumbers : Type 0 where
+  pub out-of-range : (d : Code) (n : ℕ) (sizes : List ℕ) → Outside 254 n → openStep d n sizes .number ≡ 10
+  pub miscounted : (d : Code) (n : ℕ) (sizes : List ℕ) → length sizes ≢ n → openStep d n sizes .number ≡ 10
+  pub too-large : (d : Code) (n : ℕ) (sizes : List ℕ) → 1 ≤ n → n ≤ 254 → length sizes ≡ n
+      → (i : ℕ) → i < n → 16777216 < getD sizes i 0 → openStep d n sizes .number ≡ 1
+  pub accepted : (d : Code) (n : ℕ) (sizes : List ℕ) → 1 ≤ n → n ≤ 254 → length sizes ≡ n
+      → ((i : ℕ) → i < n → getD sizes i 0 ≤ 16777216) → openStep d n sizes .number ≡ 0
+
+-- "10 if f is not 1 to n", "Volume v: the same, with 1 to 255 - n for its range"; "number checks first"; an inventory that takes numbers out of
+-- range, or that tests another thing first, is excluded
+-- proved: proofs/RangeRefusals.antt, `range-refused`
+abbrev pub RangeRefused : Type 0
+RangeRefused = RangeRefusedFor ruleOf
 
 -- "29 a volume of the other code noted, after 10, before 27 and 11"; an inventory that takes volumes of both codes, or that forgets its code, is
 -- excluded

@@ -20,7 +20,6 @@
 --   LogReplayed              a log that is accepted, up to its end or the first line of another shape
 --   OpeningRefused, FirstRefused, LongRefused     the other logs
 --   EachLog                  each log is of one of these four kinds
---   OpeningNumbers           the number of each opening: 10, 1 or 0
 --   LargeNumbers             a number that 64 bits do not hold is 1 as a size and 10 elsewhere
 --   Listed                   after an accepted event the line has exactly the files that are missing and recoverable, ascending, in the shape
 --                            of a first line, which FirstShaped gives
@@ -35,7 +34,7 @@
 use Prim.Native.Nat.{ℕ, _^_, _<_, _≤_}
 use Prim.Native.Char.{code}
 use mathlib.Core.Path.{_≡_}
-use mathlib.Core.Logic.{_↔_, _⊎_, _≢_}
+use mathlib.Core.Logic.{_↔_, _≢_}
 use mathlib.Core.Bool.{Bool, true, false}
 use mathlib.Core.List.{List, [], _∷_, _++_, map, flatten, List·Memᴰ}
 use lib.ListN.{length, getD}
@@ -155,7 +154,8 @@ LogReplayed =
     → openStep Powers n sizes .number ≡ 0 → NoEvent s → length (logText n sizes es ++ s) ≤ 65536
     → replayOf d (logText n sizes es ++ s) ≡ linesOf d (opened Powers n (sizeIn sizes)) es ++ endLine s
 
--- "so does 10 or 1 from opening, 10 too if the sizes are more or fewer than the first number says"
+-- "so does 10 or 1 from opening, 10 too if the sizes are more or fewer than the first number says"; which of them it is says OpeningNumbers of
+-- `inventory` specs/Claim
 -- proved: proofs/Logs.antt, `opening-refused`
 abbrev pub OpeningRefused : Type 0
 OpeningRefused =
@@ -176,17 +176,8 @@ LongRefused = (d : State → ℕ → Bool) (log : List ℕ) → 65536 < length l
 abbrev pub EachLog : Type 0
 EachLog = (log : List ℕ) → LogKind log
 
--- "10 or 1 from opening, 10 too if the sizes are more or fewer than the first number says"; one of the four holds of any numbers
--- proved: proofs/Refusals.antt, `opening-numbers`
-pub record OpeningNumbers : Type 0 where
-  pub out-of-range : (n : ℕ) (sizes : List ℕ) → (n < 1) ⊎ (254 < n) → openStep Powers n sizes .number ≡ 10
-  pub miscounted : (n : ℕ) (sizes : List ℕ) → length sizes ≢ n → openStep Powers n sizes .number ≡ 10
-  pub too-large : (n : ℕ) (sizes : List ℕ) → 1 ≤ n → n ≤ 254 → length sizes ≡ n
-      → (i : ℕ) → i < n → 16777216 < getD sizes i 0 → openStep Powers n sizes .number ≡ 1
-  pub accepted : (n : ℕ) (sizes : List ℕ) → 1 ≤ n → n ≤ 254 → length sizes ≡ n
-      → ((i : ℕ) → i < n → getD sizes i 0 ≤ 16777216) → openStep Powers n sizes .number ≡ 0
-
--- "A number too large to hold is 1 as a size and 10 elsewhere."; which OpeningRefused and EventRefused print
+-- "A number too large to hold is 1 as a size and 10 elsewhere."; which OpeningRefused and EventRefused print; of openings by OpeningNumbers of
+-- `inventory` specs/Claim
 -- proved: proofs/Refusals.antt, `large-numbers`
 pub record LargeNumbers : Type 0 where
   pub as-size : (n : ℕ) (sizes : List ℕ) → 1 ≤ n → n ≤ 254 → length sizes ≡ n

@@ -4,16 +4,20 @@
 --   size-same        sets with the same numbers below the bound have one size
 --   size-shifted     the numbers less 1, where neither 0 nor the bound is in the set
 --   size-remove      one number less
+--   size-insert      one number more
+--   size-kept        a number less that is not in the set
 -- Assumes nothing.
-use mathlib.Core.Path.{_≡_, refl, ap, ap₂, _∙_}
-use mathlib.Core.Bool.{Bool, true, false, not, cond, _&&_}
+use mathlib.Core.Path.{_≡_, refl, sym, ap, ap₂, _∙_}
+use mathlib.Core.Bool.{Bool, true, false, not, cond, _&&_, _||_}
 use Prim.Native.Nat.{ℕ, zero, suc, _<_, _+_}
 use native.Mathlib.Nat.{not-suc-le-zero}
 use native.Mathlib.Omega.{arith}
 use native.Mathlib.Decide.{ℕ-discrete}
-use borrow.Author.Tests.{eq-eqb, ne-eqb}
+use lib.Dec.{eqb}
+use borrow.Author.Tests.{eq-eqb, ne-eqb, eqb-true}
 use Rattle.number_sets.specs.Sets.{sizeBelow}
-use Rattle.inventory.specs.Model.{remove}
+use Rattle.inventory.specs.Model.{insert, remove}
+use Rattle.inventory.proofs.ModelSets.{insert-here}
 
 pub size-same : (m : ℕ) (s t : ℕ → Bool) → ((k : ℕ) → k < m → s k ≡ t k) → sizeBelow m s ≡ sizeBelow m t
 unfolding sizeBelow
@@ -61,3 +65,21 @@ size-remove (suc m) s a l e =
           let same : _≡_ {A = ℕ} (cond (remove a s m) 1 0) (cond (s m) 1 0) = ap (λ (b : Bool). cond (not b && s m) 1 0) (ne-eqb m a q) in
           omega arith
     ]
+
+-- ---- a number that is not in the set
+
+module _ (m : ℕ) (s : ℕ → Bool) (a : ℕ) (none : s a ≡ false) where
+  pub size-insert : a < m → sizeBelow m (insert a s) ≡ suc (sizeBelow m s)
+  size-insert l =
+      size-remove m (insert a s) a l (insert-here s a) ∙ ap suc (size-same m (remove a (insert a s)) s (λ k h. go k (eqb k a) refl))
+    where
+      go : (k : ℕ) (b : Bool) → eqb k a ≡ b → (not b && (b || s k)) ≡ s k
+      go k true e = sym (ap s (eqb-true k a e) ∙ none)
+      go k false e = refl
+
+  pub size-kept : sizeBelow m (remove a s) ≡ sizeBelow m s
+  size-kept = size-same m (remove a s) s (λ k h. go k (eqb k a) refl)
+    where
+      go : (k : ℕ) (b : Bool) → eqb k a ≡ b → (not b && s k) ≡ s k
+      go k true e = sym (ap s (eqb-true k a e) ∙ none)
+      go k false e = refl
