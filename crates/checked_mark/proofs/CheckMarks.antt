@@ -1,8 +1,8 @@
--- Checking by an entry that stands alone: the mark does not count.
+-- Checking by an entry that stands alone: marks do not count.
 --
 --   loneNumber e     the number of the first rule that the entry e breaks, where it fills its slice
 --   lone-number      the item at the front of e has that number
---   lone-same        the refusals of two entries that differ in the mark only
+--   lone-same        the refusals of two entries that differ in marks only
 --   checked-alike    the claim
 -- Assumes nothing.
 use mathlib.Core.Path.{_≡_, refl, sym, ap, _∙_}

@@ -1,4 +1,4 @@
--- Entries that differ in the mark only: every field but the status is the same, and so is what bit 0 of the status tells.
+-- Entries that differ in marks only: every field but the status is the same, and so is what bit 0 of the status tells.
 --
 --   saved-same                        whether a file is saved
 --   entry-size, file-size, md5-same, md5-16k, name-same, is-saved, is-counted, body-allowed     of two entries

@@ -26,7 +26,7 @@ use Rattle.entries.proofs.EntryLaws.{sized, first-some}
 use Rattle.entries.proofs.FirstFaults.{sized-right}
 use Rattle.entries.proofs.WalkLaws.{stopped}
 use Rattle.little_endian.proofs.Reading.{leAt-append}
-use Rattle.checked_mark.specs.Claim.{withoutMark, FirstAlike}
+use Rattle.checked_mark.specs.Claim.{withoutMarks, FirstAlike}
 use Rattle.checked_mark.specs.Marks.{Pairs, pairs-none, pairs-more, EntryAlike, SizeRight, ListsAlike, rest-same, entry-more}
 use Rattle.checked_mark.proofs.EntryMarks.{entry-size, file-size, body-allowed, alike-self, totals-same}
 
@@ -122,14 +122,14 @@ walk-same {s} {t} l =
 pub first-alike : FirstAlike
 first-alike s t (rest-same _) = refl
 first-alike _ _ (entry-more {e} {g} {s} {t} z a l) =
-    ap withoutMark (front-item z s)
+    ap withoutMarks (front-item z s)
     ∙ by (bodyAllowed e)
-    ∙ ap (λ (b : Bool). withoutMark (cond b (itemOf g) (fault g))) (body-allowed a)
-    ∙ sym (ap withoutMark (front-item (sized-alike a z) t))
+    ∙ ap (λ (b : Bool). withoutMarks (cond b (itemOf g) (fault g))) (body-allowed a)
+    ∙ sym (ap withoutMarks (front-item (sized-alike a z) t))
   where
     fault : List ℕ → Item
     fault = λ d. item.Fault (cond (fileSizeAllowed (fileSizeOf d)) Name FileSize)
 
-    by : (b : Bool) → withoutMark (cond b (itemOf e) (fault e)) ≡ withoutMark (cond b (itemOf g) (fault g))
+    by : (b : Bool) → withoutMarks (cond b (itemOf e) (fault e)) ≡ withoutMarks (cond b (itemOf g) (fault g))
     by true = cc (a .length-same, a .status-alike, file-size a)
-    by false = ap (λ (n : ℕ). withoutMark (item.Fault (cond (fileSizeAllowed n) Name FileSize))) (file-size a)
+    by false = ap (λ (n : ℕ). withoutMarks (item.Fault (cond (fileSizeAllowed n) Name FileSize))) (file-size a)

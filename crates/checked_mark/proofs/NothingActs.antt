@@ -1,4 +1,4 @@
--- Nothing acts on the mark: the claim.
+-- Nothing acts on marks: the claim.
 -- Assumes nothing.
 use mathlib.Core.Path.{sym, ap, _∙_}
 use Rattle.par1_read.specs.Reading.{readOf}

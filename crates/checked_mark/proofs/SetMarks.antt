@@ -99,14 +99,11 @@ list-length (pairs-more {x} {y} {xs} {ys} a ps) =
 
 files-right : {fs gs : List File} → Pairs FileAlike fs gs → All FileRight fs → All FileRight gs
 files-right pairs-none all-none = all-none
-files-right (pairs-more {x} {y} a ps) (all-more r rs) =
-    let alike : unmarked (x .status) ≡ unmarked (y .status) = a .status-alike in
-    let low : x .status < 2 ^ 64 = r .status-right in
-    let small : y .status < 2 ^ 64 = omega arith in
+files-right (pairs-more a ps) (all-more r rs) =
     all-more
     (record {
       size-right = ap (λ (m : List ℕ). fileSizeAllowed (length m)) (sym (a .contents-same)) ∙ r .size-right;
-      status-right = small;
+      status-right = a .status-fits;
       name-right = ap nameAllowed (sym (a .name-same)) ∙ r .name-right;
     })
     (files-right ps rs)

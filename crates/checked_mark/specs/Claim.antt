@@ -1,14 +1,15 @@
--- Document 02, 2026-09: "Old volumes that carry it are still read and written back unchanged, but, amending, comparing and control hashes apart,
--- nothing acts on it." Whatever files differ in marks only get the same answers.
+-- Document 01, of a status: "Bit 1: checked. Other bits are kept and ignored." Document 02, 2026-09, of bit 1: "Old volumes that carry it are still
+-- read and written back unchanged, but, amending, comparing and control hashes apart, nothing acts on it." All these bits are marks (specs/Marks):
+-- whatever files differ in marks only get the same answers.
 --
 --   readInChunks cs    what reading gives of a file that came in the chunks cs
 --   ButHash r s h k    the rooms r and s are the same but for 16 bytes, in which they have h and k
 --   SameAnswers f g    reading, reading in chunks, numbering, listing, export, import and opening a catalog give the same of the files f and g, and so
 --                      does adding them to a catalog, but for the control hash in the row
 --   NothingActs        so they do of files that differ in marks and control hashes only
---   withoutMark i      what a list begins with, without the mark
---   FirstAlike         lists that differ in marks only begin with the same, the mark apart
---   CheckedAlike       contents are checked alike by entries that differ in the mark only
+--   withoutMarks i     what a list begins with, without marks
+--   FirstAlike         lists that differ in marks only begin with the same, marks apart
+--   CheckedAlike       contents are checked alike by entries that differ in marks only
 --   WrittenAlike       lists that differ in marks only are refused alike, and written to files that differ so
 --   Remarked f g fs gs     the volumes or indices f and g of the files fs and gs differ so, and do differ where a status does
 --   SomeMarked         so do those of all files that keep the rules, with any other marks
@@ -76,15 +77,15 @@ pub record SameAnswers (f g : List ℕ) : Type 0 where
 abbrev pub NothingActs : Type 0
 NothingActs = (f g : List ℕ) → AlikeButMarks f g → SameAnswers f g
 
--- the mark is told, as the other bits of a status are
-abbrev pub withoutMark : Item → Item
-withoutMark (item.Entry length status size) = item.Entry length (unmarked status) size
-withoutMark item.End = item.End
-withoutMark (item.Fault f) = item.Fault f
+-- all bits of a status are told
+abbrev pub withoutMarks : Item → Item
+withoutMarks (item.Entry length status size) = item.Entry length (unmarked status) size
+withoutMarks item.End = item.End
+withoutMarks (item.Fault f) = item.Fault f
 
 -- proved: proofs/ListMarks.antt, `first-alike`
 abbrev pub FirstAlike : Type 0
-FirstAlike = (s t : List ℕ) → ListsAlike s t → withoutMark (firstOf s) ≡ withoutMark (firstOf t)
+FirstAlike = (s t : List ℕ) → ListsAlike s t → withoutMarks (firstOf s) ≡ withoutMarks (firstOf t)
 
 -- entries that keep the rules or do not, and any contents; proved: proofs/CheckMarks.antt, `checked-alike`
 abbrev pub CheckedAlike : Type 0

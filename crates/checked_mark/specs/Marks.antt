@@ -1,28 +1,28 @@
--- What differs in the "checked" mark only (document 01: "Bit 0 of the status: saved in the parity. Bit 1: checked. Other bits are kept and
--- ignored"; document 02, 2026-09).
+-- What differs in marks only. A mark is a bit of a status but bit 0 (document 01: "Bit 0 of the status: saved in the parity. Bit 1: checked. Other
+-- bits are kept and ignored"; document 02, 2026-09, of bit 1: "nothing acts on it").
 --
---   unmarked st          the status st without bit 1
+--   unmarked st          the status st without its marks
 --   Pairs R xs ys        the lists xs and ys are as long as each other, and R holds of their elements at each place
---   EntryAlike e g       the entries e and g differ in bit 1 of the status at most
+--   EntryAlike e g       the entries e and g differ in marks at most
 --   SizeRight e          the entry e has a size that keeps the rules
---   ListsAlike s t       the lists s and t differ in that bit of entries at most
+--   ListsAlike s t       the lists s and t differ in marks of entries at most
 --   AlikeButMarks f g    so do the files f and g, and in the control hash, which is right in both or in neither
---   FileAlike x y        the file y is x, with another mark
+--   FileAlike x y        the file y is x, with other marks
 -- Assumes nothing.
 use mathlib.Core.Path.{_≡_}
 use mathlib.Core.Bool.{true}
 use mathlib.Core.Logic.{_↔_}
 use mathlib.Core.List.{List, [], _∷_, _++_}
-use Prim.Native.Nat.{ℕ, _+_, _*_, _/_, _%_}
+use Prim.Native.Nat.{ℕ, _%_, _^_, _<_}
 use lib.ListN.{length, take, drop}
 use Rattle.entries.specs.Entry.{entrySize, statusOf, entrySizeAllowed}
 use Rattle.par1_rules.specs.Layout.{controlHashOf, listOf, dataOf}
 use Rattle.par1_rules.specs.Hashes.{controlHash}
 use Rattle.par1_set.specs.Files.{File}
 
--- bits 2 and above, and bit 0
+-- bit 0
 abbrev pub unmarked : ℕ → ℕ
-unmarked status = status / 4 * 4 + status % 2
+unmarked status = status % 2
 
 pub data Pairs {A : Type 0} (R : A → A → Type 0) : List A → List A → Type 0 where
   pairs-none : Pairs R [] []
@@ -64,4 +64,6 @@ pub record AlikeButMarks (f g : List ℕ) : Type 0 where
 pub record FileAlike (x y : File) : Type 0 where
   pub contents-same : x .contents ≡ y .contents
   pub status-alike : unmarked (x .status) ≡ unmarked (y .status)
+  -- "64-bit status"
+  pub status-fits : y .status < 2 ^ 64
   pub name-same : x .name ≡ y .name
