@@ -36,14 +36,14 @@ use Rattle.mul_add_sums.proofs.SumLaws.{one-answer, adds-short, mulAdd-
 -- ---- many fragments
 
 module _ (weight : ℕ → ℕ) (fragment : ℕ → List ℕ) where
-  all-answer : {ks b c : List ℕ} → length b < lendLimit → AddsAll weight fragment ks b c → c ≡ mulAddAll weight fragment ks b
+  pub all-answer : {ks b c : List ℕ} → length b < lendLimit → AddsAll weight fragment ks b c → c ≡ mulAddAll weight fragment ks b
   unfolding mulAddAll
   all-answer h (none e) = e
   all-answer h (more {k} {ks} {b} {c} {d} p q) =
       all-answer (adds-short (weight k) (fragment k) b c h p) q
       ∙ ap (mulAddAll weight fragment ks) (one-answer (weight k) (fragment k) b c h p)
 
-  all-given : (ks b : List ℕ) → AddsAll weight fragment ks b (mulAddAll weight fragment ks b)
+  pub all-given : (ks b : List ℕ) → AddsAll weight fragment ks b (mulAddAll weight fragment ks b)
   unfolding mulAddAll
   all-given [] b = none refl
   all-given (k ∷ ks) b = more (at-once refl) (all-given ks (mulAdd (weight k) (fragment k) b))

@@ -1,4 +1,4 @@
-mod Boxes
+pub mod Boxes
 mod ByteLaws
 mod Examples
 mod SumLaws
