@@ -6,16 +6,14 @@ use mathlib.Core.List.{List, [], _∷_, _++_, flatten, append-nil}
 use Prim.Native.Nat.{ℕ, _+_, _-_, _*_, _≤_, _<_}
 use native.Mathlib.Omega.{arith}
 use lib.Dec.{leb, ltb, eqb}
-use lib.ListN.{length, take, drop, getD, length-append}
-use lib.Seq.{sets, length-sets, drop-at}
-use borrow.Author.Tests.{le-leb, lt-leb, eq-eqb, ne-eqb, eqb-true, eqb-false, not-true, ltb-true}
+use lib.ListN.{length, take, drop, getD}
+use lib.Seq.{sets}
+use borrow.Author.Tests.{le-leb, lt-leb, eqb-true, eqb-false, ltb-true}
 use Rattle.computed_tests.specs.Numbers.{oneTo}
 use Rattle.refusals.specs.Limits.{maxEntries}
 use Rattle.refusals.specs.Tests.{bare, test}
 use Rattle.refusals.specs.declared.Refusal.{Refusal}
 use Rattle.lent_bytes.specs.Equal.{equal}
-use Rattle.lent_bytes.specs.Writing.{refused, accepted, writtenUnless}
-use Rattle.lent_bytes.specs.declared.Writing.{Writing}
 use Rattle.lent_bytes.specs.declared.Writing.the-variants as writing
 use Rattle.lent_bytes.proofs.StoreLaws.{sets-over}
 use Rattle.lent_bytes.proofs.WritingLaws.{written-fits, written-short, unless-none, unless-refused, unless-accepted}
@@ -28,8 +26,8 @@ use Rattle.par1_read.specs.declared.reading.Reading.{Reading}
 use Rattle.par1_read.specs.declared.reading.Reading.the-variants as reading
 use Rattle.par1_read.proofs.ReadingLaws.{refused-some}
 use Rattle.par1_rules.specs.Layout.{volumeNumberOf, listOf}
-use Rattle.catalog.specs.Rows.{numberOf, rowsFor, rowsAfter, volumeRow, catalogHead, catalogBytes}
-use Rattle.catalog.specs.Catalog.{entryCount, volumeCount, catalogLength, entryRows, volumeRows, savedRows, volumeRowsAllowed, isCatalog, holds, insertRow, removeRow}
+use Rattle.catalog.specs.Rows.{numberOf, rowsFor, volumeRow, catalogHead, catalogBytes}
+use Rattle.catalog.specs.Catalog.{entryCount, volumeCount, catalogLength, entryRows, volumeRows, volumeRowsAllowed, isCatalog, holds}
 use Rattle.catalog.specs.Calls.{openRefusal, openOf, volumeInRange, addNumber, addRefusal, addedBytes, addOf, dropNumber, droppedBytes, dropOf, loadingOf}
 use Rattle.catalog.specs.Plan.{countsOf, placeOf, placeIn, planBy, planAdd, planDrop, spread, closed}
 use Rattle.catalog.specs.declared.checking.Counts.{Counts}

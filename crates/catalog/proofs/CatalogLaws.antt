@@ -2,24 +2,21 @@
 --
 --   Catalog b      b begins with a catalog
 -- Assumes nothing.
-use mathlib.Core.Path.{_≡_, refl, sym, ap, ap₂, _∙_, subst}
-use mathlib.Core.Bool.{Bool, true, false, cond, _&&_, true≢false}
-use mathlib.Core.List.{List, [], _∷_}
-use Prim.Native.Nat.{ℕ, zero, suc, _+_, _-_, _*_, _≤_, _<_}
+use mathlib.Core.Path.{_≡_, refl, sym, ap}
+use mathlib.Core.Bool.{Bool, true, false, cond}
+use mathlib.Core.List.{List}
+use Prim.Native.Nat.{ℕ, _+_, _-_, _*_, _≤_}
 use native.Mathlib.Omega.{arith}
-use lib.Dec.{ltb, leb, eqb}
+use lib.Dec.{leb, eqb}
 use lib.ListN.{length, take, drop, length-drop}
-use borrow.Author.Tests.{leb-true, eqb-true, ltb-true, le-leb, lt-leb, eq-eqb, ne-eqb}
+use borrow.Author.Tests.{leb-true, eqb-true, le-leb, eq-eqb}
 use Rattle.computed_tests.proofs.Tests.{and-both}
-use Rattle.refusals.specs.Limits.{maxFiles, maxEntries}
-use Rattle.little_endian.specs.Bytes.{leAt}
+use Rattle.refusals.specs.Limits.{maxEntries}
 use Rattle.lent_bytes.proofs.PartLaws.{part-to-end}
-use Rattle.catalog.specs.Catalog.{entryCount, volumeCount, entryStart, volumeStart, catalogLength, rowsIn, entryRows, volumeRows, savedRows, greatestSize}
+use Rattle.catalog.specs.Catalog.{entryCount, entryStart, volumeStart, catalogLength, rowsIn, entryRows, volumeRows, savedRows, greatestSize}
 use Rattle.catalog.specs.Catalog.{entryRowsAllowed, volumeRowsAllowed, isCatalog}
 use Rattle.catalog.specs.Plan.{countsOf, foundOf, enteredOf}
-use Rattle.catalog.specs.declared.checking.Entered.{Entered}
 use Rattle.catalog.specs.declared.checking.Entered.the-variants as entered
-use Rattle.catalog.specs.declared.checking.Found.{Found}
 use Rattle.catalog.specs.declared.checking.Found.the-variants as found
 
 pub record Catalog (b : List ℕ) : Type 0 where

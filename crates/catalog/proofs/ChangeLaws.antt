@@ -1,26 +1,23 @@
 -- A catalog with a row more and with one less, as bytes.
 -- Assumes nothing.
-use mathlib.Core.Path.{_≡_, refl, sym, ap, ap₂, _∙_, subst}
-use mathlib.Core.Bool.{Bool, true, false, cond, not, _&&_, _||_}
+use mathlib.Core.Path.{_≡_, refl, sym, ap, ap₂, _∙_}
+use mathlib.Core.Bool.{Bool, true, false, cond, not, _&&_}
 use mathlib.Core.List.{List, [], _∷_, _++_, flatten, append-assoc}
 use Prim.Native.Nat.{ℕ, zero, suc, _+_, _-_, _*_, _≤_, _<_}
 use native.Mathlib.Omega.{arith}
 use lib.Dec.{ltb, eqb}
 use lib.ListN.{length, take, drop, getD, length-append, length-take, length-drop}
-use lib.Seq.{sets, length-take-le, take-at, drop-at, take-add, drop-drop, drop-append-le}
+use lib.Seq.{sets, length-take-le, drop-at, take-add, drop-drop, drop-append-le}
 use borrow.Author.Tests.{lt-ltb, le-ltb, ltb-true, ltb-false}
 use Rattle.cut_lists.specs.All.{All, all-none, all-more}
 use Rattle.entries.proofs.KeepLaws.{all-keep}
 use Rattle.little_endian.specs.Bytes.{toLe, leAt}
-use Rattle.little_endian.proofs.Numbers.{length-toLe}
 use Rattle.lent_bytes.specs.Writing.{accepted}
-use Rattle.lent_bytes.specs.declared.Writing.{Writing}
 use Rattle.lent_bytes.specs.declared.Writing.the-variants.{Written}
 use Rattle.lent_bytes.proofs.StoreLaws.{sets-over}
 use Rattle.lent_bytes.proofs.PartsInRow.{flatten-append}
 use Rattle.catalog.specs.Rows.{numberOf, catalogHead, catalogBytes}
 use Rattle.catalog.specs.Catalog.{entryCount, volumeCount, catalogLength, rowsIn, entryRows, volumeRows, holds, insertRow, removeRow}
-use Rattle.catalog.specs.Catalog.{savedRows, greatestSize, isCatalog}
 use Rattle.catalog.specs.Plan.{placeOf, spread, closed}
 use Rattle.catalog.proofs.RowLaws.{Sized, length-rows, flatten-rows, rows-sized, length-flatten, number-at}
 use Rattle.catalog.proofs.CatalogLaws.{Catalog}

@@ -3,11 +3,11 @@
 --   enteredFrom k g rs    what the entry rows rs tell after those of k saved files of at most g bytes
 -- Assumes nothing.
 use mathlib.Core.Path.{_≡_, refl, sym, ap, ap₂, _∙_}
-use mathlib.Core.Bool.{Bool, true, false, cond, not, _&&_, _||_, true≢false}
+use mathlib.Core.Bool.{Bool, true, false, cond, not, _&&_, true≢false}
 use mathlib.Core.List.{List, [], _∷_, map, foldr}
-use Prim.Native.Nat.{ℕ, zero, suc, _+_, _-_, _≤_, _<_, max}
+use Prim.Native.Nat.{ℕ, suc, _+_, _-_, _≤_, _<_, max}
 use native.Mathlib.Omega.{arith}
-use lib.Dec.{ltb, leb, eqb}
+use lib.Dec.{ltb, eqb}
 use lib.ListN.{length, take, drop}
 use borrow.Author.Tests.{le-leb, lt-leb}
 use Rattle.refusals.specs.Limits.{maxFiles}
@@ -15,7 +15,7 @@ use Rattle.little_endian.specs.Bytes.{leAt}
 use Rattle.entries.specs.Entry.{fileSizeAllowed}
 use Rattle.par1_rules.specs.Rules.{numberAllowed}
 use Rattle.catalog.specs.Rows.{numberOf, sizeOf}
-use Rattle.catalog.specs.Catalog.{rowsIn, isSavedRow, savedRows, greatestSize, inTurn, entryRowsAllowed, volumeRowsAllowed}
+use Rattle.catalog.specs.Catalog.{rowsIn, savedRows, greatestSize, inTurn, entryRowsAllowed, volumeRowsAllowed}
 use Rattle.catalog.specs.Plan.{enteredOf, placeOf}
 use Rattle.catalog.specs.declared.checking.Entered.{Entered}
 use Rattle.catalog.specs.declared.checking.Entered.the-variants as entered

@@ -4,8 +4,7 @@
 --   catalog-laid        a catalog of a saved entry, one that is not, and a volume
 -- Assumes nothing.
 use mathlib.Core.Path.{_≡_, refl}
-use mathlib.Core.List.{List, [], _∷_, _++_, flatten}
-use Prim.Native.Nat.{ℕ}
+use mathlib.Core.List.{[], _∷_, _++_, flatten}
 use lib.ListN.{replicate}
 use Rattle.little_endian.specs.Bytes.{toLe, leAt, fromLe}
 use Rattle.catalog.specs.Rows.{row, volumeRow, catalogHead, catalogBytes}

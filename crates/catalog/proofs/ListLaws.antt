@@ -1,13 +1,13 @@
 -- The entry rows of a list, entry by entry.
 -- Assumes nothing.
-use mathlib.Core.Path.{_≡_, refl, sym, ap, ap₂, _∙_, subst}
-use mathlib.Core.Bool.{Bool, true, false, _&&_, true≢false}
-use mathlib.Core.List.{List, [], _∷_, _++_, flatten, append-assoc}
-use Prim.Native.Nat.{ℕ, zero, suc, _+_, _*_, _^_, _≤_, _<_}
+use mathlib.Core.Path.{_≡_, refl, sym, ap, ap₂, _∙_}
+use mathlib.Core.Bool.{Bool, true, false, _&&_}
+use mathlib.Core.List.{List, [], _∷_, _++_, flatten}
+use Prim.Native.Nat.{ℕ, suc, _+_, _≤_}
 use native.Mathlib.Omega.{arith}
 use lib.Dec.{eqb}
-use lib.ListN.{length, take, drop, length-append, length-drop, length-take}
-use lib.Seq.{sets, length-take-le, drop-drop, drop-length}
+use lib.ListN.{length, take, drop, length-drop, length-take}
+use lib.Seq.{sets, length-take-le, drop-drop}
 use borrow.Author.Tests.{eq-eqb, ne-eqb}
 use Rattle.cut_lists.specs.All.{All, all-none, all-more}
 use Rattle.little_endian.proofs.Stores.{sets-append}
@@ -16,10 +16,10 @@ use Rattle.lent_bytes.proofs.EqualLaws.{equal-true}
 use Rattle.cut_lists.proofs.CutLaws.{cut-all}
 use Rattle.entries.specs.Entry.{statusOf, fileSizeOf, md5Of, savedCount, lengthOf}
 use Rattle.entries.specs.Walk.{entriesOf}
-use Rattle.entries.proofs.EntryLaws.{IsEntry, EntryAt, length-sized}
+use Rattle.entries.proofs.EntryLaws.{EntryAt, length-sized}
 use Rattle.entries.proofs.WalkLaws.{entries-more}
 use Rattle.par1_rules.proofs.HashLaws.{hash-part}
-use Rattle.catalog.specs.Rows.{row, fileNumberAfter, entryRow, rowsAfter}
+use Rattle.catalog.specs.Rows.{row, fileNumberAfter, rowsAfter}
 use Rattle.catalog.proofs.RowLaws.{Sized, length-row}
 
 pub length-rows-after : (k : ℕ) (es : List (List ℕ)) → length (rowsAfter k es) ≡ length es

@@ -2,10 +2,10 @@
 --
 --   Low n r        the refusal r has a number of at most 30, and the place of an entry of 58 bytes or more in n bytes
 -- Assumes nothing.
-use mathlib.Core.Path.{_≡_, refl, sym, ap, _∙_}
+use mathlib.Core.Path.{_≡_, refl, sym, ap}
 use mathlib.Core.Bool.{Bool, true, false, cond, not}
 use mathlib.Core.List.{List, [], flatten}
-use Prim.Native.Nat.{ℕ, _+_, _*_, _/_, _≤_, _<_}
+use Prim.Native.Nat.{ℕ, _+_, _/_, _≤_}
 use native.Mathlib.Omega.{arith}
 use lib.Dec.{leb}
 use lib.ListN.{length}
@@ -25,7 +25,6 @@ use Rattle.par1_rules.specs.Layout.{volumeNumberOf}
 use Rattle.catalog.specs.Rows.{rowsFor, volumeRow, catalogBytes}
 use Rattle.catalog.specs.Catalog.{entryCount, entryRows, volumeRows, isCatalog, holds}
 use Rattle.catalog.specs.Calls.{openRefusal, volumeInRange, addNumber, addRefusal, addedBytes, dropNumber, droppedBytes, loadingOf}
-use Rattle.catalog.proofs.CatalogLaws.{Catalog, is-catalog}
 use Rattle.catalog.proofs.CallLaws.{length-opened, add-catalog, drop-passed, held-within, volumes-few}
 use Rattle.catalog.proofs.ChangeLaws.{length-added, length-dropped}
 use Rattle.catalog.proofs.ReadLaws.{told, length-volume-row}

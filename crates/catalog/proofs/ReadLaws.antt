@@ -5,7 +5,7 @@
 use mathlib.Core.Path.{_≡_, refl, sym, ap, ap₂, _∙_}
 use mathlib.Core.Bool.{Bool, true, false, _&&_, _||_}
 use mathlib.Core.List.{List}
-use Prim.Native.Nat.{ℕ, _+_, _-_, _^_, _≤_, _<_}
+use Prim.Native.Nat.{ℕ, _+_, _^_, _≤_, _<_}
 use native.Mathlib.Omega.{arith}
 use lib.Dec.{leb, eqb}
 use lib.ListN.{length, take, drop, length-drop}
@@ -14,7 +14,7 @@ use borrow.Author.Tests.{leb-true, eqb-true}
 use Rattle.computed_tests.proofs.Tests.{and-both}
 use Rattle.refusals.specs.Limits.{maxFiles}
 use Rattle.entries.specs.Numbering.{savedOf}
-use Rattle.entries.specs.Walk.{greatestOf, totalsOf}
+use Rattle.entries.specs.Walk.{greatestOf}
 use Rattle.entries.specs.declared.Totals.{Totals}
 use Rattle.entries.proofs.WalkLaws.{walk-totals}
 use Rattle.par1_read.specs.Reading.{entriesIn, readOf}

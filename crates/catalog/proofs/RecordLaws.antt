@@ -10,7 +10,7 @@ use lib.Seq.{sets, length-take-le, drop-cons, drop-drop, set-at}
 use borrow.Author.Tests.{le-leb, lt-leb}
 use Rattle.little_endian.specs.Bytes.{leAt}
 use Rattle.lent_bytes.proofs.StoreLaws.{sets-over}
-use Rattle.catalog.specs.Rows.{numberOf, sizeOf, hashOf}
+use Rattle.catalog.specs.Rows.{hashOf}
 use Rattle.lent_bytes.specs.declared.Writing.{Writing}
 use Rattle.lent_bytes.specs.declared.Writing.the-variants.{Written, Refused}
 use Rattle.refusals.specs.declared.Refusal.{Refusal}

@@ -1,19 +1,19 @@
 -- Rows one after another, and their fields.
 -- Assumes nothing.
-use mathlib.Core.Path.{_≡_, refl, sym, ap, ap₂, _∙_, subst}
+use mathlib.Core.Path.{_≡_, refl, sym, ap, ap₂, _∙_}
 use mathlib.Core.List.{List, [], _∷_, _++_, flatten, append-assoc, append-nil}
 use Prim.Native.Nat.{ℕ, zero, suc, _+_, _-_, _*_, _%_, _^_, _≤_, _<_}
 use native.Mathlib.Nat.{add-zero}
 use native.Mathlib.Omega.{arith}
-use lib.ListN.{length, take, drop, length-append, length-take, length-drop, take-append-drop, drop-of-length-le}
-use lib.Seq.{sets, length-take-le, take-at, drop-at, take-add, drop-drop, take-append-le, drop-append-le}
+use lib.ListN.{length, take, drop, length-append, length-drop, drop-of-length-le}
+use lib.Seq.{sets, length-take-le, take-at, drop-at, take-add, drop-drop}
 use Rattle.cut_lists.specs.All.{All, all-none, all-more}
 use Rattle.little_endian.specs.Bytes.{toLe, leAt}
 use Rattle.little_endian.proofs.Numbers.{length-toLe, to-mod}
 use Rattle.little_endian.proofs.Reading.{leAt-drop}
 use Rattle.lent_bytes.proofs.PartLaws.{part-take, number-take}
 use Rattle.lent_bytes.proofs.StoreLaws.{Stores, stores-flatten, sets-over}
-use Rattle.lent_bytes.proofs.PartsInRow.{At, at-start, at-part, at-next, at-number}
+use Rattle.lent_bytes.proofs.PartsInRow.{At, at-part, at-next, at-number}
 use Rattle.catalog.specs.Rows.{row, numberOf, sizeOf, hashOf}
 use Rattle.catalog.specs.Catalog.{rowsIn}
 

@@ -9,7 +9,7 @@
 --   spread at to r s   the bytes s with the row r at the byte at: those up to the byte to move up
 --   closed at to s     the bytes s without the row at the byte at: those up to the byte to move down
 -- Assumes nothing.
-use mathlib.Core.Bool.{Bool, cond}
+use mathlib.Core.Bool.{cond}
 use mathlib.Core.List.{List, [], _∷_, _++_}
 use Prim.Native.Nat.{ℕ, suc, _+_, _-_, _*_}
 use lib.Dec.{ltb, eqb}

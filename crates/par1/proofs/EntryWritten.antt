@@ -32,7 +32,7 @@ use Rattle.par1.specs.Claim.{EntryAccepted, EntryBack, EntryWritten}
 use Rattle.par1.specs.Checking.{loneRefusal, isDescribed, checkOf}
 use Rattle.par1_write.specs.EntryWriting.{entryBytes, entryRefusal, writeEntryOf}
 use Rattle.par1.proofs.CheckingLaws.{check-lone}
-use Rattle.par1_write.proofs.EntryWritingLaws.{length-entry, EntryPassed, entry-passed}
+use Rattle.par1_write.proofs.EntryWritingLaws.{length-entry, entry-passed}
 use Rattle.lent_bytes.proofs.EqualLaws.{equal-same}
 use Rattle.par1_rules.proofs.HashLaws.{length-md5}
 use Rattle.lent_bytes.proofs.PartsInRow.{At, at-part, at-next, at-number, at-last}

@@ -60,19 +60,5 @@ returns-4 c =
 pub amend-spec : {M : Type 1} → statement M
 amend-spec =
     tie.close
-    (tie.spec
-    (λ c κs. search needs)
-    returns
-    (λ c. search needs)
-    slice-aggregate-plan-for
-    (λ c κs. search needs)
-    (λ c. search needs)
-    (λ c κs. search needs)
-    (λ c. search needs)
-    returns-2
-    patch-requires
-    (λ c. search needs)
-    (λ c. search needs)
-    returns-3
-    (λ c. search needs)
-    returns-4)
+    (tie.spec (λ c κs. search needs) returns (λ c. search needs) slice-aggregate-plan-for (λ c κs. search needs) (λ c. search needs) (λ c κs. search needs)
+    (λ c. search needs) returns-2 patch-requires (λ c. search needs) (λ c. search needs) returns-3 (λ c. search needs) returns-4)

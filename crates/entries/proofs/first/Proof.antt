@@ -74,18 +74,5 @@ returns-5 c =
 pub first-spec : {M : Type 1} → statement M
 first-spec =
     tie.close
-    (tie.spec
-    returns
-    (λ c κs. search needs)
-    (λ c κs. search needs)
-    returns-2
-    slice-aggregate-entry
-    (λ c κs. search needs)
-    returns-3
-    sub-name-allowed
-    part-name-allowed-start
-    (λ c. search needs)
-    (λ c κs. search needs)
-    returns-4
-    (λ c κs. search needs)
-    returns-5)
+    (tie.spec returns (λ c κs. search needs) (λ c κs. search needs) returns-2 slice-aggregate-entry (λ c κs. search needs) returns-3 sub-name-allowed
+    part-name-allowed-start (λ c. search needs) (λ c κs. search needs) returns-4 (λ c κs. search needs) returns-5)

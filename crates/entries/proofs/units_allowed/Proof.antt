@@ -59,15 +59,4 @@ returns-2 c =
 pub units-allowed-spec : {M : Type 1} → statement M
 units-allowed-spec =
     tie.close
-    (tie.spec
-    Inv-loop
-    μ-loop
-    loop-holds
-    sub-loop
-    read16-requires
-    unit-allowed-requires
-    returns
-    add-at
-    loop-less
-    loop-again
-    returns-2)
+    (tie.spec Inv-loop μ-loop loop-holds sub-loop read16-requires unit-allowed-requires returns add-at loop-less loop-again returns-2)

@@ -12,8 +12,4 @@ returns c = c .before .write-numbers .ensures
 pub bytes-of-count-spec : {M : Type 1} → statement M
 bytes-of-count-spec =
     tie.close
-    (tie.spec
-    (λ c. search needs)
-    (λ c. search needs)
-    (λ c κs. search needs)
-    returns)
+    (tie.spec (λ c. search needs) (λ c. search needs) (λ c κs. search needs) returns)

@@ -47,16 +47,5 @@ returns-4 c =
 pub next-run-spec : {M : Type 1} → statement M
 next-run-spec =
     tie.close
-    (tie.spec
-    (λ c. search needs)
-    (λ c κs. search needs)
-    returns
-    (λ c. search needs)
-    (λ c κs. search needs)
-    returns-2
-    returns-3
-    (λ c κs. search needs)
-    units-to-end-requires
-    slice-aggregate-with-units
-    (λ c κs. search needs)
-    returns-4)
+    (tie.spec (λ c. search needs) (λ c κs. search needs) returns (λ c. search needs) (λ c κs. search needs) returns-2 returns-3 (λ c κs. search needs)
+    units-to-end-requires slice-aggregate-with-units (λ c κs. search needs) returns-4)

@@ -87,18 +87,5 @@ returns-4 c =
 pub import-spec : {M : Type 1} → statement M
 import-spec =
     tie.close
-    (tie.spec
-    (λ c κs. search needs)
-    (λ c. search needs)
-    (λ c. search needs)
-    (λ c κs. search needs)
-    returns
-    (λ c κs. search needs)
-    (λ c κs. search needs)
-    (λ c κs. c .shaped-lines .ensures)
-    returns-2
-    (λ c κs. search needs)
-    returns-3
-    put-answers-requires
-    (λ c. search needs)
-    returns-4)
+    (tie.spec (λ c κs. search needs) (λ c. search needs) (λ c. search needs) (λ c κs. search needs) returns (λ c κs. search needs) (λ c κs. search needs)
+    (λ c κs. c .shaped-lines .ensures) returns-2 (λ c κs. search needs) returns-3 put-answers-requires (λ c. search needs) returns-4)

@@ -29,13 +29,5 @@ returns-2 c =
 pub par1-write-volume-spec : {M : Type 1} → statement M
 par1-write-volume-spec =
     tie.close
-    (tie.spec
-    (λ c κs. search needs)
-    (λ c. search needs)
-    returns
-    (λ c κs. search needs)
-    (λ c κs. search needs)
-    (λ c κs. search needs)
-    answer-requires
-    (λ c. search needs)
-    returns-2)
+    (tie.spec (λ c κs. search needs) (λ c. search needs) returns (λ c κs. search needs) (λ c κs. search needs) (λ c κs. search needs) answer-requires
+    (λ c. search needs) returns-2)

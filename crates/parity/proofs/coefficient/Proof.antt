@@ -32,12 +32,4 @@ returns-5 c =
 pub coefficient-spec : {M : Type 1} → statement M
 coefficient-spec =
     tie.close
-    (tie.spec
-    returns
-    returns-2
-    returns-3
-    returns-4
-    (λ c. search needs)
-    (λ c. search needs)
-    (λ c κs. search needs)
-    returns-5)
+    (tie.spec returns returns-2 returns-3 returns-4 (λ c. search needs) (λ c. search needs) (λ c κs. search needs) returns-5)

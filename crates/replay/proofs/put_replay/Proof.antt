@@ -54,17 +54,5 @@ loop-again c =
 pub put-replay-spec : {M : Type 1} → statement M
 put-replay-spec =
     tie.close
-    (tie.spec
-    Inv-loop
-    μ-loop
-    (λ c κs. search needs)
-    (λ c κs. search needs)
-    (λ c. omega arith)
-    returns
-    loop-holds
-    (λ c κs. search needs)
-    (λ c κs. search needs)
-    (λ c. omega arith)
-    returns-2
-    loop-less
-    loop-again)
+    (tie.spec Inv-loop μ-loop (λ c κs. search needs) (λ c κs. search needs) (λ c. omega arith) returns loop-holds (λ c κs. search needs) (λ c κs. search needs)
+    (λ c. omega arith) returns-2 loop-less loop-again)

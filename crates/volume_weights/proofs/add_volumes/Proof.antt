@@ -37,13 +37,4 @@ add-volume-requires c κs = c .before .before .before .loop .inv .1 (search need
 pub add-volumes-spec : {M : Type 1} → statement M
 add-volumes-spec =
     tie.close
-    (tie.spec
-    Inv-loop
-    μ-loop
-    loop-holds
-    (λ c. omega arith)
-    add-volume-requires
-    (λ c. omega arith)
-    (λ c. omega arith)
-    loop-again
-    returns)
+    (tie.spec Inv-loop μ-loop loop-holds (λ c. omega arith) add-volume-requires (λ c. omega arith) (λ c. omega arith) loop-again returns)

@@ -1,25 +1,18 @@
 -- `catalog::checking::volumes_allowed` meets its contract.
 -- Assumes nothing.
-use mathlib.Core.Path.{_≡_, refl, sym, ap, ap₂, _∙_, subst}
-use mathlib.Core.Logic.{⊎-elim}
-use Prim.Native.Nat.{ℕ, _≤_, _<_, _-_, _+_, _*_}
+use mathlib.Core.Path.{_≡_, refl, sym, ap, _∙_}
+use Prim.Native.Nat.{ℕ, _≤_, _-_, _+_, _*_}
 use native.Mathlib.Omega.{arith}
-use lib.ListN.{length, getD, set, length-set}
+use lib.ListN.{length}
 use borrow.Author.Needs.{needs}
-use borrow.Author.Tests.{ne-eqb, eq-eqb, lt-leb, le-leb, lt-ltb, le-ltb, not-true, not-false, leb-true, leb-false, ltb-true, ltb-false, eqb-true, eqb-false}
-use mathlib.Core.Bool.{Bool, true, false, _&&_}
-use mathlib.Core.List.{List}
+use borrow.Author.Tests.{not-true, not-false}
+use mathlib.Core.Bool.{_&&_}
 use lib.ListN.{drop}
 use denote.Ref.{now}
 use Rattle.catalog.specs.Catalog.{rowsIn, volumeRowsAllowed}
 use Rattle.catalog.proofs.CheckLaws.{volumes-more}
 use Rattle.catalog.proofs.checking.volumes_allowed.Statement.{statement}
 use Rattle.catalog.proofs.checking.volumes_allowed.Tie as tie
-use Rattle.catalog.proofs.checking.volumes_allowed.Reads as reads
-use Rattle.catalog.proofs.checking.volumes_allowed.Lts as lts
-use Rattle.catalog.proofs.checking.volume_allowed.Reads as volume-allowed-reads
-use Rattle.little_endian.proofs.read32.Reads as read32-reads
-use Rattle.little_endian.proofs.read64.Reads as read64-reads
 
 abbrev Inv-loop : tie.InvT-loop
 Inv-loop rows count saved greatest last₀ at₀ left₀ last at left = (at + 28 * left ≤ length rows)
@@ -38,53 +31,41 @@ more : (c : tie.After-volume-allowed Inv-loop μ-loop)
 more c = volumes-more _ _ _ _ _ _ (c .before .before .before .loop-test .taken) (c .before .before .read32 .ensures) (c .before .read64 .ensures)
     (c .volume-allowed .ensures)
 
--- src/checking.rt:103:5
 loop-holds : tie.Need-loop-holds Inv-loop μ-loop
 loop-holds c = (omega arith, refl)
 
--- src/checking.rt:104:22
 read32-requires : tie.Need-read32-requires Inv-loop μ-loop
 read32-requires c κs = search needs
 
--- src/checking.rt:104:22
 cast-number : tie.Need-cast-number Inv-loop μ-loop
 cast-number c = omega arith
 
--- src/checking.rt:105:48
 add-read64 : tie.Need-add-read64 Inv-loop μ-loop
 add-read64 c = let i = c .before .before .loop .inv .0 in omega arith
 
--- src/checking.rt:105:13
 read64-requires : tie.Need-read64-requires Inv-loop μ-loop
 read64-requires c κs = search needs
 
--- src/checking.rt:106:13
 volume-allowed-requires : tie.Need-volume-allowed-requires Inv-loop μ-loop
 volume-allowed-requires c κs = search needs
 
--- src/checking.rt:107:13
 returns : tie.Need-returns Inv-loop μ-loop
 returns c = let l = c .before .before .before .before .before .loop in
     sym (more (c .before) ∙ simp (not-true (c .before .volume-allowed .result) (c .if1 .taken))) ∙ l .inv .1
 
--- src/checking.rt:110:9
 add-at : tie.Need-add-at Inv-loop μ-loop
 add-at c = omega arith
 
--- src/checking.rt:111:9
 sub-left : tie.Need-sub-left Inv-loop μ-loop
 sub-left c = omega arith
 
--- src/checking.rt:103:5
 loop-less : tie.Need-loop-less Inv-loop μ-loop
 loop-less c = omega arith
 
--- src/checking.rt:103:5
 loop-again : tie.Need-loop-again Inv-loop μ-loop
 loop-again c = let l = c .before .before .before .before .before .loop in
     (omega arith, sym (more (c .before) ∙ simp (not-false (c .before .volume-allowed .result) (c .if1 .left))) ∙ l .inv .1)
 
--- src/checking.rt:96:1
 returns-2 : tie.Need-returns-2 Inv-loop μ-loop
 unfolding volumeRowsAllowed rowsIn
 returns-2 c = let l = c .before in
@@ -95,18 +76,5 @@ returns-2 c = let l = c .before in
 pub volumes-allowed-spec : {M : Type 1} → statement M
 volumes-allowed-spec =
     tie.close
-    (tie.spec
-    Inv-loop
-    μ-loop
-    loop-holds
-    read32-requires
-    cast-number
-    add-read64
-    read64-requires
-    volume-allowed-requires
-    returns
-    add-at
-    sub-left
-    loop-less
-    loop-again
-    returns-2)
+    (tie.spec Inv-loop μ-loop loop-holds read32-requires cast-number add-read64 read64-requires volume-allowed-requires returns add-at sub-left loop-less
+    loop-again returns-2)

@@ -1,15 +1,12 @@
 -- `catalog::entry_rows::gives_rows` meets its contract.
 -- Assumes nothing.
-use mathlib.Core.Path.{_≡_, refl, sym, ap, ap₂, _∙_, subst}
-use mathlib.Core.Logic.{⊎-elim}
-use Prim.Native.Nat.{ℕ, _≤_, _<_, _-_, _+_, _*_}
+use mathlib.Core.Path.{_≡_, refl, sym, ap, _∙_}
+use Prim.Native.Nat.{ℕ, _≤_, _-_, _+_}
 use native.Mathlib.Omega.{arith}
-use lib.ListN.{length, getD, set, length-set}
+use lib.ListN.{length}
 use borrow.Author.Needs.{needs}
-use mathlib.Core.List.{List, [], _∷_, flatten}
-use mathlib.Core.Bool.{Bool, _&&_}
+use mathlib.Core.List.{List, _∷_, flatten}
 use lib.ListN.{drop}
-use lib.Seq.{sets, length-sets}
 use denote.Ref.{now}
 use borrow.Author.Tests.{not-true, not-false}
 use Rattle.lent_bytes.specs.Equal.{equal}
@@ -17,19 +14,11 @@ use Rattle.entries.specs.Entry.{savedCount}
 use Rattle.entries.specs.Walk.{entriesOf}
 use Rattle.entries.proofs.EntryLaws.{EntryAt, entry-at}
 use Rattle.entries.proofs.WalkLaws.{entries-none, saved-most}
-use Rattle.catalog.specs.Rows.{row, rowsFor, rowsAfter}
+use Rattle.catalog.specs.Rows.{rowsFor, rowsAfter}
 use Rattle.catalog.proofs.RowLaws.{length-row}
-use Rattle.catalog.proofs.ListLaws.{restRows, rows-next, entries-next, hash-length, store-next, compare-next, compare-within, compare-end}
+use Rattle.catalog.proofs.ListLaws.{restRows, rows-next, hash-length, compare-next, compare-within, compare-end}
 use Rattle.catalog.proofs.entry_rows.gives_rows.Statement.{statement}
 use Rattle.catalog.proofs.entry_rows.gives_rows.Tie as tie
-use Rattle.catalog.proofs.entry_rows.gives_rows.Reads as reads
-use Rattle.catalog.proofs.entry_rows.gives_rows.Lts as lts
-use Rattle.catalog.proofs.entry_rows.file_number.Reads as file-number-reads
-use Rattle.catalog.proofs.entry_rows.row_of.Reads as row-of-reads
-use Rattle.entries.proofs.at.Reads as at-reads
-use Rattle.entries.proofs.saved_count.Reads as saved-count-reads
-use Rattle.lent_bytes.proofs.same.Reads as same-reads
-use Rattle.par1_rules.proofs.layout.part.Reads as part-reads
 
 abbrev Inv-loop : tie.InvT-loop
 Inv-loop list rows at₀ saved₀ from₀ at saved from = (from ≤ length list) × (at ≤ length rows) × (saved ≤ from)
@@ -68,71 +57,56 @@ next c =
       ap length (made .row-of .ensures) ∙ length-row _ _ _ (hash-length 0 s (l .loop .from) i hash-is),
     )
 
--- src/entry_rows.rt:48:5
 loop-holds : tie.Need-loop-holds Inv-loop μ-loop
 loop-holds c = (omega arith, omega arith, omega arith, refl)
 
--- src/entry_rows.rt:53:13
 at-requires : tie.Need-at-requires Inv-loop μ-loop
 at-requires c κs = search needs
 
--- src/entry_rows.rt:50:13
 enum-known-length : tie.Need-enum-known-length Inv-loop μ-loop
 enum-known-length c = search needs
 
--- src/entry_rows.rt:55:13
 returns : tie.Need-returns Inv-loop μ-loop
 unfolding rowsAfter
 returns c = let l = c .before .before in
     let none = ap (rowsAfter (l .loop .saved)) (entries-none _ _ (c .before .at .ensures) (c .match .keys2)) in
     sym (compare-end (now (l .before .before .before .args .rows)) (l .loop .at) none (l .loop .inv .1)) ∙ l .loop .inv .3
 
--- src/entry_rows.rt:57:39
 add-part : tie.Need-add-part Inv-loop μ-loop
 add-part c = let i = entry-in c in omega (arith, i .low, i .fits)
 
--- src/entry_rows.rt:57:13
 part-requires : tie.Need-part-requires Inv-loop μ-loop
 part-requires c κs = search needs
 
--- src/entry_rows.rt:58:26
 file-number-requires : tie.Need-file-number-requires Inv-loop μ-loop
 file-number-requires c κs = omega (arith, entry-in (c .before) .low, entry-in (c .before) .fits)
 
--- src/entry_rows.rt:58:19
 row-of-requires : tie.Need-row-of-requires Inv-loop μ-loop
 row-of-requires c κs = let i = entry-in (c .before .before) in hash-length 0 _ _ i (c .before .part .ensures)
 
--- src/entry_rows.rt:59:30
 slice-aggregate-same : tie.Need-slice-aggregate-same Inv-loop μ-loop
 slice-aggregate-same c = omega arith
 
--- src/entry_rows.rt:59:36
 part-requires-2 : tie.Need-part-requires-2 Inv-loop μ-loop
 part-requires-2 c κs = search needs
 
--- src/entry_rows.rt:59:13
 same-requires : tie.Need-same-requires Inv-loop μ-loop
 same-requires c κs = search needs
 
--- src/entry_rows.rt:60:13
 returns-2 : tie.Need-returns-2 Inv-loop μ-loop
 returns-2 c = let same = c .before in
     let l = same .before .before .before .before .before .before .before .before .before .before in
     sym (compare-next _ _ (now (l .before .before .before .args .rows)) (l .loop .at) (next same .1) (next same .0) (same .before .part2 .ensures) (same .same .ensures)
     ∙ simp (not-true (same .same .result) (c .if1 .taken))) ∙ l .loop .inv .3
 
--- src/entry_rows.rt:62:18
 saved-count-requires : tie.Need-saved-count-requires Inv-loop μ-loop
 saved-count-requires c κs = search needs
 
--- src/entry_rows.rt:62:9
 add-saved : tie.Need-add-saved Inv-loop μ-loop
 add-saved c = let known = c .before .before .before .before .before .before .before .before in
     let i = entry-in known in
     omega (arith, i .low, i .fits, c .saved-count .ensures, saved-most (known .before .length .given .0 .1 .0))
 
--- src/entry_rows.rt:63:9
 add-at : tie.Need-add-at Inv-loop μ-loop
 add-at c = let same = c .before .before in
     let l = same .before .before .before .before .before .before .before .before .before .before in
@@ -142,15 +116,12 @@ add-at c = let same = c .before .before in
           (same .same .ensures) (not-false (same .same .result) (c .before .if1 .left)),
     )
 
--- src/entry_rows.rt:64:9
 add-from : tie.Need-add-from Inv-loop μ-loop
 add-from c = omega (arith, entry-in (c .before .before .before .before .before .before .before .before) .fits)
 
--- src/entry_rows.rt:48:5
 loop-less : tie.Need-loop-less Inv-loop μ-loop
 loop-less c = let i = entry-in (c .before .before .before .before .before .before .before .before) in omega (arith, i .low, i .fits)
 
--- src/entry_rows.rt:48:5
 loop-again : tie.Need-loop-again Inv-loop μ-loop
 loop-again c = let same = c .before .before in
     let known = same .before .before .before .before .before .before in
@@ -174,24 +145,5 @@ loop-again c = let same = c .before .before in
 pub gives-rows-spec : {M : Type 1} → statement M
 gives-rows-spec =
     tie.close
-    (tie.spec
-    Inv-loop
-    μ-loop
-    loop-holds
-    at-requires
-    enum-known-length
-    returns
-    add-part
-    part-requires
-    file-number-requires
-    row-of-requires
-    slice-aggregate-same
-    part-requires-2
-    same-requires
-    returns-2
-    saved-count-requires
-    add-saved
-    add-at
-    add-from
-    loop-less
-    loop-again)
+    (tie.spec Inv-loop μ-loop loop-holds at-requires enum-known-length returns add-part part-requires file-number-requires row-of-requires slice-aggregate-same
+    part-requires-2 same-requires returns-2 saved-count-requires add-saved add-at add-from loop-less loop-again)

@@ -1,35 +1,23 @@
 -- `catalog::entry_rows::put_rows` meets its contract.
 -- Assumes nothing.
-use mathlib.Core.Path.{_≡_, refl, sym, ap, ap₂, _∙_, subst}
-use mathlib.Core.Logic.{⊎-elim}
-use Prim.Native.Nat.{ℕ, _≤_, _<_, _-_, _+_, _*_}
+use mathlib.Core.Path.{_≡_, refl, sym, ap, _∙_}
+use Prim.Native.Nat.{ℕ, _≤_, _-_, _+_, _*_}
 use native.Mathlib.Omega.{arith}
-use lib.ListN.{length, getD, set, length-set}
+use lib.ListN.{length}
 use borrow.Author.Needs.{needs}
-use mathlib.Core.List.{List, [], _∷_, flatten}
-use mathlib.Core.Bool.{Bool, _&&_}
+use mathlib.Core.List.{List, _∷_, flatten}
 use lib.ListN.{drop}
-use lib.Seq.{sets, length-sets}
+use lib.Seq.{sets}
 use denote.Ref.{now}
-use borrow.Author.Tests.{not-true, not-false}
-use Rattle.lent_bytes.specs.Equal.{equal}
 use Rattle.entries.specs.Entry.{savedCount}
 use Rattle.entries.specs.Walk.{entriesOf}
 use Rattle.entries.proofs.EntryLaws.{EntryAt, entry-at}
 use Rattle.entries.proofs.WalkLaws.{entries-none, saved-most}
-use Rattle.catalog.specs.Rows.{row, rowsFor, rowsAfter}
+use Rattle.catalog.specs.Rows.{rowsFor, rowsAfter}
 use Rattle.catalog.proofs.RowLaws.{length-row}
-use Rattle.catalog.proofs.ListLaws.{restRows, rows-next, entries-next, hash-length, store-next, compare-next, compare-within, compare-end}
+use Rattle.catalog.proofs.ListLaws.{restRows, rows-next, entries-next, hash-length, store-next}
 use Rattle.catalog.proofs.entry_rows.put_rows.Statement.{statement}
 use Rattle.catalog.proofs.entry_rows.put_rows.Tie as tie
-use Rattle.catalog.proofs.entry_rows.put_rows.Reads as reads
-use Rattle.catalog.proofs.entry_rows.put_rows.Lts as lts
-use Rattle.catalog.proofs.entry_rows.file_number.Reads as file-number-reads
-use Rattle.catalog.proofs.entry_rows.row_of.Reads as row-of-reads
-use Rattle.entries.proofs.at.Reads as at-reads
-use Rattle.entries.proofs.saved_count.Reads as saved-count-reads
-use Rattle.lent_bytes.proofs.put.Reads as put-reads
-use Rattle.par1_rules.proofs.layout.part.Reads as part-reads
 
 abbrev Inv-loop : tie.InvT-loop
 Inv-loop out₀ list at₀ saved₀ from₀ out at saved from = (from ≤ length list) × (length out ≡ length out₀) × (saved ≤ from) × (at + 28 * length (entriesOf (drop from list) .pieces) ≤ length out₀)
@@ -45,77 +33,60 @@ entry-in : (c : tie.After-known-told Inv-loop μ-loop)
     EntryAt (now (l .before .before .before .args .list)) (l .loop .from) (e .0) (e .1 .0) (e .1 .1 .0)
 entry-in c = entry-at _ _ (c .before .before .before .at .ensures) (c .before .length .given .1)
 
--- src/entry_rows.rt:23:5
 loop-holds : tie.Need-loop-holds Inv-loop μ-loop
 loop-holds c = (omega arith, refl, omega arith, c .before .before .pre, refl)
 
--- src/entry_rows.rt:28:13
 at-requires : tie.Need-at-requires Inv-loop μ-loop
 at-requires c κs = search needs
 
--- src/entry_rows.rt:25:13
 enum-known-length : tie.Need-enum-known-length Inv-loop μ-loop
 enum-known-length c = search needs
 
--- src/entry_rows.rt:30:13
 same-length : tie.Need-same-length Inv-loop μ-loop
 same-length c = let l = c .before .before in l .loop .inv .1
 
--- src/entry_rows.rt:30:13
 returns : tie.Need-returns Inv-loop μ-loop
 unfolding rowsAfter flatten
 returns c = let l = c .before .before in
     let none = ap (rowsAfter (l .loop .saved)) (entries-none _ _ (c .before .at .ensures) (c .match .keys2)) in
     sym (ap (λ (rs : List (List ℕ)). sets (l .loop .out) (l .loop .at) (flatten rs)) none) ∙ l .loop .inv .4
 
--- src/entry_rows.rt:32:39
 add-part : tie.Need-add-part Inv-loop μ-loop
 add-part c = let i = entry-in c in omega (arith, i .low, i .fits)
 
--- src/entry_rows.rt:32:13
 part-requires : tie.Need-part-requires Inv-loop μ-loop
 part-requires c κs = search needs
 
--- src/entry_rows.rt:33:26
 file-number-requires : tie.Need-file-number-requires Inv-loop μ-loop
 file-number-requires c κs = omega (arith, entry-in (c .before) .low, entry-in (c .before) .fits)
 
--- src/entry_rows.rt:33:19
 row-of-requires : tie.Need-row-of-requires Inv-loop μ-loop
 row-of-requires c κs = let i = entry-in (c .before .before) in hash-length 0 _ _ i (c .before .part .ensures)
 
--- src/entry_rows.rt:34:34
 slice-aggregate-put : tie.Need-slice-aggregate-put Inv-loop μ-loop
 slice-aggregate-put c = omega arith
 
--- src/entry_rows.rt:34:9
 put-requires : tie.Need-put-requires Inv-loop μ-loop
 put-requires c κs = search needs
 
--- src/entry_rows.rt:35:18
 saved-count-requires : tie.Need-saved-count-requires Inv-loop μ-loop
 saved-count-requires c κs = search needs
 
--- src/entry_rows.rt:35:9
 add-saved : tie.Need-add-saved Inv-loop μ-loop
 add-saved c = let known = c .before .before .before .before .before .before .before .before .before in
     let i = entry-in known in
     omega (arith, i .low, i .fits, c .saved-count .ensures, saved-most (known .before .length .given .0 .1 .0))
 
--- src/entry_rows.rt:36:9
 add-at : tie.Need-add-at Inv-loop μ-loop
 add-at c = let known = c .before .before .before .before .before .before .before .before .before in
     omega (arith, entries-next 0 _ _ (entry-in known))
 
--- src/entry_rows.rt:37:9
 add-from : tie.Need-add-from Inv-loop μ-loop
 add-from c = omega (arith, entry-in (c .before .before .before .before .before .before .before .before .before) .fits)
 
--- src/entry_rows.rt:23:5
 loop-less : tie.Need-loop-less Inv-loop μ-loop
 loop-less c = let i = entry-in (c .before .before .before .before .before .before .before .before .before) in omega (arith, i .low, i .fits)
 
--- src/entry_rows.rt:23:5
 loop-again : tie.Need-loop-again Inv-loop μ-loop
 loop-again c = let put = c .before .before .before in
     let made = put .before .before .before in
@@ -143,23 +114,5 @@ loop-again c = let put = c .before .before .before in
 pub put-rows-spec : {M : Type 1} → statement M
 put-rows-spec =
     tie.close
-    (tie.spec
-    Inv-loop
-    μ-loop
-    loop-holds
-    at-requires
-    enum-known-length
-    same-length
-    returns
-    add-part
-    part-requires
-    file-number-requires
-    row-of-requires
-    slice-aggregate-put
-    put-requires
-    saved-count-requires
-    add-saved
-    add-at
-    add-from
-    loop-less
-    loop-again)
+    (tie.spec Inv-loop μ-loop loop-holds at-requires enum-known-length same-length returns add-part part-requires file-number-requires row-of-requires
+    slice-aggregate-put put-requires saved-count-requires add-saved add-at add-from loop-less loop-again)

@@ -1,20 +1,15 @@
 -- `catalog::moving::move_up` meets its contract.
 -- Assumes nothing.
-use mathlib.Core.Path.{_≡_, refl, sym, ap, ap₂, _∙_, subst}
-use mathlib.Core.Logic.{⊎-elim}
-use Prim.Native.Nat.{ℕ, _≤_, _<_, _-_, _+_, _*_}
+use mathlib.Core.Path.{_≡_, sym, ap, _∙_}
+use Prim.Native.Nat.{ℕ, _≤_, _-_, _+_}
 use native.Mathlib.Omega.{arith}
-use lib.ListN.{length, getD, set, length-set}
-use borrow.Author.Needs.{needs}
-use mathlib.Core.List.{List}
+use lib.ListN.{length}
 use lib.ListN.{take, drop}
 use lib.Seq.{sets, length-sets}
 use denote.Ref.{now}
 use Rattle.catalog.proofs.MoveLaws.{up-more}
 use Rattle.catalog.proofs.moving.move_up.Statement.{statement}
 use Rattle.catalog.proofs.moving.move_up.Tie as tie
-use Rattle.catalog.proofs.moving.move_up.Reads as reads
-use Rattle.catalog.proofs.moving.move_up.Lts as lts
 
 abbrev Inv-loop : tie.InvT-loop
 Inv-loop bytes₀ at to i₀ bytes i = (at ≤ i) × (i ≤ to) × (bytes ≡ sets bytes₀ (i + 28) (take (to - i) (drop i bytes₀)))
@@ -28,33 +23,26 @@ kept l =
     let a = l .before .args in
     ap length (l .loop .inv .2) ∙ length-sets (now (a .bytes)) (l .loop .i + 28) (take (a .to - l .loop .i) (drop (l .loop .i) (now (a .bytes))))
 
--- src/moving.rt:36:5
 loop-holds : tie.Need-loop-holds Inv-loop μ-loop
 loop-holds c = let a = c .args in
     let n : a .to - a .to ≡ 0 = omega arith in
     (omega arith, omega arith, sym (ap (λ (k : ℕ). sets (now (a .bytes)) (a .to + 28) (take k (drop (a .to) (now (a .bytes))))) n))
 
--- src/moving.rt:37:9
 sub-i : tie.Need-sub-i Inv-loop μ-loop
 sub-i c = omega arith
 
--- src/moving.rt:38:33
 slice-read-bytes : tie.Need-slice-read-bytes Inv-loop μ-loop
 slice-read-bytes c = omega (arith, kept (c .before .before))
 
--- src/moving.rt:38:15
 add-bytes : tie.Need-add-bytes Inv-loop μ-loop
 add-bytes c = omega arith
 
--- src/moving.rt:38:9
 slice-write-bytes : tie.Need-slice-write-bytes Inv-loop μ-loop
 slice-write-bytes c = omega (arith, kept (c .before .before))
 
--- src/moving.rt:36:5
 loop-less : tie.Need-loop-less Inv-loop μ-loop
 loop-less c = omega arith
 
--- src/moving.rt:36:5
 loop-again : tie.Need-loop-again Inv-loop μ-loop
 loop-again c = let l = c .before .before in
     let a = l .before .args in
@@ -62,11 +50,9 @@ loop-again c = let l = c .before .before in
     let was = l .loop .inv .2 ∙ ap (λ (k : ℕ). sets (now (a .bytes)) (k + 28) (take (a .to - k) (drop k (now (a .bytes))))) i in
     (omega arith, omega arith, up-more (now (a .bytes)) (a .to) (l .loop .i - 1) (omega arith) (omega arith) was)
 
--- src/moving.rt:31:1
 same-length : tie.Need-same-length Inv-loop μ-loop
 same-length c = kept (c .before)
 
--- src/moving.rt:31:1
 returns : tie.Need-returns Inv-loop μ-loop
 returns c = let l = c .before in
     let a = l .before .args in
@@ -76,15 +62,4 @@ returns c = let l = c .before in
 pub move-up-spec : {M : Type 1} → statement M
 move-up-spec =
     tie.close
-    (tie.spec
-    Inv-loop
-    μ-loop
-    loop-holds
-    sub-i
-    slice-read-bytes
-    add-bytes
-    slice-write-bytes
-    loop-less
-    loop-again
-    same-length
-    returns)
+    (tie.spec Inv-loop μ-loop loop-holds sub-i slice-read-bytes add-bytes slice-write-bytes loop-less loop-again same-length returns)

@@ -1,20 +1,15 @@
 -- `catalog::moving::remove_row` meets its contract.
 -- Assumes nothing.
-use mathlib.Core.Path.{_≡_, refl, sym, ap, ap₂, _∙_, subst}
-use mathlib.Core.Logic.{⊎-elim}
-use Prim.Native.Nat.{ℕ, _≤_, _<_, _-_, _+_, _*_}
+use mathlib.Core.Path.{_≡_, sym, ap, _∙_}
+use Prim.Native.Nat.{ℕ, _≤_, _-_, _+_}
 use native.Mathlib.Omega.{arith}
-use lib.ListN.{length, getD, set, length-set}
-use borrow.Author.Needs.{needs}
-use mathlib.Core.List.{List}
+use lib.ListN.{length}
 use lib.ListN.{take, drop}
 use lib.Seq.{sets, length-sets}
 use denote.Ref.{now}
 use Rattle.catalog.proofs.MoveLaws.{down-more, down-closed}
 use Rattle.catalog.proofs.moving.remove_row.Statement.{statement}
 use Rattle.catalog.proofs.moving.remove_row.Tie as tie
-use Rattle.catalog.proofs.moving.remove_row.Reads as reads
-use Rattle.catalog.proofs.moving.remove_row.Lts as lts
 
 abbrev Inv-loop : tie.InvT-loop
 Inv-loop bytes₀ at to i₀ bytes i = (at ≤ i) × (i + 28 ≤ to) × (bytes ≡ sets bytes₀ at (take (i - at) (drop (at + 28) bytes₀)))
@@ -28,47 +23,37 @@ kept l =
     let a = l .before .args in
     ap length (l .loop .inv .2) ∙ length-sets (now (a .bytes)) (a .at) (take (l .loop .i - a .at) (drop (a .at + 28) (now (a .bytes))))
 
--- src/moving.rt:24:5
 loop-holds : tie.Need-loop-holds Inv-loop μ-loop
 loop-holds c = let a = c .args in
     let n : a .at - a .at ≡ 0 = omega arith in
     (omega arith, omega arith, sym (ap (λ (k : ℕ). sets (now (a .bytes)) (a .at) (take k (drop (a .at + 28) (now (a .bytes))))) n))
 
--- src/moving.rt:24:15
 sub-loop : tie.Need-sub-loop Inv-loop μ-loop
 sub-loop c = omega arith
 
--- src/moving.rt:25:26
 add-bytes : tie.Need-add-bytes Inv-loop μ-loop
 add-bytes c = omega arith
 
--- src/moving.rt:25:20
 slice-read-bytes : tie.Need-slice-read-bytes Inv-loop μ-loop
 slice-read-bytes c = omega (arith, kept (c .before .before))
 
--- src/moving.rt:25:9
 slice-write-bytes : tie.Need-slice-write-bytes Inv-loop μ-loop
 slice-write-bytes c = omega (arith, kept (c .before .before))
 
--- src/moving.rt:26:9
 add-i : tie.Need-add-i Inv-loop μ-loop
 add-i c = omega arith
 
--- src/moving.rt:24:5
 loop-less : tie.Need-loop-less Inv-loop μ-loop
 loop-less c = omega arith
 
--- src/moving.rt:24:5
 loop-again : tie.Need-loop-again Inv-loop μ-loop
 loop-again c = let l = c .before .before in
     let a = l .before .args in
     (omega arith, omega arith, down-more (now (a .bytes)) (a .at) (l .loop .i) (omega arith) (omega arith) (l .loop .inv .2))
 
--- src/moving.rt:19:1
 same-length : tie.Need-same-length Inv-loop μ-loop
 same-length c = kept (c .before)
 
--- src/moving.rt:19:1
 returns : tie.Need-returns Inv-loop μ-loop
 returns c = let l = c .before in
     let a = l .before .args in
@@ -79,16 +64,4 @@ returns c = let l = c .before in
 pub remove-row-spec : {M : Type 1} → statement M
 remove-row-spec =
     tie.close
-    (tie.spec
-    Inv-loop
-    μ-loop
-    loop-holds
-    sub-loop
-    add-bytes
-    slice-read-bytes
-    slice-write-bytes
-    add-i
-    loop-less
-    loop-again
-    same-length
-    returns)
+    (tie.spec Inv-loop μ-loop loop-holds sub-loop add-bytes slice-read-bytes slice-write-bytes add-i loop-less loop-again same-length returns)

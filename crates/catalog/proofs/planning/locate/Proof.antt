@@ -1,14 +1,12 @@
 -- `catalog::planning::locate` meets its contract.
 -- Assumes nothing.
-use mathlib.Core.Path.{_≡_, refl, sym, ap, ap₂, _∙_, subst}
-use mathlib.Core.Logic.{⊎-elim}
-use Prim.Native.Nat.{ℕ, _≤_, _<_, _-_, _+_, _*_}
+use mathlib.Core.Path.{_≡_, ap, ap₂, _∙_}
+use Prim.Native.Nat.{ℕ, _+_, _*_}
 use native.Mathlib.Omega.{arith}
-use lib.ListN.{length, getD, set, length-set}
 use borrow.Author.Needs.{needs}
 use mathlib.Core.List.{List}
 use denote.Ref.{now}
-use lib.ListN.{take, drop}
+use lib.ListN.{drop}
 use Rattle.catalog.specs.Catalog.{entryCount, volumeCount, catalogLength, rowsIn, volumeRows}
 use Rattle.catalog.specs.Plan.{placeOf}
 use Rattle.catalog.specs.declared.checking.Counts.{Counts}
@@ -16,10 +14,6 @@ use Rattle.catalog.proofs.CatalogLaws.{Catalog, is-catalog, rows-part, 
 use Rattle.catalog.proofs.ChangeLaws.{at-most, present-is}
 use Rattle.catalog.proofs.planning.locate.Statement.{statement}
 use Rattle.catalog.proofs.planning.locate.Tie as tie
-use Rattle.catalog.proofs.planning.locate.Reads as reads
-use Rattle.catalog.proofs.planning.locate.Lts as lts
-use Rattle.catalog.proofs.planning.is_row_of.Reads as is-row-of-reads
-use Rattle.catalog.proofs.planning.place_of.Reads as place-of-reads
 
 -- the catalog, and its numbers of rows
 module _ (s : tie.Start) where
@@ -46,51 +40,33 @@ place-is c =
     (rows-part (s .args .counts .volumes) (b s) start
     ∙ ap₂ (λ (k n : ℕ). rowsIn k (drop (16 + 28 * n) (b s))) (volumes-are s) (entries-are s))
 
--- src/planning.rt:93:31
 mul-start : tie.Need-mul-start
 mul-start c = let s = c .before .before in omega (arith, catalog s .within, entries-are s)
 
--- src/planning.rt:93:17
 add-start : tie.Need-add-start
 add-start c = let s = c .before .before in omega (arith, catalog s .within, entries-are s)
 
--- src/planning.rt:94:22
 mul-to : tie.Need-mul-to
 mul-to c = let s = c .before .before .before in omega (arith, catalog s .within, entries-are s, volumes-are s)
 
--- src/planning.rt:94:14
 add-to : tie.Need-add-to
 add-to c = let s = c .before .before .before in omega (arith, catalog s .within, entries-are s, volumes-are s)
 
--- src/planning.rt:95:44
 sub-place-of : tie.Need-sub-place-of
 sub-place-of c = let s = c .before .before .before in omega (arith, catalog s .within, entries-are s)
 
--- src/planning.rt:95:44
 part-place-of-start : tie.Need-part-place-of-start
 part-place-of-start c = let s = c .before .before .before in omega (arith, catalog s .within, entries-are s)
 
--- src/planning.rt:95:44
-part-place-of-end : tie.Need-part-place-of-end
-part-place-of-end c = search needs
-
--- src/planning.rt:95:35
 place-of-requires : tie.Need-place-of-requires
 place-of-requires c κs = let s = c .before .before .before .before in part-long _ (b s) _ (omega (arith, catalog s .within, entries-are s, volumes-are s))
 
--- src/planning.rt:95:22
 mul-at : tie.Need-mul-at
 mul-at c = let s = c .before .before .before .before .before in omega (arith, catalog s .within, entries-are s, place-is c, at-most (b s) (catalog s) (s .args .number))
 
--- src/planning.rt:95:14
 add-at : tie.Need-add-at
 add-at c = let s = c .before .before .before .before .before in omega (arith, catalog s .within, entries-are s, place-is c, at-most (b s) (catalog s) (s .args .number))
 
--- src/planning.rt:101:18
-is-row-of-requires : tie.Need-is-row-of-requires
-is-row-of-requires c κs = search needs
-
--- src/planning.rt:89:1
 returns : tie.Need-returns
 returns c = let p = c .before in
     let s = p .before .before .before .before .before in
@@ -103,16 +79,5 @@ returns c = let p = c .before in
 pub locate-spec : {M : Type 1} → statement M
 locate-spec =
     tie.close
-    (tie.spec
-    mul-start
-    add-start
-    mul-to
-    add-to
-    sub-place-of
-    part-place-of-start
-    part-place-of-end
-    place-of-requires
-    mul-at
-    add-at
-    is-row-of-requires
+    (tie.spec mul-start add-start mul-to add-to sub-place-of part-place-of-start (λ c. search needs) place-of-requires mul-at add-at (λ c κs. search needs)
     returns)

@@ -1,15 +1,11 @@
 -- `catalog::planning::place_of` meets its contract.
 -- Assumes nothing.
-use mathlib.Core.Path.{_≡_, refl, sym, ap, ap₂, _∙_, subst}
-use mathlib.Core.Logic.{⊎-elim}
-use Prim.Native.Nat.{ℕ, _≤_, _<_, _-_, _+_, _*_}
+use mathlib.Core.Path.{_≡_, ap}
+use Prim.Native.Nat.{ℕ, _≤_, _-_, _+_, _*_}
 use native.Mathlib.Omega.{arith}
-use lib.ListN.{length, getD, set, length-set}
+use lib.ListN.{length}
 use borrow.Author.Needs.{needs}
-use borrow.Author.Tests.{ne-eqb, eq-eqb, lt-leb, le-leb, lt-ltb, le-ltb, not-true, not-false, leb-true, leb-false, ltb-true, ltb-false, eqb-true, eqb-false}
-use Prim.Native.Nat.{suc}
-use native.Mathlib.Numerals.{add-one}
-use mathlib.Core.List.{List}
+use borrow.Author.Tests.{lt-ltb, le-ltb}
 use lib.ListN.{drop}
 use denote.Ref.{now}
 use Rattle.catalog.specs.Catalog.{rowsIn}
@@ -17,9 +13,6 @@ use Rattle.catalog.specs.Plan.{placeOf}
 use Rattle.catalog.proofs.CheckLaws.{place-here, place-later}
 use Rattle.catalog.proofs.planning.place_of.Statement.{statement}
 use Rattle.catalog.proofs.planning.place_of.Tie as tie
-use Rattle.catalog.proofs.planning.place_of.Reads as reads
-use Rattle.catalog.proofs.planning.place_of.Lts as lts
-use Rattle.little_endian.proofs.read32.Reads as read32-reads
 
 abbrev Inv-loop : tie.InvT-loop
 Inv-loop rows count number at₀ place₀ at place = (place ≤ count) × (at + 28 * (count - place) ≤ length rows)
@@ -28,22 +21,18 @@ Inv-loop rows count number at₀ place₀ at place = (place ≤ count) × (at + 
 abbrev μ-loop : tie.MeasureT-loop
 μ-loop rows count number at₀ place₀ at place = count - place
 
--- src/planning.rt:112:5
 loop-holds : tie.Need-loop-holds Inv-loop μ-loop
 loop-holds c = let a = c .before .args in
     let n : a .count - 0 ≡ a .count = omega arith in
     let all = ap (λ (k : ℕ). placeOf (a .number) (rowsIn k (now (a .rows)))) n in
     (omega arith, omega arith, omega (arith, all))
 
--- src/planning.rt:113:22
 read32-requires : tie.Need-read32-requires Inv-loop μ-loop
 read32-requires c κs = search needs
 
--- src/planning.rt:113:22
 cast-if1 : tie.Need-cast-if1 Inv-loop μ-loop
 cast-if1 c = omega arith
 
--- src/planning.rt:114:13
 returns : tie.Need-returns Inv-loop μ-loop
 returns c = let l = c .before .before .before in
     let a = l .before .before .args in
@@ -51,19 +40,15 @@ returns c = let l = c .before .before .before in
     (le-ltb _ _ (c .if1 .taken)) in
     omega (arith, here, l .loop .inv .2)
 
--- src/planning.rt:116:9
 add-at : tie.Need-add-at Inv-loop μ-loop
 add-at c = omega (arith, c .before .before .before .loop .inv .1)
 
--- src/planning.rt:117:9
 add-place : tie.Need-add-place Inv-loop μ-loop
 add-place c = omega arith
 
--- src/planning.rt:112:5
 loop-less : tie.Need-loop-less Inv-loop μ-loop
 loop-less c = omega arith
 
--- src/planning.rt:112:5
 loop-again : tie.Need-loop-again Inv-loop μ-loop
 loop-again c = let l = c .before .before .before in
     let a = l .before .before .args in
@@ -73,7 +58,6 @@ loop-again c = let l = c .before .before .before in
     let same = ap (λ (k : ℕ). placeOf (a .number) (rowsIn k (drop (l .loop .at + 28) (now (a .rows))))) less in
     (omega arith, omega (arith, l .loop .inv .1), omega (arith, later, same, l .loop .inv .2))
 
--- src/planning.rt:106:1
 returns-2 : tie.Need-returns-2 Inv-loop μ-loop
 unfolding placeOf rowsIn
 returns-2 c = let l = c .before in
@@ -85,15 +69,4 @@ returns-2 c = let l = c .before in
 pub place-of-spec : {M : Type 1} → statement M
 place-of-spec =
     tie.close
-    (tie.spec
-    Inv-loop
-    μ-loop
-    loop-holds
-    read32-requires
-    cast-if1
-    returns
-    add-at
-    add-place
-    loop-less
-    loop-again
-    returns-2)
+    (tie.spec Inv-loop μ-loop loop-holds read32-requires cast-if1 returns add-at add-place loop-less loop-again returns-2)

@@ -66,16 +66,5 @@ loop-again c =
 pub put-all-spec : {M : Type 1} → statement M
 put-all-spec =
     tie.close
-    (tie.spec
-    Inv-loop
-    μ-loop
-    loop-holds
-    (λ c κs. search needs)
-    (λ c. omega arith)
-    returns
-    (λ c. omega arith)
-    (λ c κs. search needs)
-    add-place
-    add-from
-    loop-less
-    loop-again)
+    (tie.spec Inv-loop μ-loop loop-holds (λ c κs. search needs) (λ c. omega arith) returns (λ c. omega arith) (λ c κs. search needs) add-place add-from
+    loop-less loop-again)

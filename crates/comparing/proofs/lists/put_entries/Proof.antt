@@ -98,23 +98,5 @@ loop-again c =
 pub put-entries-spec : {M : Type 1} → statement M
 put-entries-spec =
     tie.close
-    (tie.spec
-    Inv-loop
-    μ-loop
-    loop-holds
-    (λ c κs. search needs)
-    (λ c κs. search needs)
-    (λ c. omega arith)
-    returns
-    (λ c κs. search needs)
-    (λ c κs. search needs)
-    (λ c. omega arith)
-    returns-2
-    (λ c κs. search needs)
-    (λ c κs. search needs)
-    (λ c κs. search needs)
-    add-place
-    add-i
-    add-j
-    loop-less
-    loop-again)
+    (tie.spec Inv-loop μ-loop loop-holds (λ c κs. search needs) (λ c κs. search needs) (λ c. omega arith) returns (λ c κs. search needs) (λ c κs. search needs)
+    (λ c. omega arith) returns-2 (λ c κs. search needs) (λ c κs. search needs) (λ c κs. search needs) add-place add-i add-j loop-less loop-again)

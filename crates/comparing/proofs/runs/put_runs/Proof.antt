@@ -85,16 +85,5 @@ loop-again c =
 pub put-runs-spec : {M : Type 1} → statement M
 put-runs-spec =
     tie.close
-    (tie.spec
-    Inv-loop
-    μ-loop
-    (λ c κs. search needs)
-    loop-holds
-    (λ c κs. search needs)
-    (λ c. omega arith)
-    returns
-    (λ c κs. search needs)
-    sub-put-run
-    (λ c κs. search needs)
-    loop-less
-    loop-again)
+    (tie.spec Inv-loop μ-loop (λ c κs. search needs) loop-holds (λ c κs. search needs) (λ c. omega arith) returns (λ c κs. search needs) sub-put-run
+    (λ c κs. search needs) loop-less loop-again)

@@ -40,12 +40,4 @@ mul-reduced c =
 pub power-by-spec : {M : Type 1} → statement M
 power-by-spec =
     tie.close
-    (tie.spec
-    returns
-    returns-2
-    (λ c κs. search needs)
-    (λ c κs. search needs)
-    mul-reduced
-    (λ c κs. search needs)
-    (λ c. search needs)
-    returns-3)
+    (tie.spec returns returns-2 (λ c κs. search needs) (λ c κs. search needs) mul-reduced (λ c κs. search needs) (λ c. search needs) returns-3)

@@ -81,16 +81,5 @@ returns-6 c =
 pub query-spec : {M : Type 1} → statement M
 query-spec =
     tie.close
-    (tie.spec
-    (λ c κs. search needs)
-    returns
-    (λ c κs. search needs)
-    returns-2
-    (λ c κs. search needs)
-    returns-3
-    solve-requires
-    returns-4
-    returns-5
-    write-requires
-    (λ c. search needs)
-    returns-6)
+    (tie.spec (λ c κs. search needs) returns (λ c κs. search needs) returns-2 (λ c κs. search needs) returns-3 solve-requires returns-4 returns-5 write-requires
+    (λ c. search needs) returns-6)

@@ -30,11 +30,4 @@ returns-2 c =
 pub recoverable-files-spec : {M : Type 1} → statement M
 recoverable-files-spec =
     tie.close
-    (tie.spec
-    (λ c κs. search needs)
-    returns
-    sub-solved-columns
-    (λ c. search needs)
-    (λ c κs. search needs)
-    (λ c κs. search needs)
-    returns-2)
+    (tie.spec (λ c κs. search needs) returns sub-solved-columns (λ c. search needs) (λ c κs. search needs) (λ c κs. search needs) returns-2)

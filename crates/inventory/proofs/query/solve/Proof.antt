@@ -41,12 +41,4 @@ returns-2 c =
 pub solve-spec : {M : Type 1} → statement M
 solve-spec =
     tie.close
-    (tie.spec
-    (λ c κs. search needs)
-    returns
-    sub-solve
-    cast-solve
-    sub-solve-2
-    cast-solve-2
-    (λ c κs. search needs)
-    returns-2)
+    (tie.spec (λ c κs. search needs) returns sub-solve cast-solve sub-solve-2 cast-solve-2 (λ c κs. search needs) returns-2)

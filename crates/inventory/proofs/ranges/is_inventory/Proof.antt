@@ -98,18 +98,5 @@ returns-6 c =
 pub is-inventory-spec : {M : Type 1} → statement M
 is-inventory-spec =
     tie.close
-    (tie.spec
-    (λ c κs. search needs)
-    returns
-    (λ c κs. search needs)
-    returns-2
-    (λ c κs. search needs)
-    returns-3
-    sub-within
-    (λ c κs. search needs)
-    returns-4
-    sub-within-2
-    (λ c κs. search needs)
-    returns-5
-    (λ c κs. search needs)
-    returns-6)
+    (tie.spec (λ c κs. search needs) returns (λ c κs. search needs) returns-2 (λ c κs. search needs) returns-3 sub-within (λ c κs. search needs) returns-4
+    sub-within-2 (λ c κs. search needs) returns-5 (λ c κs. search needs) returns-6)

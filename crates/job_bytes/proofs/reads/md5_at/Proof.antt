@@ -26,12 +26,4 @@ returns c =
 pub md5-at-spec : {M : Type 1} → statement M
 md5-at-spec =
     tie.close
-    (tie.spec
-    (λ c. search needs)
-    add-part
-    (λ c κs. search needs)
-    (λ c κs. search needs)
-    (λ c κs. search needs)
-    add-read64
-    (λ c κs. search needs)
-    returns)
+    (tie.spec (λ c. search needs) add-part (λ c κs. search needs) (λ c κs. search needs) (λ c κs. search needs) add-read64 (λ c κs. search needs) returns)

@@ -28,12 +28,4 @@ returns c =
 pub put-md5-spec : {M : Type 1} → statement M
 put-md5-spec =
     tie.close
-    (tie.spec
-    (λ c κs. search needs)
-    add-put
-    (λ c. search needs)
-    (λ c κs. search needs)
-    add-write64
-    (λ c κs. search needs)
-    (λ c. search needs)
-    returns)
+    (tie.spec (λ c κs. search needs) add-put (λ c. search needs) (λ c κs. search needs) add-write64 (λ c κs. search needs) (λ c. search needs) returns)

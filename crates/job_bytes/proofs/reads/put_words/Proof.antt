@@ -6,12 +6,6 @@ use borrow.Author.Needs.{needs}
 use Rattle.job_bytes.proofs.reads.put_words.Statement.{statement}
 use Rattle.job_bytes.proofs.reads.put_words.Tie as tie
 
-add-write32 : tie.Need-add-write32
-add-write32 c = omega arith
-
-add-write32-2 : tie.Need-add-write32-2
-add-write32-2 c = omega arith
-
 add-write32-3 : tie.Need-add-write32-3
 add-write32-3 c = omega (arith, c .before .before .before .before .before .before .before .before .before .before .before .before .before .before .pre)
 
@@ -27,13 +21,5 @@ returns c =
 pub put-words-spec : {M : Type 1} → statement M
 put-words-spec =
     tie.close
-    (tie.spec
-    (λ c κs. search needs)
-    add-write32
-    (λ c κs. search needs)
-    add-write32-2
-    (λ c κs. search needs)
-    add-write32-3
-    (λ c κs. search needs)
-    (λ c. search needs)
-    returns)
+    (tie.spec (λ c κs. search needs) (λ c. omega arith) (λ c κs. search needs) (λ c. omega arith) (λ c κs. search needs) add-write32-3 (λ c κs. search needs)
+    (λ c. search needs) returns)

@@ -98,22 +98,5 @@ loop-again c =
 pub put-entries-spec : {M : Type 1} → statement M
 put-entries-spec =
     tie.close
-    (tie.spec
-    Inv-loop
-    μ-loop
-    loop-holds
-    (λ c κs. search needs)
-    (λ c. search needs)
-    (λ c. omega arith)
-    returns
-    add-name
-    add-name-2
-    sub-name
-    part-name-start
-    part-name-end
-    (λ c κs. search needs)
-    add-saved
-    (λ c κs. search needs)
-    add-from
-    loop-less
-    loop-again)
+    (tie.spec Inv-loop μ-loop loop-holds (λ c κs. search needs) (λ c. search needs) (λ c. omega arith) returns add-name add-name-2 sub-name part-name-start
+    part-name-end (λ c κs. search needs) add-saved (λ c κs. search needs) add-from loop-less loop-again)

@@ -71,16 +71,4 @@ returns c =
 pub put-name-spec : {M : Type 1} → statement M
 put-name-spec =
     tie.close
-    (tie.spec
-    Inv-loop
-    μ-loop
-    loop-holds
-    sub-loop
-    read16-requires
-    shown-requires
-    put-requires
-    add-i
-    loop-less
-    loop-again
-    same-length
-    returns)
+    (tie.spec Inv-loop μ-loop loop-holds sub-loop read16-requires shown-requires put-requires add-i loop-less loop-again same-length returns)

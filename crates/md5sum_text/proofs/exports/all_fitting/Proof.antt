@@ -64,17 +64,5 @@ loop-less c = let i = entry-in (c .before .before .before .before) in omega (ari
 pub all-fitting-spec : {M : Type 1} → statement M
 all-fitting-spec =
     tie.close
-    (tie.spec
-    Inv-loop
-    μ-loop
-    (λ c. (omega arith, refl))
-    (λ c κs. search needs)
-    (λ c. search needs)
-    returns
-    (λ c κs. search needs)
-    (λ c κs. search needs)
-    (λ c κs. search needs)
-    returns-2
-    add-from
-    loop-less
-    loop-again)
+    (tie.spec Inv-loop μ-loop (λ c. (omega arith, refl)) (λ c κs. search needs) (λ c. search needs) returns (λ c κs. search needs) (λ c κs. search needs)
+    (λ c κs. search needs) returns-2 add-from loop-less loop-again)

@@ -27,13 +27,6 @@ returns-2 c =
 pub export-list-spec : {M : Type 1} → statement M
 export-list-spec =
     tie.close
-    (tie.spec
-    (λ c. search needs)
-    (λ c. search needs)
-    (λ c κs. c .before .before .before .pre)
-    (λ c κs. c .before .before .before .before .before .before .before .before .pre)
-    (λ c. search needs)
-    returns
-    (λ c κs. search needs)
-    (λ c. search needs)
+    (tie.spec (λ c. search needs) (λ c. search needs) (λ c κs. c .before .before .before .pre)
+    (λ c κs. c .before .before .before .before .before .before .before .before .pre) (λ c. search needs) returns (λ c κs. search needs) (λ c. search needs)
     returns-2)

@@ -73,16 +73,5 @@ loop-again c =
 pub put-lines-spec : {M : Type 1} → statement M
 put-lines-spec =
     tie.close
-    (tie.spec
-    Inv-loop
-    μ-loop
-    loop-holds
-    (λ c κs. search needs)
-    (λ c. search needs)
-    (λ c. omega arith)
-    returns
-    (λ c κs. search needs)
-    put-line-requires
-    add-from
-    loop-less
-    loop-again)
+    (tie.spec Inv-loop μ-loop loop-holds (λ c κs. search needs) (λ c. search needs) (λ c. omega arith) returns (λ c κs. search needs) put-line-requires add-from
+    loop-less loop-again)

@@ -31,12 +31,5 @@ returns-2 c =
 pub is-other-spec : {M : Type 1} → statement M
 is-other-spec =
     tie.close
-    (tie.spec
-    (λ c. search needs)
-    (λ c. omega (arith, c .before .before .before .pre))
-    (λ c κs. search needs)
-    (λ c κs. search needs)
-    returns
-    (λ c κs. search needs)
-    (λ c κs. search needs)
-    returns-2)
+    (tie.spec (λ c. search needs) (λ c. omega (arith, c .before .before .before .pre)) (λ c κs. search needs) (λ c κs. search needs) returns
+    (λ c κs. search needs) (λ c κs. search needs) returns-2)

@@ -86,16 +86,5 @@ returns-2 c =
 pub seek-spec : {M : Type 1} → statement M
 seek-spec =
     tie.close
-    (tie.spec
-    Inv-loop
-    μ-loop
-    loop-holds
-    (λ c κs. line-in c .some)
-    (λ c κs. search needs)
-    is-other-requires
-    returns
-    (λ c. omega arith)
-    add-at
-    (λ c. omega arith)
-    loop-again
-    returns-2)
+    (tie.spec Inv-loop μ-loop loop-holds (λ c κs. line-in c .some) (λ c κs. search needs) is-other-requires returns (λ c. omega arith) add-at (λ c. omega arith)
+    loop-again returns-2)

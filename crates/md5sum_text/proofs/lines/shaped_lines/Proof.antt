@@ -80,13 +80,4 @@ loop-again c =
 pub shaped-lines-spec : {M : Type 1} → statement M
 shaped-lines-spec =
     tie.close
-    (tie.spec
-    Inv-loop
-    μ-loop
-    (λ c. (omega arith, omega arith, refl))
-    (λ c κs. search needs)
-    returns
-    add-count
-    add-end
-    loop-less
-    loop-again)
+    (tie.spec Inv-loop μ-loop (λ c. (omega arith, omega arith, refl)) (λ c κs. search needs) returns add-count add-end loop-less loop-again)

@@ -65,17 +65,6 @@ returns-3 c =
 pub units-are-spec : {M : Type 1} → statement M
 units-are-spec =
     tie.close
-    (tie.spec
-    Inv-loop
-    μ-loop
-    returns
-    (λ c. (omega arith, refl))
-    (λ c. omega arith)
-    (λ c κs. search needs)
-    (λ c. omega arith)
-    (λ c. omega (arith, c .shared-slice-known3 .given (c .before .before .before .loop .i)))
-    returns-2
-    (λ c. omega arith)
-    (λ c. omega arith)
-    loop-again
+    (tie.spec Inv-loop μ-loop returns (λ c. (omega arith, refl)) (λ c. omega arith) (λ c κs. search needs) (λ c. omega arith)
+    (λ c. omega (arith, c .shared-slice-known3 .given (c .before .before .before .loop .i))) returns-2 (λ c. omega arith) (λ c. omega arith) loop-again
     returns-3)

@@ -60,15 +60,4 @@ returns-2 c =
 pub units-fit-spec : {M : Type 1} → statement M
 units-fit-spec =
     tie.close
-    (tie.spec
-    Inv-loop
-    μ-loop
-    loop-holds
-    sub-loop
-    read16-requires
-    unit-fits-requires
-    returns
-    add-at
-    loop-less
-    loop-again
-    returns-2)
+    (tie.spec Inv-loop μ-loop loop-holds sub-loop read16-requires unit-fits-requires returns add-at loop-less loop-again returns-2)

@@ -45,12 +45,4 @@ returns-2 c =
 pub again-for-spec : {M : Type 1} → statement M
 again-for-spec =
     tie.close
-    (tie.spec
-    (λ c κs. search needs)
-    (λ c κs. search needs)
-    returns
-    (λ c. search needs)
-    seek-requires
-    (λ c κs. search needs)
-    seek-requires-2
-    returns-2)
+    (tie.spec (λ c κs. search needs) (λ c κs. search needs) returns (λ c. search needs) seek-requires (λ c κs. search needs) seek-requires-2 returns-2)

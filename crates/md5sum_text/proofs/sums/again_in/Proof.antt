@@ -74,15 +74,5 @@ loop-again c =
 pub again-in-spec : {M : Type 1} → statement M
 again-in-spec =
     tie.close
-    (tie.spec
-    Inv-loop
-    μ-loop
-    loop-holds
-    (λ c κs. search needs)
-    (λ c. search needs)
-    returns
-    (λ c κs. search needs)
-    (λ c κs. c .before .before .before .before .before .loop .inv .1)
-    add-from
-    loop-less
-    loop-again)
+    (tie.spec Inv-loop μ-loop loop-holds (λ c κs. search needs) (λ c. search needs) returns (λ c κs. search needs)
+    (λ c κs. c .before .before .before .before .before .loop .inv .1) add-from loop-less loop-again)

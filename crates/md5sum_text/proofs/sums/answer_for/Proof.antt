@@ -67,14 +67,6 @@ returns-4 c = sym (compared (c .before) ∙ ap (λ (b : Bool). cond b 1 2) (c .i
 pub answer-for-spec : {M : Type 1} → statement M
 answer-for-spec =
     tie.close
-    (tie.spec
-    (λ c κs. search needs)
-    (λ c κs. search needs)
-    returns
-    (λ c. search needs)
-    (λ c κs. (omega arith, omega (arith, c .before .before .before .before .before .before .pre), refl))
-    returns-2
-    (λ c κs. search needs)
-    (λ c κs. search needs)
-    returns-3
-    returns-4)
+    (tie.spec (λ c κs. search needs) (λ c κs. search needs) returns (λ c. search needs)
+    (λ c κs. (omega arith, omega (arith, c .before .before .before .before .before .before .pre), refl)) returns-2 (λ c κs. search needs) (λ c κs. search needs)
+    returns-3 returns-4)

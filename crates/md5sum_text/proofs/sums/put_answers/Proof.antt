@@ -70,17 +70,6 @@ loop-again c =
 pub put-answers-spec : {M : Type 1} → statement M
 put-answers-spec =
     tie.close
-    (tie.spec
-    Inv-loop
-    μ-loop
-    (λ c. (omega arith, refl, omega arith, refl))
-    (λ c κs. search needs)
-    (λ c. search needs)
-    (λ c. omega arith)
-    returns
-    (λ c κs. search needs)
-    (λ c κs. c .before .before .before .before .before .before .before .before .before .before .pre)
-    (λ c κs. search needs)
-    add-from
-    loop-less
-    loop-again)
+    (tie.spec Inv-loop μ-loop (λ c. (omega arith, refl, omega arith, refl)) (λ c κs. search needs) (λ c. search needs) (λ c. omega arith) returns
+    (λ c κs. search needs) (λ c κs. c .before .before .before .before .before .before .before .before .before .before .pre) (λ c κs. search needs) add-from
+    loop-less loop-again)

@@ -51,11 +51,6 @@ returns-3 c =
 pub refusal-spec : {M : Type 1} → statement M
 refusal-spec =
     tie.close
-    (tie.spec
-    (λ c κs. count-is (c .before .before))
-    (λ c. omega arith)
-    returns
+    (tie.spec (λ c κs. count-is (c .before .before)) (λ c. omega arith) returns
     (λ c. let s = c .before .before .before .before .before .before .before .before in omega (arith, count-is s, cut-count shapedLength (now (s .args .text)), s .good .1 .0 .1))
-    returns-2
-    (λ c κs. search needs)
-    returns-3)
+    returns-2 (λ c κs. search needs) returns-3)

@@ -1,7 +1,6 @@
 -- `par1_c::replays::par1_replay` meets its contract.
 -- Assumes nothing.
 use mathlib.Core.Path.{ap}
-use Prim.Native.Nat.{_-_}
 use borrow.Author.Needs.{needs}
 use denote.Ref.{now}
 use Rattle.par1_c.specs.Answers.{answeredLength}

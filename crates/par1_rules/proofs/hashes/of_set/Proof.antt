@@ -69,18 +69,5 @@ loop-again c =
 pub of-set-spec : {M : Type 1} → statement M
 of-set-spec =
     tie.close
-    (tie.spec
-    Inv-loop
-    μ-loop
-    (λ c κs. search needs)
-    loop-holds
-    (λ c κs. search needs)
-    (λ c. search needs)
-    (λ c κs. search needs)
-    returns
-    add-part
-    (λ c κs. search needs)
-    (λ c κs. search needs)
-    add-from
-    loop-less
-    loop-again)
+    (tie.spec Inv-loop μ-loop (λ c κs. search needs) loop-holds (λ c κs. search needs) (λ c. search needs) (λ c κs. search needs) returns add-part
+    (λ c κs. search needs) (λ c κs. search needs) add-from loop-less loop-again)

@@ -65,19 +65,5 @@ returns-4 c =
 pub write-volume-spec : {M : Type 1} → statement M
 write-volume-spec =
     tie.close
-    (tie.spec
-    (λ c κs. search needs)
-    (λ c. search needs)
-    (λ c κs. search needs)
-    (λ c κs. search needs)
-    returns
-    (λ c. search needs)
-    add-total-2
-    (λ c κs. search needs)
-    returns-2
-    (λ c κs. search needs)
-    put-head-requires
-    (λ c. search needs)
-    (λ c. search needs)
-    returns-3
-    returns-4)
+    (tie.spec (λ c κs. search needs) (λ c. search needs) (λ c κs. search needs) (λ c κs. search needs) returns (λ c. search needs) add-total-2
+    (λ c κs. search needs) returns-2 (λ c κs. search needs) put-head-requires (λ c. search needs) (λ c. search needs) returns-3 returns-4)

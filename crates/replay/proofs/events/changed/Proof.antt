@@ -1,7 +1,7 @@
 -- `replay::events::changed` meets its contract.
 -- Assumes nothing.
 use mathlib.Core.Path.{ap, _∙_}
-use Prim.Native.Nat.{ℕ, _-_, min}
+use Prim.Native.Nat.{ℕ, min}
 use native.Mathlib.Omega.{arith}
 use lib.ListN.{getD}
 use borrow.Author.Needs.{needs}
@@ -41,11 +41,4 @@ returns c =
 pub changed-spec : {M : Type 1} → statement M
 changed-spec =
     tie.close
-    (tie.spec
-    shared-slice-read-changed-by
-    sub-value-of
-    part-value-of-start
-    (λ c. search needs)
-    (λ c κs. search needs)
-    (λ c κs. search needs)
-    returns)
+    (tie.spec shared-slice-read-changed-by sub-value-of part-value-of-start (λ c. search needs) (λ c κs. search needs) (λ c κs. search needs) returns)

@@ -1,7 +1,6 @@
 -- `replay::events::changed_by` meets its contract.
 -- Assumes nothing.
 use mathlib.Core.Path.{sym, ap, _∙_}
-use Prim.Native.Nat.{_-_}
 use borrow.Author.Needs.{needs}
 use Rattle.inventory.specs.Model.{Change}
 use Rattle.inventory.specs.Steps.{changeStep}
@@ -38,12 +37,4 @@ returns-4 c =
 pub changed-by-spec : {M : Type 1} → statement M
 changed-by-spec =
     tie.close
-    (tie.spec
-    (λ c κs. search needs)
-    (λ c κs. search needs)
-    (λ c κs. search needs)
-    (λ c κs. search needs)
-    returns
-    returns-2
-    returns-3
-    returns-4)
+    (tie.spec (λ c κs. search needs) (λ c κs. search needs) (λ c κs. search needs) (λ c κs. search needs) returns returns-2 returns-3 returns-4)

@@ -1,7 +1,6 @@
 -- `replay::events::ended` meets its contract.
 -- Assumes nothing.
 use mathlib.Core.Path.{ap, _∙_}
-use Prim.Native.Nat.{_-_}
 use borrow.Author.Needs.{needs}
 use Rattle.replay.specs.Events.{last}
 use Rattle.replay.proofs.events.ended.Statement.{statement}

@@ -1,7 +1,6 @@
 -- `replay::events::is_letter` meets its contract.
 -- Assumes nothing.
 use mathlib.Core.Path.{refl, sym, ap}
-use Prim.Native.Nat.{_-_}
 use borrow.Author.Tests.{ne-eqb}
 use Rattle.replay.specs.Log.{isLetter}
 use Rattle.replay.proofs.events.is_letter.Statement.{statement}

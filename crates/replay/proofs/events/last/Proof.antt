@@ -4,8 +4,5 @@ use borrow.Author.Needs.{needs}
 use Rattle.replay.proofs.events.last.Statement.{statement}
 use Rattle.replay.proofs.events.last.Tie as tie
 
-returns : tie.Need-returns
-returns c = search needs
-
 pub last-spec : {M : Type 1} → statement M
-last-spec = tie.close (tie.spec returns)
+last-spec = tie.close (tie.spec (λ c. search needs))

@@ -87,21 +87,5 @@ returns-4 c =
 pub next-spec : {M : Type 1} → statement M
 next-spec =
     tie.close
-    (tie.spec
-    (λ c κs. search needs)
-    returns
-    (λ c κs. search needs)
-    (λ c κs. search needs)
-    returns-2
-    add-end
-    (λ c. search needs)
-    (λ c. search needs)
-    (λ c. search needs)
-    part-line-end
-    (λ c κs. search needs)
-    (λ c κs. search needs)
-    returns-3
-    add-taken
-    changed-requires
-    (λ c κs. search needs)
-    returns-4)
+    (tie.spec (λ c κs. search needs) returns (λ c κs. search needs) (λ c κs. search needs) returns-2 add-end (λ c. search needs) (λ c. search needs)
+    (λ c. search needs) part-line-end (λ c κs. search needs) (λ c κs. search needs) returns-3 add-taken changed-requires (λ c κs. search needs) returns-4)

@@ -4,8 +4,5 @@ use borrow.Author.Needs.{needs}
 use Rattle.replay.proofs.events.taken.Statement.{statement}
 use Rattle.replay.proofs.events.taken.Tie as tie
 
-returns : tie.Need-returns
-returns c = search needs
-
 pub taken-spec : {M : Type 1} → statement M
-taken-spec = tie.close (tie.spec returns)
+taken-spec = tie.close (tie.spec (λ c. search needs))

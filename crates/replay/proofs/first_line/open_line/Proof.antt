@@ -1,7 +1,6 @@
 -- `replay::first_line::open_line` meets its contract.
 -- Assumes nothing.
 use mathlib.Core.Path.{_≡_, sym, _∙_}
-use Prim.Native.Nat.{_-_}
 use native.Mathlib.Omega.{arith}
 use borrow.Author.Needs.{needs}
 use mathlib.Core.Bool.{true, false≢true}
@@ -46,15 +45,5 @@ returns-3 c =
 pub open-line-spec : {M : Type 1} → statement M
 open-line-spec =
     tie.close
-    (tie.spec
-    (λ c κs. search needs)
-    (λ c κs. search needs)
-    returns
-    (λ c κs. search needs)
-    returns-2
-    (λ c. search needs)
-    sub-open
-    part-open-start
-    part-open-end
-    (λ c κs. search needs)
-    returns-3)
+    (tie.spec (λ c κs. search needs) (λ c κs. search needs) returns (λ c κs. search needs) returns-2 (λ c. search needs) sub-open part-open-start part-open-end
+    (λ c κs. search needs) returns-3)

@@ -123,22 +123,5 @@ loop-again c =
 pub read-numbers-spec : {M : Type 1} → statement M
 read-numbers-spec =
     tie.close
-    (tie.spec
-    Inv-loop
-    μ-loop
-    loop-holds
-    (λ c κs. search needs)
-    add-end
-    (λ c. omega arith)
-    (λ c. omega arith)
-    part-word-end
-    (λ c κs. search needs)
-    returns
-    (λ c κs. search needs)
-    (λ c. omega arith)
-    (λ c. omega arith)
-    add-count
-    returns-2
-    add-at
-    loop-less
-    loop-again)
+    (tie.spec Inv-loop μ-loop loop-holds (λ c κs. search needs) add-end (λ c. omega arith) (λ c. omega arith) part-word-end (λ c κs. search needs) returns
+    (λ c κs. search needs) (λ c. omega arith) (λ c. omega arith) add-count returns-2 add-at loop-less loop-again)

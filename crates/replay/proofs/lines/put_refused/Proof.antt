@@ -1,6 +1,5 @@
 -- `replay::lines::put_refused` meets its contract.
 -- Assumes nothing.
-use Prim.Native.Nat.{_-_}
 use native.Mathlib.Omega.{arith}
 use borrow.Author.Needs.{needs}
 use Rattle.text.proofs.BufferLaws.{put-then}

@@ -25,9 +25,4 @@ returns c =
 pub solved-columns-spec : {M : Type 1} → statement M
 solved-columns-spec =
     tie.close
-    (tie.spec
-    (λ c κs. search needs)
-    (λ c κs. search needs)
-    add-volumes-requires
-    (λ c κs. search needs)
-    returns)
+    (tie.spec (λ c κs. search needs) (λ c κs. search needs) add-volumes-requires (λ c κs. search needs) returns)
