@@ -23,7 +23,7 @@ use little_endian::write64;
 use md5::Md5;
 use md5_blocks::Words;
 use par1_rules::layout;
-use refusals::ENDED;
+use refusals::JOB;
 use refusals::Refusal;
 use running_read::RunningRead;
 
@@ -232,5 +232,5 @@ fn put_words(out: &mut [u8], at: usize, words: Words)
 fn job_number(number: u32) -> u32
     ensures { λ r. ⌜ r ≡ jobNumber number ⌝ }
 {
-    if number == ENDED { ENDED } else { 0 }
+    if number == JOB { JOB } else { 0 }
 }

@@ -73,7 +73,7 @@ pub const NAME: u32 = 18;
 pub const ENTRY_COUNT: u32 = 19;
 
 // A job is over, or no run of pushes gives its counts.
-pub const ENDED: u32 = 20;
+pub const JOB: u32 = 20;
 
 // The stretch of an amendment is of neither kind, or the new entry has another name or status, or a size that the stretch does not give.
 pub const STRETCH: u32 = 21;

@@ -2,7 +2,7 @@
 ghost use mathlib.Core.Path.{_≡_};
 ghost use Rattle.running_hash.specs.Hash.{startHash, pushOf, endOf};
 use md5::Md5;
-use refusals::ENDED;
+use refusals::JOB;
 
 // The job, as C's struct par1_hash has it: integers only and no padding, 96 bytes, so that whatever bytes it has, a call answers.
 #[repr(C)]
@@ -34,7 +34,7 @@ pub fn push(hash: RunningHash, bytes: &[u8]) -> Outcome
 {
     if hash.ended != 0 {
         return Outcome {
-            number: ENDED,
+            number: JOB,
             next: hash,
         };
     }
@@ -52,7 +52,7 @@ pub fn end(hash: RunningHash, out: &mut [u8]) -> Outcome
 {
     if hash.ended != 0 {
         return Outcome {
-            number: ENDED,
+            number: JOB,
             next: hash,
         };
     }

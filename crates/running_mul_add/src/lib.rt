@@ -1,7 +1,7 @@
 // A running mul_add: a fragment that comes in successive chunks (document 02, 2026-03: folding).
 ghost use mathlib.Core.Path.{_≡_};
 ghost use Rattle.running_mul_add.specs.Running.{mulAddAt, positionAfter, startMulAdd, refused, pushOf, endOf};
-use refusals::ENDED;
+use refusals::JOB;
 
 // A running mul_add: its weight, the place in the buffer where the next chunk goes on, and whether it is over.
 pub struct RunningMulAdd {
@@ -67,7 +67,7 @@ fn refused(job: RunningMulAdd) -> Outcome
     ensures { λ r. ⌜ r ≡ refused job ⌝ }
 {
     Outcome {
-        number: ENDED,
+        number: JOB,
         next: job,
     }
 }

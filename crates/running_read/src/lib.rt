@@ -7,7 +7,7 @@ use list_scan::Scan;
 use md5::Md5;
 use par1_read::Reading;
 use par1_rules::layout;
-use refusals::ENDED;
+use refusals::JOB;
 use refusals::MAX_VOLUME_LENGTH;
 
 // One byte more than a file may have: with so many it is refused with 1, whatever follows.
@@ -68,7 +68,7 @@ pub fn push(job: RunningRead, bytes: &[u8]) -> Pushed
 {
     if !is_open(counts_of(job)) {
         return Pushed {
-            number: ENDED,
+            number: JOB,
             next: job,
         };
     }
@@ -84,7 +84,7 @@ pub fn end(job: RunningRead) -> Ended
 {
     if !is_open(counts_of(job)) {
         return Ended {
-            reading: Reading::Refused(refusals::bare(ENDED)),
+            reading: Reading::Refused(refusals::bare(JOB)),
             next: job,
         };
     }
