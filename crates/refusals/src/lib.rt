@@ -45,7 +45,7 @@ pub const DATA_SIZE: u32 = 9;
 // A number is outside its range or that of no code, no calls give the inventory, or 0 has no inverse.
 pub const OUT_OF_RANGE: u32 = 10;
 
-// What is added is present already, or what is removed is not.
+// What is added is present already, or what is removed or set aside is not present, or what is taken back is not set aside.
 pub const ALREADY: u32 = 11;
 
 // What is present does not determine the file.
