@@ -9,6 +9,10 @@
 --   ReadBack f c p v list area   the file f is read so, and its areas are this list and this data
 --   ReadWritten                  every written volume is read back
 --   WrittenRead                  every accepted file, written from what reading gave, has the same bytes
+--   HeadFails f k                test k, one of 1 to 5, holds of the file f
+--   TotalsFail f t k             so does test k, one of 19 and 7 to 9, where t are the totals of its list
+--   ReadRefuses f r              r is the refusal of the file f by the first test that holds, in the document's order
+--   ReadRefused                  reading refuses a file so, and no other
 --   EntryAccepted                the entry of a file that keeps the rules is written as the format defines, where there is room for it
 --   EntryRefuses m st name out r     r is the first refusal of writing an entry that holds
 --   EntryRefused                 writing gives it, and no byte of the room changes; and nothing else is refused
@@ -24,12 +28,14 @@
 -- Assumes nothing.
 use mathlib.Core.Path.{_≡_}
 use mathlib.Core.Bool.{true}
-use mathlib.Core.List.{List, _++_}
+use mathlib.Core.List.{List, [], _∷_, _++_}
+use mathlib.Core.Logic.{_↔_}
 use Prim.Native.Nat.{ℕ, _+_, _%_, _^_, _<_, _≤_}
 use lib.ListN.{length, take, drop}
 use Rattle.lent_bytes.specs.Writing.{refused, accepted}
 use Rattle.lent_bytes.specs.declared.Writing.the-variants.{Written, Refused}
 use Rattle.refusals.specs.Limits.{maxFileSize, maxVolumeLength}
+use Rattle.refusals.specs.Order.{First}
 use Rattle.refusals.specs.Tests.{bare}
 use Rattle.refusals.specs.declared.Refusal.{Refusal}
 use Rattle.cut_lists.specs.Pieces.{before}
@@ -43,11 +49,13 @@ use Rattle.entries.specs.declared.Totals.{Totals}
 use Rattle.entries.specs.declared.Walked.the-variants as walked
 use Rattle.entries.specs.declared.Item.the-variants.{Entry}
 use Rattle.md5.specs.Digest.{md5}
+use Rattle.par1_rules.specs.Layout.{versionOf, controlHashOf, setHashOf, volumeNumberOf, countOf, listStartOf, listSizeOf, dataStartOf, dataSizeOf}
 use Rattle.par1_rules.specs.Layout.{listOf, dataOf}
-use Rattle.par1_rules.specs.Hashes.{md5First}
+use Rattle.par1_rules.specs.Hashes.{setHash, md5First}
 use Rattle.par1_rules.specs.Rules.{numberAllowed, dataAllowed}
-use Rattle.par1_read.specs.Reading.{readOf}
+use Rattle.par1_read.specs.Reading.{entriesIn, readOf}
 use Rattle.par1_read.specs.declared.reading.Parts.{Parts}
+use Rattle.par1_read.specs.declared.reading.Reading.the-variants as reading
 use Rattle.par1_read.specs.declared.reading.Reading.the-variants.{Accepted}
 use Rattle.par1_write.specs.VolumeWriting.{volumeBytes, writeVolumeOf}
 use Rattle.par1_write.specs.EntryWriting.{entryBytes, writeEntryOf}
@@ -142,6 +150,43 @@ WrittenRead =
     (f : List ℕ) (p : Parts) (out : List ℕ) → Bytes f → readOf f ≡ Accepted p → length f ≤ length out
     → writeVolumeOf (p .code) (p .program) (p .number) (take (p .«list_size») (drop 96 f)) (take (p .«data_size») (drop (p .«data_start») f)) out
     ≡ accepted f out
+
+-- ---- and what reading refuses: "Reading tests 1 to 9 in this order and returns the first that holds"; 16 to 19 in the place of 6 (2026-01)
+
+pub data HeadFails (f : List ℕ) : ℕ → Type 0 where
+  -- "1: length of a volume or index file .. outside the sizes above": "96 to 33,554,432 bytes"
+  too-short : length f < 96 → HeadFails f 1
+  too-long : 33554432 < length f → HeadFails f 1
+  -- "2: first eight bytes differ": ""PAR" and five zero bytes"
+  other-signature : (take 8 f ≡ 80 ∷ 65 ∷ 82 ∷ 0 ∷ 0 ∷ 0 ∷ 0 ∷ 0 ∷ [] → ⊥) → HeadFails f 2
+  -- "3: version is not 65,536"; document 02, 2026-13: "with version 131,328 ..; test 3 now passes both"
+  other-version : (versionOf f ≡ 65536 → ⊥) → (versionOf f ≡ 131328 → ⊥) → HeadFails f 3
+  -- "4: list or data start or size differs from the layout": "List start is 96, data start is 96 plus list size, and the data runs to the end of the
+  -- file."
+  list-elsewhere : (listStartOf f ≡ 96 → ⊥) → HeadFails f 4
+  data-elsewhere : (dataStartOf f ≡ 96 + listSizeOf f → ⊥) → HeadFails f 4
+  ends-elsewhere : (dataStartOf f + dataSizeOf f ≡ length f → ⊥) → HeadFails f 4
+  -- "5: control hash differs": "the MD5 of all bytes from 32 to the end"
+  other-control : (controlHashOf f ≡ md5 (drop 32 f) → ⊥) → HeadFails f 5
+
+pub data TotalsFail (f : List ℕ) (t : Totals) : ℕ → Type 0 where
+  -- "19 number of entries differs"
+  other-count : (t .entries ≡ countOf f → ⊥) → TotalsFail f t 19
+  bad-volume : BadNumber (volumeNumberOf f) (t .saved) → TotalsFail f t 7
+  -- "8: set hash differs"
+  other-set : (setHashOf f ≡ setHash (entriesIn f) → ⊥) → TotalsFail f t 8
+  bad-size : BadData (volumeNumberOf f) (t .greatest) (dataSizeOf f) → TotalsFail f t 9
+
+-- the entries of the list come between, with the place of the first one that breaks a rule; "19 after all"
+pub data ReadRefuses (f : List ℕ) : Refusal → Type 0 where
+  by-head : {k : ℕ} → First (HeadFails f) (1 ∷ 2 ∷ 3 ∷ 4 ∷ 5 ∷ []) k → ReadRefuses f (bare k)
+  by-entry : {r : Refusal} → ((k : ℕ) → First (HeadFails f) (1 ∷ 2 ∷ 3 ∷ 4 ∷ 5 ∷ []) k → ⊥) → FirstFault (listOf f) r → ReadRefuses f r
+  by-totals : {t : Totals} {k : ℕ} → ((j : ℕ) → First (HeadFails f) (1 ∷ 2 ∷ 3 ∷ 4 ∷ 5 ∷ []) j → ⊥) → walkOf (listOf f) ≡ walked.Entries t
+      → First (TotalsFail f t) (19 ∷ 7 ∷ 8 ∷ 9 ∷ []) k → ReadRefuses f (bare k)
+
+-- a file is a list of bytes, in chunks too (`running_read` specs/Claim, ReadChunked); proved: proofs/ReadingRefusals.antt, `reading-refused`
+abbrev pub ReadRefused : Type 0
+ReadRefused = (f : List ℕ) → Bytes f → (r : Refusal) → (readOf f ≡ reading.Refused r) ↔ ReadRefuses f r
 
 -- ---- the same for an entry
 
