@@ -6,9 +6,10 @@
 --   inverse-right,
 --   inverse-left     the product of a byte other than 0 and its inverse is 1
 --   one-inverse      each byte other than 0 has one inverse
+--   inverse-answered     the claim on calls for an inverse
 --   product-positive, power-positive     products and powers of bytes other than 0 are not 0
 -- Assumes nothing.
-use mathlib.Core.Path.{_≡_, sym, ap, _∙_, subst}
+use mathlib.Core.Path.{_≡_, refl, sym, ap, _∙_, subst}
 use mathlib.Core.Bool.{Bool, true, false, cond}
 use mathlib.Core.Logic.{⊎-elim}
 use Prim.Native.Nat.{ℕ, zero, suc, _<_, _≤_}
@@ -16,8 +17,10 @@ use native.Mathlib.Nat.{le-of-suc-le-suc, not-suc-le-zero, eq-or-lt-of-le}
 use native.Mathlib.Omega.{arith}
 use native.Mathlib.Decide.{ℕ-discrete}
 use lib.Dec.{T, eqb, eqb→eq, lit<}
+use borrow.Author.Tests.{ne-eqb}
 use Rattle.gf256.specs.Field.{product, power, inverse, inverseBelow}
-use Rattle.gf256.specs.Claim.{OneInverse}
+use Rattle.gf256.specs.Answer.{inverseAnswer}
+use Rattle.gf256.specs.Claim.{OneInverse, InverseAnswered}
 use Rattle.gf256.proofs.Products.{product-comm, product-assoc, product-zero-r, product-one-l, product-one-r}
 use Rattle.gf256.proofs.Powers.{power-byte, power-one, power-add}
 use Rattle.gf256.proofs.Squares.{power-255}
@@ -78,6 +81,10 @@ inverse-left a h pos = product-comm (inverse a) a (inverse-byte a) h ∙ inverse
 
 pub one-inverse : OneInverse
 one-inverse a h pos = (inverse-byte a, inverse-right a h pos, λ b hb e. sym (inverse-unique a b h hb e))
+
+pub inverse-answered : InverseAnswered
+unfolding inverseAnswer
+inverse-answered = record { of-zero = refl; of-others = λ a h. simp (ne-eqb a 0 (λ z. omega arith)) }
 
 -- ---- products and powers of bytes other than 0
 

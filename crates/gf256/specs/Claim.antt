@@ -3,6 +3,7 @@
 --   ProductIsRemainder   the product is the remainder of the polynomial product by 285, and there is no other
 --   FieldLaws            with their sum and product the bytes are a field, save for inverses
 --   OneInverse           each byte other than 0 has one inverse
+--   InverseAnswered      a call for the inverse of 0 is refused with 10, and any other is answered
 --   OneTable             there is one table of exponents
 --   ByTables             products and powers by the tables are the products and powers
 -- Assumes nothing.
@@ -11,8 +12,10 @@ use mathlib.Core.List.{List}
 use Prim.Native.Nat.{ℕ, _<_}
 use lib.Bits.{bitXor}
 use Rattle.gf256.specs.Polynomial.{polyProduct, IsRemainder}
+use Rattle.gf256.specs.Answer.{inverseAnswer}
 use Rattle.gf256.specs.Field.{product, power, inverse}
 use Rattle.gf256.specs.Tables.{powersOf2, IsExponents, productBy, powerBy}
+use Rattle.gf256.specs.declared.ByteAnswer.the-variants.{Byte, Refused}
 
 -- "Product is the polynomial product reduced by 285"; proved: proofs/Remainder.antt, `product-is-remainder`
 abbrev pub ProductIsRemainder : Type 0
@@ -39,6 +42,11 @@ abbrev pub OneInverse : Type 0
 OneInverse =
     (a : ℕ) → a < 256 → 0 < a
     → (inverse a < 256) × (product a (inverse a) ≡ 1) × ((b : ℕ) → b < 256 → product a b ≡ 1 → b ≡ inverse a)
+
+-- "10 .. inverse of 0"; proved: proofs/Inverses.antt, `inverse-answered`
+pub record InverseAnswered : Type 0 where
+  pub of-zero : inverseAnswer 0 ≡ Refused 10
+  pub of-others : (a : ℕ) → 0 < a → inverseAnswer a ≡ Byte (inverse a)
 
 -- document 02, 2026-04: "in the other, for each non-zero byte, the exponent that gives it"; proved: proofs/TableLaws.antt, `one-table`
 abbrev pub OneTable : Type 0
