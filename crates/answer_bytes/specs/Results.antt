@@ -3,7 +3,7 @@
 --   byteInto r out       the number of the answer r, or 14, and what `out` then holds: the byte over its first
 --   partsBytes p         the parts of an accepted file: eight numbers
 --   readInto r out       the refusal that the reading r is, or 14, and what `out` then holds: the parts over its first bytes
---   entryBytes l st n    an entry's length, status and file size: three numbers
+--   entryNumbers l st n    an entry's length, status and file size: three numbers
 --   entryInto i out      the number of a fault, or 14, and what `out` then holds: the numbers of the entry over its first bytes
 -- Assumes nothing.
 use mathlib.Core.List.{List, [], _∷_}
@@ -44,11 +44,11 @@ unfoldable pub readInto : Reading → List ℕ → Refusal × List ℕ
 readInto (reading.Refused r) out = withRefusal (refused r out)
 readInto (reading.Accepted p) out = withRefusal (written (partsBytes p) out)
 
-unfoldable pub entryBytes : ℕ → ℕ → ℕ → List ℕ
-entryBytes l status size = numbers (l ∷ status ∷ size ∷ [])
+unfoldable pub entryNumbers : ℕ → ℕ → ℕ → List ℕ
+entryNumbers l status size = numbers (l ∷ status ∷ size ∷ [])
 
 -- an entry has 58 bytes or more, so three zeros say that the list is over
 unfoldable pub entryInto : Item → List ℕ → ℕ × List ℕ
-entryInto (item.Entry l status size) out = withNumber (written (entryBytes l status size) out)
-entryInto item.End out = withNumber (written (entryBytes 0 0 0) out)
+entryInto (item.Entry l status size) out = withNumber (written (entryNumbers l status size) out)
+entryInto item.End out = withNumber (written (entryNumbers 0 0 0) out)
 entryInto (item.Fault f) out = withNumber (refused (bare (faultNumber f)) out)

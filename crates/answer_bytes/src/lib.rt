@@ -1,6 +1,6 @@
 // Answers in lent bytes: a byte of the field, the parts of a file, and the first entry of a list.
 ghost use mathlib.Core.Path.{_≡_};
-ghost use Rattle.answer_bytes.specs.Results.{byteInto, partsBytes, readInto, entryBytes, entryInto};
+ghost use Rattle.answer_bytes.specs.Results.{byteInto, partsBytes, readInto, entryNumbers, entryInto};
 ghost use Rattle.lent_bytes.specs.Writing.{written, withNumber};
 use entries::Item;
 use entries::fault_number;
@@ -92,7 +92,7 @@ fn bytes_of_parts(parts: Parts) -> [u8; PARTS_LENGTH]
 
 // An entry's length, status and file size, over the first bytes of `out`.
 fn put_numbers(length: u64, status: u64, size: u64, out: &mut [u8]) -> u32
-    ensures { λ r. ⌜ (r, now (out .exit)) ≡ withNumber (written (entryBytes length status size) (now (out .entry))) ⌝ }
+    ensures { λ r. ⌜ (r, now (out .exit)) ≡ withNumber (written (entryNumbers length status size) (now (out .entry))) ⌝ }
 {
     let numbers = [length, status, size];
     let mut bytes = [0u8; ENTRY_LENGTH];

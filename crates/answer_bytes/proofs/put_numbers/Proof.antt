@@ -6,13 +6,13 @@ use mathlib.Core.List.{List}
 use denote.Ref.{now}
 use Rattle.lent_bytes.specs.Writing.{written, withNumber}
 use Rattle.little_endian.specs.Bytes.{numbers, toLe}
-use Rattle.answer_bytes.specs.Results.{entryBytes}
+use Rattle.answer_bytes.specs.Results.{entryNumbers}
 use borrow.Author.Needs.{needs}
 use Rattle.answer_bytes.proofs.put_numbers.Statement.{statement}
 use Rattle.answer_bytes.proofs.put_numbers.Tie as tie
 
 returns : tie.Need-returns
-unfolding entryBytes numbers toLe
+unfolding entryNumbers numbers toLe
 returns c =
     let w = c .before .before in
     let n = w .before .before .before .before in
