@@ -4,7 +4,7 @@
 use crate::amend::Amendment;
 use crate::inventory::Change;
 use crate::pages::{self, readable};
-use std::sync::atomic::{AtomicU64, Ordering};
+use crate::refusals::{counted, Call};
 
 extern "C" {
     fn par1_md5(bytes: *const u8, bytes_len: usize, out: *mut u8, out_len: usize) -> u32;
@@ -38,20 +38,6 @@ pub const CAUCHY: u32 = 1;
 
 const GUARD: usize = 32;
 
-/// How often each number came back, 0 to 31.
-static CAME_BACK: [AtomicU64; 32] = [const { AtomicU64::new(0) }; 32];
-
-/// Counts the number of an answer, which has a value beside it where it is of 64 bits.
-pub fn counted<A: Copy + Into<u64>>(answer: A) -> A {
-    CAME_BACK[(answer.into() % 32) as usize].fetch_add(1, Ordering::Relaxed);
-    answer
-}
-
-/// The counts of the numbers that came back so far.
-pub fn came_back() -> Vec<u64> {
-    CAME_BACK.iter().map(|n| n.load(Ordering::Relaxed)).collect()
-}
-
 /// Lends a copy of `room` with guard bytes around it: the call's answer, and the room after it. A guard that changed ends the run.
 pub fn guarded<A>(room: &[u8], call: impl FnOnce(*mut u8, usize) -> A) -> (A, Vec<u8>) {
     if let Some(side) = pages::side() {
@@ -68,22 +54,22 @@ pub fn guarded<A>(room: &[u8], call: impl FnOnce(*mut u8, usize) -> A) -> (A, Ve
 }
 
 /// The same, and the answer's number is counted.
-pub fn lent<A: Copy + Into<u64>>(room: &[u8], call: impl FnOnce(*mut u8, usize) -> A) -> (A, Vec<u8>) {
+pub fn lent<A: Copy + Into<u64>>(name: Call, room: &[u8], call: impl FnOnce(*mut u8, usize) -> A) -> (A, Vec<u8>) {
     let (answer, after) = guarded(room, call);
-    (counted(answer), after)
+    (counted(name, answer), after)
 }
 
 pub fn md5(bytes: &[u8], room: &[u8]) -> (u32, Vec<u8>) {
     let [bytes] = readable([bytes]);
-    lent(room, |out, len| unsafe { par1_md5(bytes.as_ptr(), bytes.len(), out, len) })
+    lent(Call::Md5, room, |out, len| unsafe { par1_md5(bytes.as_ptr(), bytes.len(), out, len) })
 }
 
 pub fn inverse(x: u8, room: &[u8]) -> (u32, Vec<u8>) {
-    lent(room, |out, len| unsafe { par1_inverse(x, out, len) })
+    lent(Call::Inverse, room, |out, len| unsafe { par1_inverse(x, out, len) })
 }
 
 pub fn coefficient(code: u32, file: u64, volume: u64, room: &[u8]) -> (u32, Vec<u8>) {
-    lent(room, |out, len| unsafe { par1_coefficient(code, file, volume, out, len) })
+    lent(Call::Coefficient, room, |out, len| unsafe { par1_coefficient(code, file, volume, out, len) })
 }
 
 pub fn mul_add(weight: u8, fragment: &[u8], buffer: &mut [u8]) {
@@ -93,27 +79,27 @@ pub fn mul_add(weight: u8, fragment: &[u8], buffer: &mut [u8]) {
 
 pub fn read(file: &[u8], room: &[u8]) -> (u64, Vec<u8>) {
     let [file] = readable([file]);
-    lent(room, |out, len| unsafe { par1_read(file.as_ptr(), file.len(), out, len) })
+    lent(Call::Read, room, |out, len| unsafe { par1_read(file.as_ptr(), file.len(), out, len) })
 }
 
 pub fn entry(list: &[u8], room: &[u8]) -> (u32, Vec<u8>) {
     let [list] = readable([list]);
-    lent(room, |out, len| unsafe { par1_entry(list.as_ptr(), list.len(), out, len) })
+    lent(Call::Entry, room, |out, len| unsafe { par1_entry(list.as_ptr(), list.len(), out, len) })
 }
 
 pub fn check(entry: &[u8], contents: &[u8]) -> u32 {
     let [entry, contents] = readable([entry, contents]);
-    counted(unsafe { par1_check(entry.as_ptr(), entry.len(), contents.as_ptr(), contents.len()) })
+    counted(Call::Check, unsafe { par1_check(entry.as_ptr(), entry.len(), contents.as_ptr(), contents.len()) })
 }
 
 pub fn write_entry(contents: &[u8], status: u64, name: &[u8], room: &[u8]) -> (u32, Vec<u8>) {
     let [m, n] = readable([contents, name]);
-    lent(room, |out, len| unsafe { par1_write_entry(m.as_ptr(), m.len(), status, n.as_ptr(), n.len(), out, len) })
+    lent(Call::WriteEntry, room, |out, len| unsafe { par1_write_entry(m.as_ptr(), m.len(), status, n.as_ptr(), n.len(), out, len) })
 }
 
 pub fn write_volume(code: u32, program: u32, number: u64, list: &[u8], data: &[u8], room: &[u8]) -> (u64, Vec<u8>) {
     let [l, d] = readable([list, data]);
-    lent(room, |out, len| unsafe { par1_write_volume(code, program, number, l.as_ptr(), l.len(), d.as_ptr(), d.len(), out, len) })
+    lent(Call::WriteVolume, room, |out, len| unsafe { par1_write_volume(code, program, number, l.as_ptr(), l.len(), d.as_ptr(), d.len(), out, len) })
 }
 
 pub fn amend(room: &[u8], length: u64, a: &Amendment) -> (u64, Vec<u8>) {
@@ -121,32 +107,42 @@ pub fn amend(room: &[u8], length: u64, a: &Amendment) -> (u64, Vec<u8>) {
     let amend = |volume, len| unsafe {
         par1_amend(volume, len, length, a.file, a.place, o.as_ptr(), o.len(), n.as_ptr(), n.len(), e.as_ptr(), e.len())
     };
-    lent(room, amend)
+    lent(Call::Amend, room, amend)
 }
 
 pub fn compare(one: &[u8], two: &[u8], room: &[u8]) -> (u64, Vec<u8>) {
     let [one, two] = readable([one, two]);
-    lent(room, |out, len| unsafe { par1_compare(one.as_ptr(), one.len(), two.as_ptr(), two.len(), out, len) })
+    let (answer, after) = lent(Call::Compare, room, |out, len| unsafe { par1_compare(one.as_ptr(), one.len(), two.as_ptr(), two.len(), out, len) });
+    count_lines(Call::CompareLine, answer, &after);
+    (answer, after)
 }
 
 pub fn export(file: &[u8], room: &[u8]) -> (u64, Vec<u8>) {
     let [file] = readable([file]);
-    lent(room, |out, len| unsafe { par1_export(file.as_ptr(), file.len(), out, len) })
+    lent(Call::Export, room, |out, len| unsafe { par1_export(file.as_ptr(), file.len(), out, len) })
 }
 
 pub fn import(file: &[u8], text: &[u8], room: &[u8]) -> (u64, Vec<u8>) {
     let [file, text] = readable([file, text]);
-    lent(room, |out, len| unsafe { par1_import(file.as_ptr(), file.len(), text.as_ptr(), text.len(), out, len) })
+    lent(Call::Import, room, |out, len| unsafe { par1_import(file.as_ptr(), file.len(), text.as_ptr(), text.len(), out, len) })
 }
 
 pub fn open(code: u32, n: u64, sizes: &[u8], room: &[u8]) -> (u32, Vec<u8>) {
     let [sizes] = readable([sizes]);
-    lent(room, |out, len| unsafe { par1_open(code, n, sizes.as_ptr(), sizes.len(), out, len) })
+    lent(Call::Open, room, |out, len| unsafe { par1_open(code, n, sizes.as_ptr(), sizes.len(), out, len) })
 }
 
 /// A change of an inventory: the number, and the inventory after it.
 pub fn change(inventory: &[u8], change: Change, number: u64) -> (u32, Vec<u8>) {
-    lent(inventory, |bytes, len| unsafe {
+    let name = match change {
+        Change::AddFile => Call::AddFile,
+        Change::RemoveFile => Call::RemoveFile,
+        Change::AddVolume(_) => Call::AddVolume,
+        Change::RemoveVolume => Call::RemoveVolume,
+        Change::SetAside => Call::Quarantine,
+        Change::TakeBack => Call::Release,
+    };
+    lent(name, inventory, |bytes, len| unsafe {
         match change {
             Change::AddFile => par1_add_file(bytes, len, number),
             Change::RemoveFile => par1_remove_file(bytes, len, number),
@@ -160,21 +156,26 @@ pub fn change(inventory: &[u8], change: Change, number: u64) -> (u32, Vec<u8>) {
 
 pub fn count(inventory: &[u8], room: &[u8]) -> (u32, Vec<u8>) {
     let [inventory] = readable([inventory]);
-    lent(room, |out, len| unsafe { par1_count(inventory.as_ptr(), inventory.len(), out, len) })
+    lent(Call::Count, room, |out, len| unsafe { par1_count(inventory.as_ptr(), inventory.len(), out, len) })
 }
 
 pub fn query(inventory: &[u8], file: u64, room: &[u8]) -> (u32, Vec<u8>) {
     let [inventory] = readable([inventory]);
-    lent(room, |out, len| unsafe { par1_query(inventory.as_ptr(), inventory.len(), file, out, len) })
+    lent(Call::Query, room, |out, len| unsafe { par1_query(inventory.as_ptr(), inventory.len(), file, out, len) })
 }
 
-/// The numbers of the lines `refused N` are counted too: 28 comes back in no other way.
 pub fn replay(log: &[u8], room: &[u8]) -> (u64, Vec<u8>) {
     let [log] = readable([log]);
-    let (answer, after) = lent(room, |out, len| unsafe { par1_replay(log.as_ptr(), log.len(), out, len) });
-    let text = String::from_utf8_lossy(&after[..after.len().min((answer / 32) as usize)]);
-    text.lines().filter_map(|line| line.strip_prefix("refused ")?.parse::<u32>().ok()).for_each(|number| {
-        counted(number);
-    });
+    let (answer, after) = lent(Call::Replay, room, |out, len| unsafe { par1_replay(log.as_ptr(), log.len(), out, len) });
+    count_lines(Call::ReplayLine, answer, &after);
     (answer, after)
+}
+
+/// Counts the number at the end of each line `refused ..` of a text.
+fn count_lines(name: Call, answer: u64, room: &[u8]) {
+    let text = &room[..room.len().min((answer / 32) as usize)];
+    for line in text.split(|&b| b == 10) {
+        let number = line.strip_prefix(b"refused ").and_then(|rest| std::str::from_utf8(rest).ok()?.split(' ').next_back()?.parse::<u32>().ok());
+        counted(name, number.unwrap_or(0));
+    }
 }

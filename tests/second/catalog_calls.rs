@@ -1,8 +1,9 @@
 //! The C library's calls on catalogs. Rooms and records have guards on both sides.
 
-use crate::calls::{counted, lent};
+use crate::calls::lent;
 use crate::catalog::Row;
 use crate::pages::{self, readable};
+use crate::refusals::{counted, Call};
 
 /// `struct par1_row` as memory has it: the file number in the low half of the first word, whose other half is padding; the size; the MD5.
 type Record = [u64; 4];
@@ -16,16 +17,16 @@ extern "C" {
 
 pub fn open(file: &[u8], room: &[u8]) -> (u64, Vec<u8>) {
     let [file] = readable([file]);
-    lent(room, |out, len| unsafe { par1_catalog_open(file.as_ptr(), file.len(), out, len) })
+    lent(Call::CatalogOpen, room, |out, len| unsafe { par1_catalog_open(file.as_ptr(), file.len(), out, len) })
 }
 
 pub fn add(room: &[u8], volume: &[u8]) -> (u64, Vec<u8>) {
     let [volume] = readable([volume]);
-    lent(room, |catalog, len| unsafe { par1_catalog_add(catalog, len, volume.as_ptr(), volume.len()) })
+    lent(Call::CatalogAdd, room, |catalog, len| unsafe { par1_catalog_add(catalog, len, volume.as_ptr(), volume.len()) })
 }
 
 pub fn drop(room: &[u8], number: u64) -> (u64, Vec<u8>) {
-    lent(room, |catalog, len| unsafe { par1_catalog_drop(catalog, len, number) })
+    lent(Call::CatalogDrop, room, |catalog, len| unsafe { par1_catalog_drop(catalog, len, number) })
 }
 
 fn row(record: &Record) -> Row {
@@ -51,7 +52,7 @@ pub fn load(catalog: &[u8], records: usize) -> (u64, Vec<Row>) {
     let paint: Vec<Record> = (0..records as u64 + 4).map(|i| [!i, i << 40 | 5, !i << 9, i << 50 | 7]).collect();
     let mut space = paint.clone();
     let answer = lent_records(&mut space, |rows| unsafe { par1_catalog_load(catalog.as_ptr(), catalog.len(), rows, records) });
-    counted(answer);
+    counted(Call::CatalogLoad, answer);
     let filled = if answer % 32 == 0 { (answer / 32) as usize } else { 0 };
     assert!(filled <= records, "more records than were lent");
     assert!(space[..2] == paint[..2] && space[2 + filled..] == paint[2 + filled..], "a record past those filled was written");

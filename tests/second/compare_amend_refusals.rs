@@ -9,6 +9,7 @@ use crate::field::{Code, CODES};
 use crate::files::{afresh, File};
 use crate::par1::VOLUME_LIMIT;
 use crate::{calls, small, Counts, Random};
+use std::ops::RangeInclusive;
 
 #[derive(Clone)]
 struct Call {
@@ -129,22 +130,40 @@ fn refused(counts: &mut Counts, what: &str, call: &Call, answer: u64) {
     counts.same(|| what.into(), (got.0, got.1 == call.room), (answer, true));
 }
 
-/// Each fault alone and with each later one, against the document's order and against the second program.
-fn in_order(counts: &mut Counts, code: Code) {
-    let call = growth(code, &files(b""), b"ghi");
-    answers(counts, "without a fault", &call.room, call.length, &call.amendment, accepted(call.length as usize + 3));
-    for (place, what, answer, fault) in FAULTS {
-        let later = FAULTS.into_iter().filter(|other| other.0 > place);
+/// The call with each fault at these places of the order, alone and with each later one: what is wrong, the answer, the call.
+fn with_faults(call: &Call, places: RangeInclusive<u32>) -> Vec<(String, u64, Call)> {
+    let faults: Vec<Fault> = FAULTS.into_iter().filter(|fault| places.contains(&fault.0)).collect();
+    let mut calls = vec![];
+    for (place, what, answer, fault) in &faults {
+        let later = faults.iter().filter(|other| other.0 > *place);
         let pairs = later.map(|(_, also, _, other)| (format!("{what}, {also}"), Some(other)));
-        for (what, other) in [(what.into(), None)].into_iter().chain(pairs) {
+        for (what, other) in [(what.to_string(), None)].into_iter().chain(pairs) {
             let mut call = call.clone();
             if let Some(other) = other {
                 other(&mut call);
             }
             fault(&mut call);
-            refused(counts, &what, &call, answer);
-            amend(counts, &what, &call.room, call.length, &call.amendment);
+            calls.push((what, *answer, call));
         }
+    }
+    calls
+}
+
+/// Volumes that reading refuses, each with one or two faults, with the answer of the first; so many entries that are not saved stand at the end.
+pub fn refused_volumes(code: Code, more: usize) -> Vec<(String, u64, Vec<u8>)> {
+    let mut files = files(b"");
+    files.resize(3 + more, files[1].clone());
+    let calls = with_faults(&growth(code, &files, b""), 1..=12);
+    calls.into_iter().map(|(what, answer, call)| (what, answer, call.room[..call.length as usize].to_vec())).collect()
+}
+
+/// Each fault alone and with each later one, against the document's order and against the second program.
+fn in_order(counts: &mut Counts, code: Code) {
+    let call = growth(code, &files(b""), b"ghi");
+    answers(counts, "without a fault", &call.room, call.length, &call.amendment, accepted(call.length as usize + 3));
+    for (what, answer, call) in with_faults(&call, 0..=19) {
+        refused(counts, &what, &call, answer);
+        amend(counts, &what, &call.room, call.length, &call.amendment);
     }
 }
 

@@ -6,7 +6,7 @@
 
 use crate::guarded_inputs::Inputs;
 use crate::pages::{self, Side};
-use crate::{calls, rounds, Counts};
+use crate::{refusals, rounds, Counts};
 use std::sync::atomic::{AtomicU64, AtomicUsize, Ordering::Relaxed};
 
 /// The calls, in the header's order.
@@ -123,7 +123,5 @@ pub fn run(counts: &mut Counts, seed: Option<u64>) {
     for (name, times) in NAMES.iter().zip(&CALLED) {
         println!("{name}: {} calls", times.load(Relaxed));
     }
-    for (number, times) in calls::came_back().into_iter().enumerate() {
-        counts.same(|| format!("whether number {number} comes back"), times > 0, number <= 30 && number != 6);
-    }
+    refusals::compare(counts, false);
 }

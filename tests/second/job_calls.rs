@@ -1,9 +1,10 @@
 //! The C library's calls on jobs. A job and a room that a call writes have guard bytes on both sides. Each call gets a copy of the job, so a job
 //! is moved between any two calls.
 
-use crate::calls::{counted, guarded, lent};
+use crate::calls::{guarded, lent};
 use crate::jobs::Hash;
 use crate::pages::{self, readable};
+use crate::refusals::{counted, Call};
 
 extern "C" {
     fn par1_hash_start(hash: *mut Hash);
@@ -42,42 +43,42 @@ pub fn hash_start(hash: &Hash) -> Hash {
 pub fn hash_push(hash: &Hash, bytes: &[u8]) -> (u32, Hash) {
     let [bytes] = readable([bytes]);
     let (answer, after) = owned(hash, |hash| unsafe { par1_hash_push(hash, bytes.as_ptr(), bytes.len()) });
-    (counted(answer), after)
+    (counted(Call::HashPush, answer), after)
 }
 
 /// The number, the hash after it, the room after it.
 pub fn hash_end(hash: &Hash, room: &[u8]) -> (u32, Hash, Vec<u8>) {
-    let ((number, room), hash) = owned(hash, |hash| lent(room, |out, len| unsafe { par1_hash_end(hash, out, len) }));
+    let ((number, room), hash) = owned(hash, |hash| lent(Call::HashEnd, room, |out, len| unsafe { par1_hash_end(hash, out, len) }));
     (number, hash, room)
 }
 
 pub fn mul_add_start(weight: u8, room: &[u8]) -> (u32, Vec<u8>) {
-    lent(room, |job, len| unsafe { par1_mul_add_start(weight, job, len) })
+    lent(Call::MulAddStart, room, |job, len| unsafe { par1_mul_add_start(weight, job, len) })
 }
 
 /// The number, the job after it, the buffer after it.
 pub fn mul_add_push(job: &[u8], fragment: &[u8], buffer: &[u8]) -> (u32, Vec<u8>, Vec<u8>) {
     let [fragment] = readable([fragment]);
     let push = |job, job_len, out, len| unsafe { par1_mul_add_push(job, job_len, fragment.as_ptr(), fragment.len(), out, len) };
-    let ((number, buffer), job) = guarded(job, |job, job_len| lent(buffer, |out, len| push(job, job_len, out, len)));
+    let ((number, buffer), job) = guarded(job, |job, job_len| lent(Call::MulAddPush, buffer, |out, len| push(job, job_len, out, len)));
     (number, job, buffer)
 }
 
 pub fn mul_add_end(job: &[u8]) -> (u32, Vec<u8>) {
-    lent(job, |job, len| unsafe { par1_mul_add_end(job, len) })
+    lent(Call::MulAddEnd, job, |job, len| unsafe { par1_mul_add_end(job, len) })
 }
 
 pub fn read_start(room: &[u8]) -> (u32, Vec<u8>) {
-    lent(room, |job, len| unsafe { par1_read_start(job, len) })
+    lent(Call::ReadStart, room, |job, len| unsafe { par1_read_start(job, len) })
 }
 
 pub fn read_push(job: &[u8], bytes: &[u8]) -> (u32, Vec<u8>) {
     let [bytes] = readable([bytes]);
-    lent(job, |job, len| unsafe { par1_read_push(job, len, bytes.as_ptr(), bytes.len()) })
+    lent(Call::ReadPush, job, |job, len| unsafe { par1_read_push(job, len, bytes.as_ptr(), bytes.len()) })
 }
 
 /// The answer, the job after it, the room after it.
 pub fn read_end(job: &[u8], room: &[u8]) -> (u64, Vec<u8>, Vec<u8>) {
-    let ((answer, room), job) = guarded(job, |job, job_len| lent(room, |out, len| unsafe { par1_read_end(job, job_len, out, len) }));
+    let ((answer, room), job) = guarded(job, |job, job_len| lent(Call::ReadEnd, room, |out, len| unsafe { par1_read_end(job, job_len, out, len) }));
     (answer, job, room)
 }

@@ -2,8 +2,8 @@
 //!
 //! `md5`, `field`, `par1`, `inventory`, `jobs`, `amend`, `differences`, `md5sum`, `catalog`, `replay` work the answers out; `expected` gives each call's
 //! number and lent bytes from them; `calls`, `catalog_calls` and `job_calls` make the library's calls, on lent bytes with guards on both sides;
-//! `cuts` has ways of cutting an input, `files` sets of files and their volumes; `compare_*` are the comparisons. `guarded*` make the calls on memory
-//! beside pages that cannot be touched, `pages`.
+//! `refusals` has the numbers that each call may answer, `cuts` ways of cutting an input, `files` sets of files and their volumes; `compare_*` are the
+//! comparisons. `guarded*` make the calls on memory beside pages that cannot be touched, `pages`.
 
 mod amend;
 mod calls;
@@ -27,6 +27,7 @@ mod compare_md5;
 mod compare_md5sum;
 mod compare_mul_add_job;
 mod compare_names;
+mod compare_order;
 mod compare_par1;
 mod compare_parity;
 mod compare_quarantine;
@@ -49,6 +50,7 @@ mod md5;
 mod md5sum;
 mod pages;
 mod par1;
+mod refusals;
 mod replay;
 
 /// How many rounds of a comparison: all, or a twentieth of them where the program is called with the word `small`, as under valgrind.
@@ -93,10 +95,10 @@ impl Random {
     }
 }
 
-/// The comparisons one after another, then whether each number of the documents came back.
+/// The comparisons one after another, then whether each refusal of each call came back, and no other.
 fn compare(counts: &mut Counts) {
     let mut random = Random(2026);
-    let parts: [(&str, fn(&mut Counts, &mut Random)); 25] = [
+    let parts: [(&str, fn(&mut Counts, &mut Random)); 26] = [
         ("md5", compare_md5::run),
         ("field", compare_field::run),
         ("parity", compare_parity::run),
@@ -122,19 +124,14 @@ fn compare(counts: &mut Counts) {
         ("sums", compare_sums::run),
         ("codes", compare_codes::run),
         ("names", compare_names::run),
+        ("refusals in their order", compare_order::run),
     ];
     for (name, run) in parts {
         let before = counts.passed + counts.failed;
         run(counts, &mut random);
         println!("{name}: {} comparisons", counts.passed + counts.failed - before);
     }
-    for (number, times) in calls::came_back().into_iter().enumerate() {
-        let given = number <= 30 && number != 6;
-        if given {
-            println!("number {number} came back {times} times");
-        }
-        counts.same(|| format!("whether number {number} comes back"), times > 0, given);
-    }
+    refusals::compare(counts, !small());
 }
 
 /// With the word `guarded` the calls are made beside guard pages instead, in all rounds or in that of the seed that follows.
