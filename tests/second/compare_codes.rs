@@ -245,18 +245,19 @@ const FILES: u64 = 24;
 
 /// With files a and b of 24 missing and each pair of volumes 1 to `last` present: how often they come back, and how often by the second program, for
 /// which two rows of two columns must not be multiples of one another. No factor is 0, so the two come back together or not at all: both are asked for with
-/// volumes up to 24, and one of them in turn with greater ones. A pair in which one comes back and the other does not ends the run.
+/// volumes up to 24, and one of them in turn with greater ones. A pair in which one comes back and the other does not ends the run. The inventory of two
+/// volumes has the bits of those of each.
 fn pairs_of_volumes(code: Code, a: u64, b: u64, last: u64) -> (u64, u64) {
     let mut none = opened(code, &[1; FILES as usize]);
     for f in (1..=FILES).filter(|&f| f != a && f != b) {
         none = calls::change(&none, AddFile, f).1;
     }
     let factors: Vec<[u8; 2]> = (1..=last).map(|v| [a, b].map(|f| field::coefficient(code, f as u8, v as u8))).collect();
+    let ones: Vec<Vec<u8>> = (1..=last).map(|v| calls::change(&none, AddVolume(code.number()), v).1).collect();
     let (mut back, mut by_rows) = (0, 0);
     for v in 1..=last {
-        let one = calls::change(&none, AddVolume(code.number()), v).1;
         for w in v + 1..=last {
-            let bytes = calls::change(&one, AddVolume(code.number()), w).1;
+            let bytes: Vec<u8> = ones[v as usize - 1].iter().zip(&ones[w as usize - 1]).map(|(one, other)| one | other).collect();
             let turn = (v + w) as usize % 2;
             let asked = if w <= FILES { &[a, b][..] } else { &[[a, b][turn]] };
             let mut numbers = asked.iter().map(|&f| calls::query(&bytes, f, &[0; 255]).0);
