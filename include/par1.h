@@ -1,8 +1,8 @@
 /* Proved parity volumes: the calls of the static library libpar1_c.a, for C99 and later and for C++.
  *
  * To link:  rt staticlib par1_c;  gcc -Iinclude program.c target/staticlib/libpar1_c.a
- * The library is for x86-64. It wants memcpy and memset of the C library and nothing else; it allocates nothing and keeps nothing between
- * calls, so calls on different bytes may run at the same time.
+ * The library is for x86-64: some 80 KB of code and constants and no variables. It wants memcpy and memset of the C library and nothing else; it
+ * allocates nothing and keeps nothing between calls, so calls on different bytes may run at the same time.
  *
  * Each call that can refuse answers the number 0 where it is accepted, else the number of its refusal; a par1_answer tells more beside it. A
  * refused call changes no byte, but that the end of a job ends it (see Jobs). A call reads and writes only the bytes it is lent, each a pointer and
@@ -10,9 +10,10 @@
  * that a call writes must not overlap others that it is lent. Numbers in lent bytes are 64 bits wide, in a catalog 32 or 64, lowest byte first. Lent
  * bytes need no alignment; the two structs lie at multiples of 8, as a compiler puts them.
  *
- * The calls: their refusals in the order of the tests, so that of those that hold the first is answered; how many bytes they write where they are
- * accepted, which are the first of those lent for a result (with fewer they refuse with 14); and their stack in bytes, measured on accepted calls and
- * rounded up to hundreds (docs/BENCHMARKS.md). R stands for 1 to 5, 16 to 19, 7 to 9, the refusals of reading a file.
+ * The calls, in the order in which they stand below: their refusals in the order of the tests, so that of those that hold the first is answered; how
+ * many bytes they write where they are accepted, which are the first of those lent for a result (with fewer they refuse with 14); and their stack in
+ * bytes, measured on accepted calls and rounded up to hundreds (docs/BENCHMARKS.md). R stands for 1 to 5, 16 to 19, 7 to 9, the refusals of reading a
+ * file.
  *
  *   call                 refusals               writes                                      stack
  *
@@ -63,6 +64,9 @@
  *   par1_catalog_add     R 30 10 25 26 11 14    in the catalog, and 28 on its end           3,300
  *   par1_catalog_drop    30 10 11               in the catalog                                300
  *   par1_catalog_load    30 14                  a record, 32, for each entry                  300
+ *
+ * So a machine of 64 KiB makes every call but par1_query and par1_replay; where one file is missing and one volume is there, it needs neither
+ * (see par1_inverse). examples/ has programs for it and for the shore.
  */
 #ifndef PAR1_H
 #define PAR1_H
@@ -149,6 +153,34 @@ enum {
     PAR1_MAX_LOG_LENGTH = 65536
 };
 
+/* -------- Hash and field ---------------------------------------------------------------------------------------------------------------------- */
+
+/* The MD5 (RFC 1321) of `bytes` into the first 16 bytes of `out`. Refuses with 14 where `out` is shorter. */
+uint32_t par1_md5(const uint8_t *bytes, size_t bytes_len, uint8_t *out, size_t out_len);
+
+/* The inverse of x in the field of bytes modulo 285 into the first byte of `out`. Refuses with 10 where x is 0, then with 14 where `out` has no
+ * byte. Where one file is missing and one volume is there, the volume's weight is the inverse of the missing file's coefficient in it, and another
+ * file's is its own coefficient times that (a par1_mul_add of one byte): the weights of a query. */
+uint32_t par1_inverse(uint8_t x, uint8_t *out, size_t out_len);
+
+/* The coefficient of a file in a volume by a code into the first byte of `out`: of PAR1_POWERS f to the power v - 1, of PAR1_CAUCHY the inverse of f
+ * exclusive-or (256 - v). Refuses with 10 where there is no such code, or file or volume is 0 or their sum is above 255, then with 14 where `out` has
+ * no byte. */
+uint32_t par1_coefficient(uint32_t code, uint64_t file, uint64_t volume, uint8_t *out, size_t out_len);
+
+/* Adds weight times the fragment to the buffer, byte by byte, for as many bytes as both have. Refuses nothing. The data of volume v is zeros, as
+ * many as the greatest saved file has bytes, to which each saved file is added with its coefficient in v. With the weight 1 it sums two buffers:
+ * where the saved files are split between two boxes, and each adds its share with the volume's coefficients to zeros of the data size, the buffers
+ * summed are the volume's data. */
+void par1_mul_add(uint8_t weight, const uint8_t *fragment, size_t fragment_len, uint8_t *buffer, size_t buffer_len);
+
+/* -------- Index files and volumes ------------------------------------------------------------------------------------------------------------- */
+
+/* An index file or volume is 96 bytes, a list of entries, one for each file, and data: of a volume its parity, of an index a comment. Files are
+ * numbered 1 to n over the saved entries only, in list order, and volumes 1 to 255 - n. Where the list starts; where an entry has its file's size,
+ * its MD5s (of the whole, and of the first 16,384 bytes) and its name, which goes to its end. */
+enum { PAR1_LIST_AT = 96, PAR1_FILE_SIZE_AT = 16, PAR1_MD5_AT = 24, PAR1_MD5_16K_AT = 40, PAR1_NAME_AT = 56 };
+
 /* Where the numbers stand that par1_read writes. */
 enum {
     PAR1_PARTS_PROGRAM = 0,
@@ -161,35 +193,14 @@ enum {
     PAR1_PARTS_CODE = 56 /* PAR1_POWERS or PAR1_CAUCHY */
 };
 
-/* Where the numbers stand that par1_entry writes, and those that par1_count writes. */
-enum { PAR1_ENTRY_LENGTH = 0, PAR1_ENTRY_STATUS = 8, PAR1_ENTRY_FILE_SIZE = 16 };
-enum { PAR1_COUNT_FILES = 0, PAR1_COUNT_VOLUMES = 8, PAR1_COUNT_QUARANTINED = 16 };
-
-/* Where the list starts in an index file or volume; where an entry has its file's size, its MD5s and its name, which goes to its end. */
-enum { PAR1_LIST_AT = 96, PAR1_FILE_SIZE_AT = 16, PAR1_MD5_AT = 24, PAR1_MD5_16K_AT = 40, PAR1_NAME_AT = 56 };
-
-/* The MD5 (RFC 1321) of `bytes` into the first 16 bytes of `out`. Refuses with 14 where `out` is shorter. */
-uint32_t par1_md5(const uint8_t *bytes, size_t bytes_len, uint8_t *out, size_t out_len);
-
-/* The inverse of x in the field of bytes modulo 285 into the first byte of `out`. Refuses with 10 where x is 0, then with 14 where
- * `out` has no byte. */
-uint32_t par1_inverse(uint8_t x, uint8_t *out, size_t out_len);
-
-/* The coefficient of a file in a volume by a code into the first byte of `out`: of PAR1_POWERS f to the power v - 1, of PAR1_CAUCHY the inverse of f
- * exclusive-or (256 - v). Refuses with 10 where there is no such code, or file or volume is 0 or their sum is above 255, then with 14 where `out` has
- * no byte. */
-uint32_t par1_coefficient(uint32_t code, uint64_t file, uint64_t volume, uint8_t *out, size_t out_len);
-
-/* Adds weight times the fragment to the buffer, byte by byte, for as many bytes as both have. Refuses nothing. With the weight 1 it sums two
- * buffers: where the saved files are split between two boxes, and each adds its share with the volume's coefficients to zeros of the data size, the
- * buffers summed are the volume's data. */
-void par1_mul_add(uint8_t weight, const uint8_t *fragment, size_t fragment_len, uint8_t *buffer, size_t buffer_len);
-
 /* What an index file or volume holds, into the first 64 bytes of `out`: eight numbers, at PAR1_PARTS_..: program identifier, volume number (0 for an
  * index), entries, saved entries, list size, data start, data size, the code that its version stands for. The list starts at byte 96. Refuses, in
  * this order, with 1: the length is not 96 to 33,554,432; 2 to 5; 16, 17 or 18: an entry breaks a rule, the first that does, with its place, and the
  * first of its rules; 19: the number of entries differs; 7 to 9; 14: `out` is shorter. */
 par1_answer par1_read(const uint8_t *file, size_t file_len, uint8_t *out, size_t out_len);
+
+/* Where the numbers stand that par1_entry writes. */
+enum { PAR1_ENTRY_LENGTH = 0, PAR1_ENTRY_STATUS = 8, PAR1_ENTRY_FILE_SIZE = 16 };
 
 /* What the first entry of a list, or of what is left of one, says, into the first 24 bytes of `out`: three numbers, at PAR1_ENTRY_..: its
  * length, its status as it stands (bit 0: saved in the parity; no other bit has a meaning), its file's size; three zeros where the list is over
@@ -197,10 +208,14 @@ par1_answer par1_read(const uint8_t *file, size_t file_len, uint8_t *out, size_t
  * 18, the first that holds, where the entry breaks a rule, then with 14 where `out` is shorter. */
 uint32_t par1_entry(const uint8_t *list, size_t list_len, uint8_t *out, size_t out_len);
 
-/* Writes the entry of a file with these contents, status and name (in 16-bit units, two bytes each) over the first 56 + name_len bytes of
- * `out`. The status is 1 where the file is saved in the parity, else 0; bit 1, once "checked", is not written any more. Refuses with 17 where the
- * contents are above 16,777,216 bytes or the status is above 1, with 18 where the name is not one or more whole units other than 0, 47, 58
- * and 92, or is the whole name . or .., then with 14 where `out` is shorter. */
+/* Whether `contents` are those of the file that `entry` describes. Refuses with 16, 17 or 18, the first that holds, where the entry
+ * breaks a rule (16 also where it does not fill its bytes), then with 15 where length, MD5 or 16k MD5 differ. */
+uint32_t par1_check(const uint8_t *entry, size_t entry_len, const uint8_t *contents, size_t contents_len);
+
+/* Writes the entry of a file with these contents, status and name (in 16-bit units, lowest byte first; name_len counts bytes) over the first 56 +
+ * name_len bytes of `out`. The status is 1 where the file is saved in the parity, else 0; bit 1, once "checked", is not written any more. Refuses
+ * with 17 where the contents are above 16,777,216 bytes or the status is above 1, with 18 where the name is not one or more whole units other than
+ * 0, 47, 58 and 92, or is the whole name . or .., then with 14 where `out` is shorter. */
 uint32_t par1_write_entry(const uint8_t *contents, size_t contents_len, uint64_t status, const uint8_t *name, size_t name_len, uint8_t *out,
                           size_t out_len);
 
@@ -214,9 +229,9 @@ par1_answer par1_write_volume(uint32_t code, uint32_t program, uint64_t number, 
                               size_t data_len, uint8_t *out, size_t out_len);
 
 /* Amends a volume where it stands, for a file that has changed. `volume` is the room that it lies in, `length` its present length there. The file
- * with number `file` had the bytes `old` from `place` on and now has the bytes `new_`; `entry` is its entry as it now is. Either both are equally
- * long and inside the file, or `old` is empty, `place` is the file's size, and `new_` goes on its end. The value is the volume's new length, which
- * is greater where the file grows past the greatest size among the saved entries, else the same.
+ * with number `file` had the bytes `old` from `place` on and now has the bytes `new_`; `entry` is its entry as it now is, lent apart from the
+ * volume. Either both are equally long and inside the file, or `old` is empty, `place` is the file's size, and `new_` goes on its end. The value
+ * is the volume's new length, which is greater where the file grows past the greatest size among the saved entries, else the same.
  *
  * Where the data grows it gets zeros on its end; then it gains the file's coefficient, by the volume's own code, times `old` and times `new_` from
  * `place` on. The entry's size and hashes, the set hash, the control hash and the data size are put right, and nothing else changes. So after any run
@@ -237,87 +252,9 @@ par1_answer par1_write_volume(uint32_t code, uint32_t program, uint64_t number, 
 par1_answer par1_amend(uint8_t *volume, size_t volume_len, uint64_t length, uint64_t file, uint64_t place, const uint8_t *old, size_t old_len,
                        const uint8_t *new_, size_t new_len, const uint8_t *entry, size_t entry_len);
 
-/* Which bytes of two index files or volumes differ, as text over the first bytes of `out`: a line for each difference, ended by byte 10, in layout
- * order. The value is the length of the lines. The answer is 0 exactly where both are accepted by par1_read and have the same bytes; the value
- * alone does not tell, for it is 0 with 14 too.
- *
- *   head NAME     a field of the header: version, program, control, set, number, files, list (its size), start (of the data), data (its size);
- *                 `head version` where the codes differ
- *   entry P NAME  a field of entry P, from 1: length, status, size, md5, 16k, name
- *   entry P all   only one of the two has an entry P
- *   data A B      of the data the bytes from place A to place B, both included, from 0: each differs, or only one of the two has it; the bytes
- *                 before A and after B are alike
- *   refused S N   par1_read refuses `one` (S is 1) or `two` (S is 2) with the number N; then nothing else is written but such a line for the other
- *
- * Refuses with 14 where `out` is shorter than the lines, and with nothing else: a file that is refused is a line. The lines of files that are
- * nearly alike are short; in the worst case, every second byte of the data differing, they are some eleven times as long as a file. Room of 12 times
- * the longer length, and of 26 bytes at the least, for two refused files, is always enough. */
-par1_answer par1_compare(const uint8_t *one, size_t one_len, const uint8_t *two, size_t two_len, uint8_t *out, size_t out_len);
+/* -------- Jobs -------------------------------------------------------------------------------------------------------------------------------- */
 
-/* The MD5s of the listed files of an index file or volume as text that md5sum -c takes, over the first bytes of `out`: for each entry, saved or
- * not, in list order, a line of 32 lower-case hexadecimal digits, two spaces, the name and byte 10. The value is the length of the text. Refuses, in
- * this order, with 1 to 5, 16 to 19, 7 to 9: as par1_read, with the place in the list; 24: a name has a unit other than 32 to 126; 14: `out` is
- * shorter than the text, which is never longer than the list: file_len - 96 bytes are enough. */
-par1_answer par1_export(const uint8_t *file, size_t file_len, uint8_t *out, size_t out_len);
-
-/* What text of md5sum says of the listed files of an index file or volume: one byte for each entry, in list order, over the first bytes of `out`. 0:
- * no line has its name; 1: a line has its name and its MD5; 2: a line has its name and another sum. The value is the number of entries.
- *
- * Each line is 32 digits 0-9 or a-f, two spaces, a name of one or more bytes but 10, and byte 10; a text of no bytes has no line. A name is compared
- * byte by byte with the entry's units, and only one whose units are 32 to 126 can have a line; lines for names that are not listed are passed over,
- * and a line counts for every entry of its name. A `*` before the name, a backslash before the line or byte 13 at its end have no meaning of their own.
- *
- * Refuses, in this order, with 1 to 5, 16 to 19, 7 to 9: as par1_read, with the place in the list; 22 or 23, with the number of the earliest faulty
- * line, from 1: 22: a line of another shape, or without its byte 10; 23: a line for a listed name that an earlier line has with another sum; 14: `out`
- * has fewer bytes than the list has entries. The time grows with the number of entries times the length of the text. */
-par1_answer par1_import(const uint8_t *file, size_t file_len, const uint8_t *text, size_t text_len, uint8_t *out, size_t out_len);
-
-/* A catalog is an index of a set: what its files are, and which volumes of it there are. It is four numbers of 32 bits, lowest byte first: entries,
- * volumes, the start of the entry rows, which is 16, and of the volume rows; then a row of 28 bytes for each entry, in list order, and for each
- * volume, ascending by number. A row has a number of 4 bytes (an entry's file number, 0 where it is not saved; a volume's number), one of 8 (the file's
- * size; the volume's data size) and 16 bytes (the MD5; the control hash). So its length is PAR1_CATALOG_HEAD + PAR1_CATALOG_ROW * (entries +
- * volumes); it is the first bytes of the room that it is lent in, and bytes past it are only room.
- *
- * The calls on one refuse with 30 bytes that end before that length or that, hashes apart, no list and volumes give: another start, more than 1,024
- * entries, file numbers other than 0 or the next in turn, more than 254 of them, a size above 16,777,216, volume numbers that do not ascend within 1
- * to 255 - n (n files are saved; none where n is 0), a data size other than the greatest size of a saved file. */
-enum { PAR1_CATALOG_HEAD = 16, PAR1_CATALOG_ROW = 28 };
-
-/* An entry row as par1_catalog_load fills it: 32 bytes at a multiple of 8, `file` at 0, `size` at 8, `md5` at 16; the 4 bytes after `file` are free. */
-struct par1_row {
-    uint32_t file; /* the file number, 0 where the file is not saved */
-    uint64_t size;
-    uint8_t md5[16];
-};
-
-/* Opens a catalog of the list of an index file or volume, with no volumes, over the first bytes of `out`; it takes PAR1_CATALOG_HEAD +
- * PAR1_CATALOG_ROW * entries. The value is its length. Refuses, in this order, with 1 to 5, 16 to 19, 7 to 9: as par1_read, with the place in the
- * list; 26: the list has more than 1,024 entries; 14: `out` is shorter. Most of the time goes to reading the file, which hashes it. */
-par1_answer par1_catalog_open(const uint8_t *file, size_t file_len, uint8_t *out, size_t out_len);
-
-/* Adds a volume to the catalog in the room `catalog`: its row goes between those of lower and of greater numbers, the greater ones move up by a row,
- * and the number of volumes is one more; nothing else changes. The value is the new length. Names, bits of status but that of saved, and the
- * code are not in the rows: volumes of either code go into one catalog, one of each number. Refuses, in this order, with 1 to 5, 16 to 19, 7 to 9: as
- * par1_read of the volume, with the place in the list; 30; 10: its number is 0 (an index) or above 255 - n, n being the saved files of the catalog; 25:
- * its list gives other entry rows; 26: its list has more than 1,024 entries, which 25 forestalls; 11: a volume of its number is there; 14: the room is
- * shorter than the new length. Most of the time goes to reading the volume; the rest goes with the lengths of its list and of the catalog. */
-par1_answer par1_catalog_add(uint8_t *catalog, size_t catalog_len, const uint8_t *volume, size_t volume_len);
-
-/* Drops a volume: its row goes, the greater ones move down by a row, and the number of volumes is one less; nothing else changes, so that the bytes of
- * the last row stay in the room. The value is the new length. Refuses, in this order, with 30; 10: the number is 0 or above 255 - n; 11: no volume of
- * that number is there. The time goes with the length of the catalog, all of which is tested. */
-par1_answer par1_catalog_drop(uint8_t *catalog, size_t catalog_len, uint64_t number);
-
-/* The entry rows of a catalog into the first records of `rows`, one for each entry, in order; records past them stay. `rows_len` counts records. The
- * value is the number of entries. Refuses with 30, then with 14 where there are fewer records than entries. The time goes with the length of the
- * catalog, all of which is tested. */
-par1_answer par1_catalog_load(const uint8_t *catalog, size_t catalog_len, struct par1_row *rows, size_t rows_len);
-
-/* Whether `contents` are those of the file that `entry` describes. Refuses with 16, 17 or 18, the first that holds, where the entry
- * breaks a rule (16 also where it does not fill its bytes), then with 15 where length, MD5 or 16k MD5 differ. */
-uint32_t par1_check(const uint8_t *entry, size_t entry_len, const uint8_t *contents, size_t contents_len);
-
-/* Jobs: hashing, mul_add and reading of what is too long to hold. A job is started, pushed to any number of times, with chunks of any length, 0
+/* Hashing, mul_add and reading of what is too long to hold, in chunks. A job is started, pushed to any number of times, with chunks of any length, 0
  * too, and ended; however the input is cut, after the end there is what par1_md5, par1_mul_add or par1_read gives for the whole of it. The caller owns
  * the job: it may be copied or moved between calls, and started again at any time, running or over.
  *
@@ -375,6 +312,8 @@ uint32_t par1_read_push(uint8_t *job, size_t job_len, const uint8_t *bytes, size
  * then as par1_read, 14 last; that ends the reading too. */
 par1_answer par1_read_end(uint8_t *job, size_t job_len, uint8_t *out, size_t out_len);
 
+/* -------- What is present, and what comes back ------------------------------------------------------------------------------------------------ */
+
 /* An inventory says what of a set of n files and their volumes is present, and which volumes are in quarantine: held, but set aside. Its volumes are
  * all of one code; volumes of the other code go into an inventory of their own. It is 144 bytes, 18 numbers: n; the files present, the volumes present,
  * the files of size 1 or more, the volumes in quarantine, four words each, number k being bit k mod 64 of word k div 64; the code. No volume is both
@@ -400,6 +339,9 @@ uint32_t par1_remove_volume(uint8_t *inventory, size_t inventory_len, uint64_t v
 uint32_t par1_quarantine(uint8_t *inventory, size_t inventory_len, uint64_t volume);
 uint32_t par1_release(uint8_t *inventory, size_t inventory_len, uint64_t volume);
 
+/* Where the numbers stand that par1_count writes. */
+enum { PAR1_COUNT_FILES = 0, PAR1_COUNT_VOLUMES = 8, PAR1_COUNT_QUARANTINED = 16 };
+
 /* How many files and how many volumes are present, and how many volumes are in quarantine, into the first 24 bytes of `out`: three numbers, at
  * PAR1_COUNT_... Refuses with 10, as every call on an inventory, then with 14 where `out` is shorter. */
 uint32_t par1_count(const uint8_t *inventory, size_t inventory_len, uint8_t *out, size_t out_len);
@@ -411,6 +353,43 @@ uint32_t par1_count(const uint8_t *inventory, size_t inventory_len, uint8_t *out
  * with 14, after 13 and 12, where `out` is shorter. Takes 68 KiB of stack, and one elimination over the missing files of size 1 or more and the
  * volumes present: less than a millisecond for 127 of them and 128, on a server (docs/BENCHMARKS.md). */
 uint32_t par1_query(const uint8_t *inventory, size_t inventory_len, uint64_t file, uint8_t *out, size_t out_len);
+
+/* -------- Text -------------------------------------------------------------------------------------------------------------------------------- */
+
+/* Which bytes of two index files or volumes differ, as text over the first bytes of `out`: a line for each difference, ended by byte 10, in layout
+ * order. The value is the length of the lines. The answer is 0 exactly where both are accepted by par1_read and have the same bytes; the value
+ * alone does not tell, for it is 0 with 14 too.
+ *
+ *   head NAME     a field of the header: version, program, control, set, number, files, list (its size), start (of the data), data (its size);
+ *                 `head version` where the codes differ
+ *   entry P NAME  a field of entry P, from 1: length, status, size, md5, 16k, name
+ *   entry P all   only one of the two has an entry P
+ *   data A B      of the data the bytes from place A to place B, both included, from 0: each differs, or only one of the two has it; the bytes
+ *                 before A and after B are alike
+ *   refused S N   par1_read refuses `one` (S is 1) or `two` (S is 2) with the number N; then nothing else is written but such a line for the other
+ *
+ * Refuses with 14 where `out` is shorter than the lines, and with nothing else: a file that is refused is a line. The lines of files that are
+ * nearly alike are short; in the worst case, every second byte of the data differing, they are some eleven times as long as a file. Room of 12 times
+ * the longer length, and of 26 bytes at the least, for two refused files, is always enough. */
+par1_answer par1_compare(const uint8_t *one, size_t one_len, const uint8_t *two, size_t two_len, uint8_t *out, size_t out_len);
+
+/* The MD5s of the listed files of an index file or volume as text that md5sum -c takes, over the first bytes of `out`: for each entry, saved or
+ * not, in list order, a line of 32 lower-case hexadecimal digits, two spaces, the name and byte 10. The value is the length of the text. Refuses, in
+ * this order, with 1 to 5, 16 to 19, 7 to 9: as par1_read, with the place in the list; 24: a name has a unit other than 32 to 126; 14: `out` is
+ * shorter than the text, which is never longer than the list: file_len - 96 bytes are enough. */
+par1_answer par1_export(const uint8_t *file, size_t file_len, uint8_t *out, size_t out_len);
+
+/* What text of md5sum says of the listed files of an index file or volume: one byte for each entry, in list order, over the first bytes of `out`. 0:
+ * no line has its name; 1: a line has its name and its MD5; 2: a line has its name and another sum. The value is the number of entries.
+ *
+ * Each line is 32 digits 0-9 or a-f, two spaces, a name of one or more bytes but 10, and byte 10; a text of no bytes has no line. A name is compared
+ * byte by byte with the entry's units, and only one whose units are 32 to 126 can have a line; lines for names that are not listed are passed over,
+ * and a line counts for every entry of its name. A `*` before the name, a backslash before the line or byte 13 at its end have no meaning of their own.
+ *
+ * Refuses, in this order, with 1 to 5, 16 to 19, 7 to 9: as par1_read, with the place in the list; 22 or 23, with the number of the earliest faulty
+ * line, from 1: 22: a line of another shape, or without its byte 10; 23: a line for a listed name that an earlier line has with another sum; 14: `out`
+ * has fewer bytes than the list has entries. The time grows with the number of entries times the length of the text. */
+par1_answer par1_import(const uint8_t *file, size_t file_len, const uint8_t *text, size_t text_len, uint8_t *out, size_t out_len);
 
 /* Replays a log of arrivals, as text over the first bytes of `out`: what the program par_replay prints. The value is the length of the text.
  *
@@ -434,6 +413,49 @@ uint32_t par1_query(const uint8_t *inventory, size_t inventory_len, uint64_t fil
  * 16,256 events; a line is at most 908. Each event takes an elimination, as a query does, and the text is worked out twice, to be measured and to be
  * written. Takes 74 KiB of stack. */
 par1_answer par1_replay(const uint8_t *log, size_t log_len, uint8_t *out, size_t out_len);
+
+/* -------- Catalogs ---------------------------------------------------------------------------------------------------------------------------- */
+
+/* A catalog is an index of a set: what its files are, and which volumes of it there are. It is four numbers of 32 bits, lowest byte first: entries,
+ * volumes, the start of the entry rows, which is 16, and of the volume rows; then a row of 28 bytes for each entry, in list order, and for each
+ * volume, ascending by number. A row has a number of 4 bytes (an entry's file number, 0 where it is not saved; a volume's number), one of 8 (the file's
+ * size; the volume's data size) and 16 bytes (the MD5; the control hash). So its length is PAR1_CATALOG_HEAD + PAR1_CATALOG_ROW * (entries +
+ * volumes); it is the first bytes of the room that it is lent in, and bytes past it are only room.
+ *
+ * The calls on one refuse, with 30, bytes that end before that length, or that, hashes apart, no list and volumes give: another start, more than 1,024
+ * entries, file numbers other than 0 or the next in turn, more than 254 of them, a size above 16,777,216, volume numbers that do not ascend within 1
+ * to 255 - n (n files are saved; none where n is 0), a data size other than the greatest size of a saved file. */
+enum { PAR1_CATALOG_HEAD = 16, PAR1_CATALOG_ROW = 28 };
+
+/* An entry row as par1_catalog_load fills it: 32 bytes at a multiple of 8, `file` at 0, `size` at 8, `md5` at 16; the 4 bytes after `file` are free. */
+struct par1_row {
+    uint32_t file; /* the file number, 0 where the file is not saved */
+    uint64_t size;
+    uint8_t md5[16];
+};
+
+/* Opens a catalog of the list of an index file or volume, with no volumes, over the first bytes of `out`; it takes PAR1_CATALOG_HEAD +
+ * PAR1_CATALOG_ROW * entries. The value is its length. Refuses, in this order, with 1 to 5, 16 to 19, 7 to 9: as par1_read, with the place in the
+ * list; 26: the list has more than 1,024 entries; 14: `out` is shorter. Most of the time goes to reading the file, which hashes it. */
+par1_answer par1_catalog_open(const uint8_t *file, size_t file_len, uint8_t *out, size_t out_len);
+
+/* Adds a volume to the catalog in the room `catalog`: its row goes between those of lower and of greater numbers, the greater ones move up by a row,
+ * and the number of volumes is one more; nothing else changes. The value is the new length. Names, bits of status but that of saved, and the
+ * code are not in the rows: volumes of either code go into one catalog, one of each number. Refuses, in this order, with 1 to 5, 16 to 19, 7 to 9: as
+ * par1_read of the volume, with the place in the list; 30; 10: its number is 0 (an index) or above 255 - n, n being the saved files of the catalog; 25:
+ * its list gives other entry rows; 26: its list has more than 1,024 entries, which 25 forestalls; 11: a volume of its number is there; 14: the room is
+ * shorter than the new length. Most of the time goes to reading the volume; the rest goes with the lengths of its list and of the catalog. */
+par1_answer par1_catalog_add(uint8_t *catalog, size_t catalog_len, const uint8_t *volume, size_t volume_len);
+
+/* Drops a volume: its row goes, the greater ones move down by a row, and the number of volumes is one less; nothing else changes, so that the bytes of
+ * the last row stay in the room. The value is the new length. Refuses, in this order, with 30; 10: the number is 0 or above 255 - n; 11: no volume of
+ * that number is there. The time goes with the length of the catalog, all of which is tested. */
+par1_answer par1_catalog_drop(uint8_t *catalog, size_t catalog_len, uint64_t number);
+
+/* The entry rows of a catalog into the first records of `rows`, one for each entry, in order; records past them stay. `rows_len` counts records. The
+ * value is the number of entries. Refuses with 30, then with 14 where there are fewer records than entries. The time goes with the length of the
+ * catalog, all of which is tested. */
+par1_answer par1_catalog_load(const uint8_t *catalog, size_t catalog_len, struct par1_row *rows, size_t rows_len);
 
 #ifdef __cplusplus
 }
