@@ -240,15 +240,18 @@ static void chunks(struct input *in, unsigned how) {
 static par1_answer import(struct file file, const uint8_t *text, size_t length, uint8_t *out, uint64_t entries) {
     memset(out, PAINT, entries);
     par1_answer answer = came_back(par1_import(file.bytes, file.length, text, length, out, entries));
-    if (PAR1_NUMBER(answer) != PAR1_ACCEPTED)
+    if (PAR1_NUMBER(answer) != PAR1_ACCEPTED) {
         CHECK(painted(out, entries));
-    else
-        CHECK(PAR1_VALUE(answer) == entries);
+        return answer;
+    }
+    CHECK(PAR1_VALUE(answer) == entries);
+    for (uint64_t i = 0; i < entries; i++)
+        CHECK(out[i] <= 2);
     return answer;
 }
 
-/* Kind 2: text of md5sum into a file: a text of the input, or the file's own export with other bytes in it. The export itself reports every entry
- * the same, but where entries that share a name have unlike sums. */
+/* Kind 2: text of md5sum into a file: a text of the input; the file's own export, which reports every entry the same, but where entries that share a name
+ * have unlike sums; the export with other bytes in it; and the export twice, with other bytes in the second. */
 static void imported(struct input *in, unsigned how) {
     size_t length;
     uint8_t *given = take_bytes(in, TEXT, &length);
@@ -275,9 +278,13 @@ static void imported(struct input *in, unsigned how) {
     for (uint64_t i = 0; PAR1_NUMBER(answer) == PAR1_ACCEPTED && i < entries; i++)
         CHECK(out[i] == 1);
     patch(&patches, own, PAR1_VALUE(exported));
-    answer = import(file, own, PAR1_VALUE(exported), out, entries);
-    for (uint64_t i = 0; PAR1_NUMBER(answer) == PAR1_ACCEPTED && i < entries; i++)
-        CHECK(out[i] <= 2);
+    import(file, own, PAR1_VALUE(exported), out, entries);
+    struct input again = {given, length};
+    uint8_t *twice = room(BEFORE, 2 * PAR1_VALUE(exported));
+    memcpy(twice, text, PAR1_VALUE(exported));
+    memcpy(twice + PAR1_VALUE(exported), text, PAR1_VALUE(exported));
+    patch(&again, twice + PAR1_VALUE(exported), PAR1_VALUE(exported));
+    import(file, twice, 2 * PAR1_VALUE(exported), out, entries);
 }
 
 /* Whether a catalog is loaded is told by its records; none past the entries changes. */
@@ -292,13 +299,13 @@ static par1_answer loaded(const uint8_t *catalog, size_t length) {
     return answer;
 }
 
-/* Kind 3: a catalog: one of the input, or the file's own with other bytes in it. The file is added, added again and dropped: that is as it was before, but
- * for the bytes past the catalog. */
+/* Kind 3: a catalog: one of the input, or the file's own with other bytes in it, in room for a volume or for none. The file is added, added again and
+ * dropped: that is as it was before, but for the bytes past the catalog. */
 static void cataloged(struct input *in, unsigned how) {
     size_t length;
     uint8_t *given = take_bytes(in, NEW, &length);
     struct input patches = {given, length};
-    uint64_t number = take(in, 1);
+    uint64_t number = take(in, 1), spare = take(in, 1) % 8 ? PAR1_CATALOG_ROW : 0;
     struct file file = take_file(in, how);
     size_t room_length = length;
     uint8_t *catalog = given;
@@ -309,7 +316,7 @@ static void cataloged(struct input *in, unsigned how) {
         CHECK((is_reading(PAR1_NUMBER(answer)) || answer == PAR1_ENTRIES) && painted(opened, most));
     } else if (length < PAR1_CATALOG_HEAD) {
         CHECK(loaded(opened, most) == 32 * number_at(file.bytes + ENTRIES_AT, 8));
-        room_length = PAR1_VALUE(answer) + PAR1_CATALOG_ROW;
+        room_length = PAR1_VALUE(answer) + spare;
         catalog = room(CATALOG, room_length);
         memcpy(catalog, opened, PAR1_VALUE(answer));
         patch(&patches, catalog, PAR1_VALUE(answer));
@@ -510,8 +517,10 @@ static void append_arguments(unsigned what) {
             append_number(below(below(2) ? 256 : 4), 1);
     } else if (what == 2 || what == 3) {
         append_patches(16);
-        if (what == 3)
+        if (what == 3) {
             append_number(below(5), 1);
+            append_number(below(256), 1);
+        }
     } else if (what == 5) {
         append_number(1 + below(4), 1);
         append_number(below(below(2) ? 65536 : 64), 2);
