@@ -8,3 +8,4 @@ mod LoadLaws
 mod MulAddCalls
 pub mod OnBytes
 pub mod OtherBytes
+pub mod RunOnBytes

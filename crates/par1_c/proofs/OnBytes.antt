@@ -137,7 +137,7 @@ opened-same c n sizes small = elim (decLe n 254) [
       simp (lt-leb n 254 above) (open-out-of-range c n sizes (simp (lt-leb n 254 above, and-false)))
 ]
 
-held-opened : (c : Code) (n : ℕ) (sizes : List ℕ) → Held (openStep c n sizes .next)
+pub held-opened : (c : Code) (n : ℕ) (sizes : List ℕ) → Held (openStep c n sizes .next)
 unfolding openStep
 held-opened c n sizes = by (oneTo 254 n && eqb (length sizes) n) (allBelow n (λ i. leb (getD sizes i 0) 16777216)) refl
   where

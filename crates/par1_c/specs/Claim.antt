@@ -1,6 +1,6 @@
 -- From C a refusal and its place are read off one number; a call that is told the number of a code is the call by that code; each call on the
--- bytes of an inventory is the call on the inventory, and leaves the bytes of what that call hands back; and the query, which is promised by a
--- relation, has one answer.
+-- bytes of an inventory is the call on the inventory, and leaves the bytes of what that call hands back; so condition 3 holds of whole lists of calls
+-- from C; and the query, which is promised by a relation, has one answer.
 --
 --   ReadTold             the refusal of a file that is read is told by its answer
 --   VolumeTold           so is that of a volume that is written
@@ -20,26 +20,38 @@
 --   AddedOnBytes         so is the addition of a volume that is told the number of its code
 --   CountedOnBytes       so is a count
 --   QueriedOnBytes       so is a query
+--   ConditionOnBytes d n sizes o cs rs b     what holds after the calls cs on the bytes o of an inventory opened for the code d and n files of these
+--                        sizes: `Condition` of `inventory` specs/Claim, as C sees it
+--   RunOnBytes           condition 3 from C: it holds for every accepted opening and every list of calls
+--   AnsweredOnBytes      every list of calls has its replies, on whatever bytes
+--   RetoldOnBytes        what is present and what is quarantined can be told to a new inventory
 --   OthersRefused        bytes of another length, or of no code, are refused with 10 by each of them, and nothing changes
 --   QueryDetermined      what a query promises determines its number and the bytes lent to it
 --   ReplayDetermined     so does what a replay promises
+-- What excludes an empty reading of RunOnBytes: an opening is accepted (OpenedOnBytes; `inventory` specs/Claim, OpeningNumbers), every list of calls
+-- has its replies (AnsweredOnBytes), and a new inventory can be told (RetoldOnBytes).
+-- Sentences in quotation marks are document 01's, document 02's (2026-10, 2026-13), or the tender's condition 3.
 -- Assumes nothing.
 use mathlib.Core.Path.{_≡_}
-use mathlib.Core.Bool.{Bool, false}
-use mathlib.Core.Logic.{_⊎_, _≢_}
+use mathlib.Core.Bool.{Bool, true, false}
+use mathlib.Core.Logic.{_↔_, _⊎_, _≢_}
 use mathlib.Core.List.{List}
-use Prim.Native.Nat.{ℕ, _^_, _<_}
-use lib.ListN.{length, getD}
+use Prim.Native.Nat.{ℕ, _^_, _<_, _≤_}
+use lib.ListN.{length, getD, replicate, take}
 use Rattle.answer_bytes.specs.Results.{readInto}
 use Rattle.job_bytes.specs.Reads.{readEnded}
 use Rattle.lent_bytes.specs.Writing.{written, withRefusal}
-use Rattle.codes.specs.Codes.{isCode, codeNumber}
+use Rattle.codes.specs.Codes.{isCode, codeNumber, codeOf}
 use Rattle.codes.specs.declared.Code.{Code}
+use Rattle.mul_add.specs.MulAdd.{mulAddAll}
+use Rattle.mul_add.specs.Once.{Once}
 use Rattle.parity.specs.Coefficient.{ruleOf}
+use Rattle.parity.specs.Parity.{Contents, isFile}
 use Rattle.par1_read.specs.Reading.{readOf}
 use Rattle.par1_write.specs.VolumeWriting.{writeVolumeOf}
-use Rattle.inventory.specs.Recoverable.{State}
-use Rattle.inventory.specs.Model.{Change, addVolume}
+use Rattle.inventory.specs.Recoverable.{State, IsContents, Recoverable, place, present, ComeFrom}
+use Rattle.inventory.specs.Model.{Change, addVolume, Reply, opened}
+use Rattle.inventory.specs.Claim.{Run, TellsExactly, sizeIn}
 use Rattle.inventory.specs.Query.{Queried}
 use Rattle.inventory.specs.Steps.{openStep, changeStep, countStep, answerNumber}
 use Rattle.inventory.specs.declared.Answer.{Answer}
@@ -47,7 +59,7 @@ use Rattle.inventory.specs.declared.Inventory.{Inventory}
 use Rattle.inventory.specs.declared.Outcome.{Outcome}
 use Rattle.inventory_bytes.specs.Claim.{Held}
 use Rattle.inventory_bytes.specs.Inventories.{codeIn, inventoryBytes, storedBy, countedInto}
-use Rattle.little_endian.specs.Bytes.{numbers}
+use Rattle.little_endian.specs.Bytes.{numbers, numbersAt}
 use Rattle.amending.specs.Amending as amending
 use Rattle.amending.specs.Call.{amendOf}
 use Rattle.comparing.specs.Comparing.{comparisonOf}
@@ -60,6 +72,7 @@ use Rattle.replay.specs.Replay.{replayOf}
 use Rattle.par1_c.specs.Replays.{ReplayInto}
 use Rattle.par1_c.specs.Codes.{byCode, coefficientInto, volumeInto}
 use Rattle.par1_c.specs.Inventories.{openInto, changedBy, addedBy, countInto, QueryInto}
+use Rattle.par1_c.specs.Runs.{CallOnBytes, RunInto, callsOf, stateAfter, GivesAllInto}
 
 -- a list has fewer than 2^59 entries, so 64 bits hold the answer; the file's length is a u64; proved: proofs/AnswerLaws.antt, `read-told`
 abbrev pub ReadTold : Type 0
@@ -154,6 +167,51 @@ abbrev pub QueriedOnBytes : Type 0
 QueriedOnBytes =
     (s : Inventory) → Held s → (f : ℕ) (out : List ℕ) (r : ℕ) (out′ : List ℕ) → QueryInto (inventoryBytes s) f out r out′
     → (a : Answer) × Queried ruleOf s f out a out′ × (r ≡ answerNumber a)
+
+-- ---- condition 3, from C
+
+pub record ConditionOnBytes (d : Code) (n : ℕ) (sizes o : List ℕ) (cs : List CallOnBytes) (rs : List (ℕ × List ℕ)) (b : List ℕ) : Type 0 where
+  -- "each answer, and each byte of the room lent to an ask, is the one that the outline's tally gives"; so is each byte of the room lent to a count
+  pub replies : GivesAllInto (opened d n (sizeIn sizes)) cs rs
+  -- the calls on the inventory hand back the one whose bytes are left
+  pub on-inventory : (is : List Reply) × (s : Inventory) × Run ruleOf (openStep d n sizes .next) (callsOf cs) is s × (b ≡ inventoryBytes s)
+  -- "After the list, the sheet answers every further call as a new sheet of the same sizes told only what is in hand now, in whatever order"
+  pub afterwards : (tells : List CallOnBytes) → TellsExactly (stateAfter d n sizes cs) (callsOf tells)
+      → (rt : List (ℕ × List ℕ)) (b′ : List ℕ) → RunInto o tells rt b′
+      → (more : List CallOnBytes) (r r′ : List (ℕ × List ℕ)) (e e′ : List ℕ) → RunInto b more r e → RunInto b′ more r′ e′ → r ≡ r′
+  -- "A file not in hand, asked about with room for the recipe, is called rebuildable exactly when every two sets of contents with the listed
+  -- sizes, alike in the files in hand and in the parity of the volumes in hand, are alike in that file"
+  pub exactly : (f : ℕ) → isFile n f ≡ true → stateAfter d n sizes cs .files f ≡ false
+      → (out : List ℕ) → 255 ≤ length out → (k : ℕ) (room : List ℕ) → QueryInto b f out k room
+      → (k ≡ 0) ↔ Recoverable (ruleOf d) (stateAfter d n sizes cs) f
+  -- "If the pieces come from one set, following the sheet's recipe gives that file's bytes in it."
+  pub follows : (f : ℕ) → isFile n f ≡ true → stateAfter d n sizes cs .files f ≡ false
+      → (out room : List ℕ) → QueryInto b f out 0 room
+      → (X : Contents) → IsContents (stateAfter d n sizes cs) X
+      → (fragment : ℕ → List ℕ) → ComeFrom (ruleOf d) (stateAfter d n sizes cs) X fragment
+      → (ks : List ℕ) → Once (present (stateAfter d n sizes cs)) ks
+      → mulAddAll (place (take 255 room)) fragment ks (replicate (sizeIn sizes f) 0) ≡ X f
+
+-- "Condition 3 is a single claim about the whole list of calls and not one for each call. The list starts from the sheet of an accepted opening":
+-- from the 144 bytes that an accepted par1_open wrote, whatever it was lent. A volume added by the number of no code is 10 and changes nothing, whatever the
+-- state, and the model has no such call
+-- proved: proofs/RunOnBytes.antt, `run-on-bytes`
+abbrev pub RunOnBytes : Type 0
+RunOnBytes =
+    (k n : ℕ) (s out out′ : List ℕ) → openInto k n s out ≡ (0, out′)
+    → (cs : List CallOnBytes) (rs : List (ℕ × List ℕ)) (b : List ℕ) → RunInto (take 144 out′) cs rs b
+    → ConditionOnBytes (codeOf k) n (numbersAt n s 0) (take 144 out′) cs rs b
+
+-- what RunOnBytes speaks of is there: the runs; proved: proofs/RunOnBytes.antt, `answered-on-bytes`
+abbrev pub AnsweredOnBytes : Type 0
+AnsweredOnBytes = (b : List ℕ) (cs : List CallOnBytes) → (rs : List (ℕ × List ℕ)) × (e : List ℕ) × RunInto b cs rs e
+
+-- and the calls that tell what is present and what is quarantined; proved: proofs/RunOnBytes.antt, `retold-on-bytes`
+abbrev pub RetoldOnBytes : Type 0
+RetoldOnBytes =
+    (d : Code) (n : ℕ) (sizes : List ℕ) (cs : List CallOnBytes) → (tells : List CallOnBytes) × TellsExactly (stateAfter d n sizes cs) (callsOf tells)
+
+-- ---- bytes that are no inventory
 
 -- "10: .. a sheet that no calls give": bytes that are no inventory are none; proved: proofs/OtherBytes.antt, `others-refused`
 abbrev pub OthersRefused : Type 0

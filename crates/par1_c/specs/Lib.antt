@@ -3,3 +3,4 @@ pub mod Claim
 pub mod Codes
 pub mod Inventories
 pub mod Replays
+pub mod Runs
