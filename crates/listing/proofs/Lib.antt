@@ -1,3 +1,4 @@
 mod AcceptedLaws
+mod Examples
 pub mod LengthLaws
 pub mod LineLaws
