@@ -149,11 +149,10 @@ fn with_faults(call: &Call, places: RangeInclusive<u32>) -> Vec<(String, u64, Ca
     calls
 }
 
-/// Volumes that reading refuses, each with one or two faults, with the answer of the first; so many entries that are not saved stand at the end.
-pub fn refused_volumes(code: Code, more: usize) -> Vec<(String, u64, Vec<u8>)> {
-    let mut files = files(b"");
-    files.resize(3 + more, files[1].clone());
-    let calls = with_faults(&growth(code, &files, b""), 1..=12);
+/// An index file or volume, of entries as long as those above, with each fault that reading refuses and each two of them: the answer is the first's.
+pub fn refused_files_of(file: &[u8]) -> Vec<(String, u64, Vec<u8>)> {
+    let amendment = Amendment { file: 0, place: 0, old: vec![], new: vec![], entry: vec![] };
+    let calls = with_faults(&Call { room: file.to_vec(), length: file.len() as u64, amendment }, 1..=12);
     calls.into_iter().map(|(what, answer, call)| (what, answer, call.room[..call.length as usize].to_vec())).collect()
 }
 

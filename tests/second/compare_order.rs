@@ -2,10 +2,13 @@
 //! Amendments and calls on catalogs have their own (`compare_amend_refusals`, `compare_catalog_refusals`), as have entries (`compare_faults`), text of
 //! md5sum and logs.
 
-use crate::compare_amend_refusals::refused_volumes;
+use crate::catalog::{HEAD, ROW};
+use crate::compare_amend_refusals::refused_files_of;
+use crate::compare_catalog::index;
 use crate::compare_faults::{at, good, put};
 use crate::compare_read_cuts::pushed;
-use crate::field::CODES;
+use crate::field::{Code, CODES};
+use crate::files::{afresh, File};
 use crate::inventory::Change::{self, AddFile, AddVolume, RemoveFile, RemoveVolume, SetAside, TakeBack};
 use crate::inventory::{CODE, LENGTH};
 use crate::par1::VOLUME_LIMIT;
@@ -16,39 +19,71 @@ fn refused<A: PartialEq + std::fmt::Debug>(counts: &mut Counts, what: impl Fn() 
     counts.same(what, (got.0, got.1 == lent), (answer, true));
 }
 
-/// A file that reading refuses, in each call that reads one, with everything that the call tests after it right and wrong.
-fn in_each_call(counts: &mut Counts, what: &str, answer: u64, file: &[u8], accepted: &[u8]) {
+/// Two saved files and one between that is not, with a name that fits no line.
+fn files() -> Vec<File> {
+    let file = |contents: &[u8], status, name: &[u8]| File { contents: contents.to_vec(), status, name: name.to_vec() };
+    vec![file(b"12", 1, b"A\0B\0"), file(b"not saved", 0, b"A\0\x7f\0"), file(b"abcdef", 3, b"A\0B\0")]
+}
+
+/// Texts of which one has a line of another shape, and one a listed name again with another sum.
+fn texts() -> [Vec<u8>; 3] {
+    let line = |digit: &str| format!("{}  AB\n", digit.repeat(32)).into_bytes();
+    [vec![], b"no line\n".to_vec(), [line("0"), line("1")].concat()]
+}
+
+/// Catalogs for a volume 7 of the files: one of another list, one that has it, one without room for it, and bytes that are none.
+fn catalogs(code: Code) -> [Vec<u8>; 4] {
+    let other = par1::write_volume(code, 1, 0, &good(1), b"").unwrap();
+    let opened = |file: &[u8], entries: usize, spare: usize| catalog_calls::open(file, &vec![3; HEAD + ROW * entries + spare]).1;
+    let with = catalog_calls::add(&opened(&index(code, &files()), 3, ROW), &afresh(code, &files(), 7)).1;
+    [opened(&other, 1, ROW), with, opened(&index(code, &files()), 3, 0), vec![3; 200]]
+}
+
+/// A file that reading refuses, in each call that reads one, beside everything that the call tests after it.
+fn in_each_call(counts: &mut Counts, what: &str, answer: u64, file: &[u8], catalogs: &[Vec<u8>]) {
     for room in [&[3; 300][..], &[]] {
         refused(counts, || format!("reading: {what}"), calls::read(file, room), answer, room);
         let (taken, job) = pushed(&cuts::each(file, 50));
         let (number, over, after) = job_calls::read_end(&job, room);
         refused(counts, || format!("reading in chunks: {what}"), ((taken, number), after), (true, answer), room);
-        refused(counts, || format!("20 first: {what}"), (job_calls::read_end(&over, room).0, over.clone()), 20, &over);
+        let (number, again, after) = job_calls::read_end(&over, room);
+        refused(counts, || format!("20 first: {what}"), ((number, again), after), (20, over), room);
         refused(counts, || format!("exporting: {what}"), calls::export(file, room), answer, room);
-        for text in [&b""[..], b"no line\n"] {
-            refused(counts, || format!("importing: {what}"), calls::import(file, text, room), answer, room);
+        for text in texts() {
+            refused(counts, || format!("importing: {what}"), calls::import(file, &text, room), answer, room);
         }
         refused(counts, || format!("opening a catalog: {what}"), catalog_calls::open(file, room), answer, room);
-        refused(counts, || format!("a catalog that is none: {what}"), catalog_calls::add(room, file), answer, room);
     }
-    let catalog = catalog_calls::open(accepted, &[3; 150]).1;
-    refused(counts, || format!("adding to a catalog: {what}"), catalog_calls::add(&catalog, file), answer, &catalog);
+    for catalog in catalogs {
+        refused(counts, || format!("adding to a catalog: {what}"), catalog_calls::add(catalog, file), answer, catalog);
+    }
     let lines = format!("refused 1 {}\n", answer % 32).into_bytes();
-    let got = calls::compare(file, accepted, &vec![3; lines.len()]);
+    let got = calls::compare(file, &index(Code::Powers, &files()), &vec![3; lines.len()]);
     counts.same(|| format!("comparing: {what}"), got, (32 * lines.len() as u64, lines));
 }
 
-/// Two faults of a file: that of the first is answered. One with 1,025 entries is refused by its faults before 26, and by 26 before 14.
+/// Volumes and indices of two faults: that of the first is answered. One of 1,025 entries is refused by its faults before 26, and by 26 before 14. What
+/// the others would be refused with is so where there is no fault.
 fn reading(counts: &mut Counts) {
     for code in CODES {
-        let accepted = par1::write_volume(code, 1, 0, &good(1), b"").unwrap();
-        for (what, answer, file) in refused_volumes(code, 0) {
-            in_each_call(counts, &what, answer, &file, &accepted);
+        let (volume, index) = (afresh(code, &files(), 7), index(code, &files()));
+        let catalogs = catalogs(code);
+        for (what, answer, file) in refused_files_of(&volume).into_iter().chain(refused_files_of(&index)) {
+            in_each_call(counts, &what, answer, &file, &catalogs);
         }
-        for (what, answer, file) in refused_volumes(code, 1022) {
+        for (file, answers) in [(&volume, [25, 11, 14, 30]), (&index, [10, 10, 10, 30])] {
+            let added: Vec<u64> = catalogs.iter().map(|catalog| catalog_calls::add(catalog, file).0).collect();
+            counts.same(|| "added without a fault".into(), added, answers.to_vec());
+            counts.same(|| "exported without a fault".into(), calls::export(file, &[]).0, 24);
+            let imported: Vec<u64> = texts().iter().map(|text| calls::import(file, text, &[]).0).collect();
+            counts.same(|| "imported without a fault".into(), imported, vec![14, at(22, 1), at(23, 2)]);
+        }
+        let mut many = files();
+        many.resize(1025, many[1].clone());
+        let many = afresh(code, &many, 7);
+        for (what, answer, file) in refused_files_of(&many) {
             refused(counts, || format!("1,025 entries: {what}"), catalog_calls::open(&file, &[]), answer, &[]);
         }
-        let many = par1::write_volume(code, 1, 0, &par1::write_entry(b"", 0, b"A\0").unwrap().repeat(1025), b"").unwrap();
         for room in [vec![], vec![3; 40_000]] {
             refused(counts, || "1,025 entries".into(), catalog_calls::open(&many, &room), 26, &room);
         }
