@@ -5,13 +5,15 @@
 --   unless-accepted                 accepted, where the tests hold nowhere and the bytes fit
 --   never                           a refusal is no acceptance
 --   Accepted, unless-tells          what it tells where it is accepted
---   unless-same                     a refusal leaves the bytes
+--   unless-same, writing-kept       a refusal leaves the bytes
+--   kept-by-number                  so it does where it is told by its number
 --   refused-as, numbered-as         as a refusal, and as a number
 --   numbered-none                   as a number, where the tests hold nowhere
 --   written-refusal                 where there are no tests, the number says it all
 --   unless-within                   which refusals it gives
 -- Assumes nothing.
 use mathlib.Core.Path.{_≡_, refl, sym, ap, ap₂, _∙_}
+use mathlib.Core.Logic.{_≢_}
 use mathlib.Core.Bool.{Bool, true, false, cond}
 use mathlib.Core.List.{List, _++_}
 use Prim.Native.Nat.{ℕ, _≤_, _<_}
@@ -20,7 +22,8 @@ use borrow.Author.Tests.{leb-true, le-leb, lt-leb, eqb-true, eq-eqb, ne-eqb}
 use lib.Dec.{leb, eqb}
 use lib.ListN.{length, take, drop}
 use lib.Seq.{take-append-seam}
-use Rattle.lent_bytes.specs.Writing.{refused, accepted, written, writtenUnless, writingRefusal, withRefusal, withNumber}
+use Rattle.lent_bytes.specs.Writing.{refused, accepted, written, writtenUnless, writingRefusal, withRefusal, withNumber, Kept}
+use Rattle.lent_bytes.specs.Claim.{WritingKept}
 use Rattle.refusals.specs.Tests.{bare}
 use Rattle.refusals.specs.declared.Refusal.{Refusal}
 use Rattle.refusals.proofs.RangeLaws.{Within, bare-within}
@@ -95,6 +98,18 @@ unless-same m s out {r} {room} e = by (eqb (m .number) 0) (leb (length s) (lengt
         absurd (let z : _≡_ {A = ℕ} 0 1 = cc in omega arith)
     by true false e = sym (ap (λ (p : Writing × List ℕ). p .1) e)
     by false f e = sym (ap (λ (p : Writing × List ℕ). p .1) e)
+
+pub writing-kept : WritingKept
+unfolding writtenUnless
+writing-kept = record {
+  refused-at-once = λ r out k e. refl;
+  for-room = λ s out k e. unless-same (bare 0) s out (ap (λ (w : Writing). (w, written s out .1)) e);
+  by-tests = λ r s out k e. unless-same r s out (ap (λ (w : Writing). (w, writtenUnless r s out .1)) e);
+}
+
+pub kept-by-number : (w : Writing × List ℕ) {out : List ℕ} → Kept w out → writingRefusal (w .0) .number ≢ 0 → w .1 ≡ out
+kept-by-number (Written n, t) k h = absurd (h refl)
+kept-by-number (Refused r, t) k h = k r refl
 
 module _ {w : Writing} {t : List ℕ} {r : Writing × List ℕ} {k : Refusal} (e : k ≡ writingRefusal w) (f : (w, t) ≡ r) where
   pub refused-as : (k, t) ≡ withRefusal r

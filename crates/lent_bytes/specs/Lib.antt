@@ -1,2 +1,3 @@
+pub mod Claim
 pub mod Equal
 pub mod Writing

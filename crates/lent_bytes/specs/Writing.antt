@@ -7,8 +7,10 @@
 --   writingRefusal w        the refusal that an answer is, with the number 0 where it is accepted
 --   withRefusal w           what a call gives, where it answers with the refusal alone
 --   withNumber w            what it gives, where it answers with the number alone
+--   Kept w out              where the answer is a refusal, the bytes are those of out
 -- Assumes nothing.
 use Prim.Native.Nat.{ℕ}
+use mathlib.Core.Path.{_≡_}
 use mathlib.Core.Bool.{cond}
 use mathlib.Core.List.{List, _++_}
 use lib.Dec.{leb, eqb}
@@ -43,3 +45,7 @@ withRefusal w = (writingRefusal (w .0), w .1)
 
 abbrev pub withNumber : Writing × List ℕ → ℕ × List ℕ
 withNumber w = (writingRefusal (w .0) .number, w .1)
+
+-- "A refusal returns its number only and writes nothing"
+abbrev pub Kept : Writing × List ℕ → List ℕ → Type 0
+Kept w out = (r : Refusal) → w .0 ≡ Refused r → w .1 ≡ out

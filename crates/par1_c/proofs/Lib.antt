@@ -4,6 +4,7 @@ mod CallLaws
 pub mod CodeCalls
 mod Determined
 mod HashWalks
+pub mod Kept
 mod LoadLaws
 mod MulAddCalls
 pub mod OnBytes

@@ -9,8 +9,11 @@
 --   filledCount w   how many records a load fills that answers w
 --   loadPlan b n    what a load of the catalog b into n records answers, and how many it fills
 --   Told r          the number and the place are read off the answer, which 64 bits hold
+--   Keeps r out     r is the number of a call and what the lent bytes, `out` before, then hold: where it is refused, these are as they were
+--   KeepsTold r out     the same of a call that answers so
 -- Assumes nothing.
 use mathlib.Core.Path.{_≡_}
+use mathlib.Core.Logic.{_≢_}
 use mathlib.Core.List.{List}
 use Prim.Native.Nat.{ℕ, _+_, _*_, _/_, _%_, _^_, _<_}
 use Rattle.lent_bytes.specs.declared.Writing.{Writing}
@@ -51,3 +54,10 @@ pub record Told (r : Refusal) : Type 0 where
   pub number-is : answerOf r % 32 ≡ r .number
   pub place-is : answerOf r / 32 ≡ r .place
   pub fits : answerOf r < 2 ^ 64
+
+abbrev pub Keeps : ℕ × List ℕ → List ℕ → Type 0
+Keeps r out = r .0 ≢ 0 → r .1 ≡ out
+
+-- PAR1_NUMBER of the answer is not 0; the bytes, or records
+abbrev pub KeepsTold : {A : Type 0} → ℕ × List A → List A → Type 0
+KeepsTold r out = r .0 % 32 ≢ 0 → r .1 ≡ out

@@ -1,6 +1,6 @@
 -- From C a refusal and its place are read off one number; a call that is told the number of a code is the call by that code; each call on the
 -- bytes of an inventory is the call on the inventory, and leaves the bytes of what that call hands back; so condition 3 holds of whole lists of calls
--- from C; and the query, which is promised by a relation, has one answer.
+-- from C; a refused call changes no lent byte; and the query and the replay, which are promised by a relation, have one answer.
 --
 --   ReadTold             the refusal of a file that is read is told by its answer
 --   VolumeTold           so is that of a volume that is written
@@ -26,6 +26,7 @@
 --   AnsweredOnBytes      every list of calls has its replies, on whatever bytes
 --   RetoldOnBytes        what is present and what is quarantined can be told to a new inventory
 --   OthersRefused        bytes of another length, or of no code, are refused with 10 by each of them, and nothing changes
+--   RefusedKept          a refused call changes no lent byte, call by call; save that the end of a job ends it also where it is refused, unless with 20
 --   QueryDetermined      what a query promises determines its number and the bytes lent to it
 --   ReplayDetermined     so does what a replay promises
 -- What excludes an empty reading of RunOnBytes: an opening is accepted (OpenedOnBytes; `inventory` specs/Claim, OpeningNumbers), every list of calls
@@ -36,11 +37,17 @@ use mathlib.Core.Path.{_≡_}
 use mathlib.Core.Bool.{Bool, true, false}
 use mathlib.Core.Logic.{_↔_, _⊎_, _≢_}
 use mathlib.Core.List.{List}
-use Prim.Native.Nat.{ℕ, _^_, _<_, _≤_}
+use Prim.Native.Nat.{ℕ, _%_, _^_, _<_, _≤_}
 use lib.ListN.{length, getD, replicate, take}
-use Rattle.answer_bytes.specs.Results.{readInto}
-use Rattle.job_bytes.specs.Reads.{readEnded}
-use Rattle.lent_bytes.specs.Writing.{written, withRefusal}
+use Rattle.gf256.specs.Answer.{inverseAnswer}
+use Rattle.md5.specs.Digest.{digestInto}
+use Rattle.answer_bytes.specs.Results.{byteInto, readInto, entryInto}
+use Rattle.job_bytes.specs.MulAdds.{mulAddStarted, mulAddPushed, mulAddEnded}
+use Rattle.job_bytes.specs.Reads.{readStarted, readPushed, readEnded}
+use Rattle.running_hash.specs.Hash as hash
+use Rattle.running_hash.specs.declared.RunningHash.{RunningHash}
+use Rattle.lent_bytes.specs.Writing.{written, withRefusal, withNumber}
+use Rattle.entries.specs.Walk.{firstOf}
 use Rattle.codes.specs.Codes.{isCode, codeNumber, codeOf}
 use Rattle.codes.specs.declared.Code.{Code}
 use Rattle.mul_add.specs.MulAdd.{mulAddAll}
@@ -48,6 +55,7 @@ use Rattle.mul_add.specs.Once.{Once}
 use Rattle.parity.specs.Coefficient.{ruleOf}
 use Rattle.parity.specs.Parity.{Contents, isFile}
 use Rattle.par1_read.specs.Reading.{readOf}
+use Rattle.par1_write.specs.EntryWriting.{writeEntryOf}
 use Rattle.par1_write.specs.VolumeWriting.{writeVolumeOf}
 use Rattle.inventory.specs.Recoverable.{State, IsContents, Recoverable, place, present, ComeFrom}
 use Rattle.inventory.specs.Model.{Change, addVolume, Reply, opened}
@@ -67,7 +75,7 @@ use Rattle.md5sum_text.specs.Export.{exportInto}
 use Rattle.md5sum_text.specs.Import.{importInto}
 use Rattle.catalog.specs.Calls.{openOf, addOf, dropOf, loadOf}
 use Rattle.catalog.specs.declared.records.Row.{Row}
-use Rattle.par1_c.specs.Answers.{lengthTold, Told}
+use Rattle.par1_c.specs.Answers.{answered, answeredEnd, lengthTold, answeredLength, answeredRows, Told, Keeps, KeepsTold}
 use Rattle.replay.specs.Replay.{replayOf}
 use Rattle.par1_c.specs.Replays.{ReplayInto}
 use Rattle.par1_c.specs.Codes.{byCode, coefficientInto, volumeInto}
@@ -220,6 +228,49 @@ OthersRefused =
     → ((c : Change) (k : ℕ) → changedBy (changeStep c) k b ≡ (10, b))
     × ((out : List ℕ) → countInto b out ≡ (10, out))
     × ((f : ℕ) (out : List ℕ) (r : ℕ) (out′ : List ℕ) → QueryInto b f out r out′ → (r ≡ 10) × (out′ ≡ out))
+
+-- ---- "A refusal returns its number only and writes nothing; the sheet is handed back as it came."; document 02, 2026-03: "the end finishes the job
+-- ---- either way", "20 ..; nothing changed"
+
+-- each call that can refuse and writes, named as in include/par1.h, by the definition that its contract cites, whatever it is given
+-- proved: proofs/Kept.antt, `refused-kept`
+pub record RefusedKept : Type 0 where
+  pub par1-md5 : (bytes out : List ℕ) → Keeps (digestInto bytes out) out
+  pub par1-inverse : (x : ℕ) (out : List ℕ) → Keeps (byteInto (inverseAnswer x) out) out
+  pub par1-coefficient : (k f v : ℕ) (out : List ℕ) → Keeps (coefficientInto k f v out) out
+  pub par1-read : (file out : List ℕ) → KeepsTold (answered (readInto (readOf file) out)) out
+  pub par1-entry : (list out : List ℕ) → Keeps (entryInto (firstOf list) out) out
+  pub par1-write-entry : (contents : List ℕ) (status : ℕ) (name out : List ℕ) → Keeps (withNumber (writeEntryOf contents status name out)) out
+  pub par1-write-volume : (k program number : ℕ) (list area out : List ℕ) → KeepsTold (volumeInto k program number list area out) out
+  pub par1-amend : (n : ℕ) (c : amending.Change) (entry volume : List ℕ) → KeepsTold (answeredLength (amendOf ruleOf n c entry volume)) volume
+  pub par1-open : (k n : ℕ) (sizes out : List ℕ) → Keeps (openInto k n sizes out) out
+  -- par1_add_file, par1_remove_file, par1_remove_volume, par1_quarantine, par1_release
+  pub par1-changes : (c : Change) (k : ℕ) (inventory : List ℕ) → Keeps (changedBy (changeStep c) k inventory) inventory
+  pub par1-add-volume : (k v : ℕ) (inventory : List ℕ) → Keeps (addedBy k v inventory) inventory
+  pub par1-count : (inventory out : List ℕ) → Keeps (countInto inventory out) out
+  -- 12 and 13 too
+  pub par1-query : (inventory : List ℕ) (f : ℕ) (out : List ℕ) (r : ℕ) (out′ : List ℕ) → QueryInto inventory f out r out′ → Keeps (r, out′) out
+  pub par1-compare : (one two out : List ℕ) → KeepsTold (answeredLength (written (comparisonOf one two) out)) out
+  pub par1-export : (file out : List ℕ) → KeepsTold (answeredLength (exportInto file out)) out
+  pub par1-import : (file text out : List ℕ) → KeepsTold (answeredLength (importInto file text out)) out
+  pub par1-replay : (log out : List ℕ) (r : ℕ) (out′ : List ℕ) → ReplayInto log out r out′ → KeepsTold (r, out′) out
+  pub par1-catalog-open : (file out : List ℕ) → KeepsTold (answeredLength (openOf file out)) out
+  pub par1-catalog-add : (catalog volume : List ℕ) → KeepsTold (answeredLength (addOf catalog volume)) catalog
+  pub par1-catalog-drop : (catalog : List ℕ) (v : ℕ) → KeepsTold (answeredLength (dropOf catalog v)) catalog
+  pub par1-catalog-load : (catalog : List ℕ) (rows : List Row) → KeepsTold (answeredRows (loadOf catalog rows)) rows
+  pub par1-hash-push : (h : RunningHash) (bytes : List ℕ) → let o = hash.pushOf h bytes in o .number ≢ 0 → o .next ≡ h
+  pub par1-hash-end : (h : RunningHash) (out : List ℕ)
+      → let (o, room) = hash.endOf h out in (o .number ≢ 0 → room ≡ out) × (o .number ≡ 20 → o .next ≡ h)
+  pub par1-mul-add-start : (w : ℕ) (job : List ℕ) → Keeps (mulAddStarted w job) job
+  pub par1-mul-add-push : (job fragment buffer : List ℕ)
+      → let (k, job′, buffer′) = mulAddPushed job fragment buffer in k ≢ 0 → (job′ ≡ job) × (buffer′ ≡ buffer)
+  pub par1-mul-add-end : (job : List ℕ) → Keeps (mulAddEnded job) job
+  pub par1-read-start : (job : List ℕ) → Keeps (readStarted job) job
+  pub par1-read-push : (job bytes : List ℕ) → Keeps (readPushed job bytes) job
+  pub par1-read-end : (job out : List ℕ)
+      → let (k, job′, out′) = answeredEnd (readEnded job out) in (k % 32 ≢ 0 → out′ ≡ out) × (k % 32 ≡ 20 → job′ ≡ job)
+
+-- ---- one answer
 
 -- proved: proofs/Determined.antt, `query-into-one`
 abbrev pub QueryDetermined : Type 0
