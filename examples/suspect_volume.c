@@ -76,12 +76,14 @@ static void take_inventory(void) {
     }
 }
 
-/* Rebuilds a file from what is present and holds it against its entry: 0, or PAR1_DIFFERENT. */
+/* Rebuilds a file from what is present and holds it against its entry: 0, or PAR1_DIFFERENT. The buffer may be the place of
+ * the file itself, which is not among what is present: no call is lent the same bytes twice. */
 static uint32_t rebuild(int file, uint8_t *buffer) {
     uint8_t weights[PAR1_WEIGHTS];
     accepted("query", par1_query(inventory, sizeof inventory, (uint64_t)file, weights, sizeof weights));
     for (int p = 0; p < SIZE; p++) buffer[p] = 0;
-    for (int f = 1; f <= FILES; f++) par1_mul_add(weights[f - 1], files[f], SIZE, buffer, SIZE);
+    for (int f = 1; f <= FILES; f++)
+        if (f != file) par1_mul_add(weights[f - 1], files[f], SIZE, buffer, SIZE);
     for (int v = 1; v <= VOLUMES; v++) par1_mul_add(weights[FILES + v - 1], volumes[v] + PAR1_LIST_AT + LIST, SIZE, buffer, SIZE);
     return par1_check(entry_of(file), ENTRY, buffer, SIZE);
 }

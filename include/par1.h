@@ -159,8 +159,8 @@ enum {
 uint32_t par1_md5(const uint8_t *bytes, size_t bytes_len, uint8_t *out, size_t out_len);
 
 /* The inverse of x in the field of bytes modulo 285 into the first byte of `out`. Refuses with 10 where x is 0, then with 14 where `out` has no
- * byte. Where one file is missing and one volume is there, the volume's weight is the inverse of the missing file's coefficient in it, and another
- * file's is its own coefficient times that (a par1_mul_add of one byte): the weights of a query. */
+ * byte. Where one file of size 1 or more is missing and one volume is there, the volume's weight is the inverse of the missing file's coefficient in
+ * it, and another file's is its own coefficient times that (a par1_mul_add of one byte): the weights of a query. */
 uint32_t par1_inverse(uint8_t x, uint8_t *out, size_t out_len);
 
 /* The coefficient of a file in a volume by a code into the first byte of `out`: of PAR1_POWERS f to the power v - 1, of PAR1_CAUCHY the inverse of f
