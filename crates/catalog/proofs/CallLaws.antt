@@ -278,8 +278,7 @@ module _ (b vol : List ℕ) {parts : Parts} (read : readOf vol ≡ reading.Accep
 
 pub add-unread : (b vol : List ℕ) {r : Refusal} → readOf vol ≡ reading.Refused r → (writing.Refused r, b) ≡ addOf b vol
 unfolding addOf
-add-unread b vol {r} e =
-    unless-refused (addedBytes b vol) b (sym (ap (λ (q : Reading). addRefusal b vol q) e)) (refused-some vol e) refl
+add-unread b vol {r} e = unless-refused (addedBytes b vol) b (sym (ap (λ (q : Reading). addRefusal b vol q) e)) (refused-some vol e) refl
 
 -- ---- opening
 

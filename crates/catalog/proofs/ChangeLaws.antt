@@ -195,13 +195,12 @@ module _ (b : List ℕ) (c : Catalog b) where
 
   pub length-dropped : (v : ℕ) → holds v (volumeRows b) ≡ true → Place v < m
       → length (catalogBytes (entryRows b) (removeRow v (volumeRows b))) + 28 ≡ catalogLength b
-  length-dropped v held h =
-      omega (
-        arith,
-        length-catalog (entries-sized b c) (all-keep (λ r. not (eqb (numberOf r) v)) (volumes-sized b c)),
-        length-entries,
-        length-removed v held h,
-      )
+  length-dropped v held h = omega (
+    arith,
+    length-catalog (entries-sized b c) (all-keep (λ r. not (eqb (numberOf r) v)) (volumes-sized b c)),
+    length-entries,
+    length-removed v held h,
+  )
 
   pub removed-over : (v : ℕ) {t u : List ℕ} → holds v (volumeRows b) ≡ true → Place v < m
       → t ≡ closed (16 + 28 * (n + Place v)) (catalogLength b) b → u ≡ sets t 0 (catalogHead n (m - 1))

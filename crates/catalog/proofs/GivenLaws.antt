@@ -25,8 +25,7 @@ use Rattle.catalog.specs.Rows.{numberOf, rowsFor, catalogHead, catalogBy
 use Rattle.catalog.specs.Catalog.{entryCount, volumeCount, entryRows, volumeRows, rowsIn, entryRowsAllowed, volumeRowsAllowed, isCatalog, insertRow}
 use Rattle.catalog.specs.Calls.{openOf, addOf}
 use Rattle.catalog.specs.Runs.{Call, opening, adding, answers, roomAfter, Held, newlyOpened, heldAfter, heldLength, Ascend, ascend-none, ascend-more}
-use Rattle.catalog.specs.Claim.{IsWritten, is-written}
-use Rattle.catalog.specs.Claim.{SameButHashes, Given, Exactly30}
+use Rattle.catalog.specs.Claim.{IsWritten, is-written, SameButHashes, Given, Exactly30}
 use Rattle.catalog.proofs.AlikeLaws.{Alike, alike-length, alike-ascend, same-catalog, same-bytes}
 use Rattle.catalog.proofs.BackLaws.{Back}
 use Rattle.catalog.proofs.CatalogLaws.{Catalog, is-catalog, catalog-is}
@@ -173,19 +172,18 @@ module _ (b : List ℕ) (bytes : Bytes b) (c : Catalog b) where
   volumes-count = length-map vs _ ∙ vs-count
 
   inside : In holding
-  inside =
-      record {
-        parts = index-is .parts;
-        read = index-is .read;
-        few = omega (arith, index-count, c .few);
-        each = all-images (λ r. madeVolume es r) (all-map (λ r m. record {
-          parts = m .file .parts;
-          read = m .file .read;
-          same = ap rowsFor (m .file .entries-are ∙ sym (index-is .entries-are));
-          low = omega (arith, m .some, m .file .number-is);
-        }) made-volumes);
-        once = ascend-distinct ascending;
-      }
+  inside = record {
+    parts = index-is .parts;
+    read = index-is .read;
+    few = omega (arith, index-count, c .few);
+    each = all-images (λ r. madeVolume es r) (all-map (λ r m. record {
+      parts = m .file .parts;
+      read = m .file .read;
+      same = ap rowsFor (m .file .entries-are ∙ sym (index-is .entries-are));
+      low = omega (arith, m .some, m .file .number-is);
+    }) made-volumes);
+    once = ascend-distinct ascending;
+  }
 
   catalog-given : Given b
   catalog-given =

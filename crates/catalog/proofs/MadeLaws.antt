@@ -183,8 +183,7 @@ sizes-right k (r ∷ rs) e = let f = first-entry k r rs e in all-more (f .size-r
 saved-few : (k : ℕ) (rs : List (List ℕ)) → entryRowsAllowed k rs ≡ true → k + length (savedRows rs) ≤ maxFiles
 unfolding entryRowsAllowed
 saved-few k [] e = omega (arith, leb-true k maxFiles e)
-saved-few k (r ∷ rs) e =
-    let f = first-entry k r rs e in by (isSavedRow r) (saved-few (cond (isSavedRow r) (k + 1) k) rs (f .others))
+saved-few k (r ∷ rs) e = let f = first-entry k r rs e in by (isSavedRow r) (saved-few (cond (isSavedRow r) (k + 1) k) rs (f .others))
   where
     by : (t : Bool) → cond t (k + 1) k + length (savedRows rs) ≤ maxFiles → k + length (cond t (r ∷ savedRows rs) (savedRows rs)) ≤ maxFiles
     by true h = omega arith

@@ -185,8 +185,7 @@ remove-insert v r (ascend-more {r = x} {rs = xs} a d) = by (ltb (numberOf x) (nu
 
 pub sort-remove : (v : ℕ) {rs : List (List ℕ)} → Distinct rs → removeRow v (sortRows rs) ≡ sortRows (removeRow v rs)
 sort-remove v distinct-none = refl
-sort-remove v (distinct-more {r} {rs} o d) =
-    remove-insert v r (sort-ascend d) ∙ by (not (eqb (numberOf r) v)) (sort-remove v d)
+sort-remove v (distinct-more {r} {rs} o d) = remove-insert v r (sort-ascend d) ∙ by (not (eqb (numberOf r) v)) (sort-remove v d)
   where
     by : (t : Bool) → removeRow v (sortRows rs) ≡ sortRows (removeRow v rs)
         → cond t (insertRow r (removeRow v (sortRows rs))) (removeRow v (sortRows rs)) ≡ sortRows (cond t (r ∷ removeRow v rs) (removeRow v rs))

@@ -250,8 +250,7 @@ drop-decided v room = by (isCatalog room) refl (volumeInRange v room) refl (hold
         → Decided (dropping v) room
     by false is r range h has = refuses (claim.drop-other is)
     by true is false range h has = refuses (claim.drop-range is (range-told v (filesIn room) range))
-    by true is true range false has =
-        refuses (claim.drop-absent is (range-not v (filesIn room) range) (held-not v (volumeRows room) has))
+    by true is true range false has = refuses (claim.drop-absent is (range-not v (filesIn room) range) (held-not v (volumeRows room) has))
     by true is true range true has =
         let c = is-catalog room is in
         let none : dropNumber room v ≡ 0 = simp (is, range, has) in

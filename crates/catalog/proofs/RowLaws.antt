@@ -78,15 +78,14 @@ length-flatten (all-more {x} {xs} p ps) = omega (arith, length-append x (flatten
 module _ (number size : ℕ) (hash : List ℕ) where
   pub length-row : length hash ≡ 16 → length (row number size hash) ≡ 28
   unfolding row flatten
-  length-row h =
-      omega (
-        arith,
-        length-append (toLe 4 number) (toLe 8 size ++ (hash ++ [])),
-        length-append (toLe 8 size) (hash ++ []),
-        length-append hash [],
-        length-toLe 4 number,
-        length-toLe 8 size,
-      )
+  length-row h = omega (
+    arith,
+    length-append (toLe 4 number) (toLe 8 size ++ (hash ++ [])),
+    length-append (toLe 8 size) (hash ++ []),
+    length-append hash [],
+    length-toLe 4 number,
+    length-toLe 8 size,
+  )
 
   in-row : At (row number size hash) 0 (toLe 4 number ∷ toLe 8 size ∷ hash ∷ [])
   unfolding row drop

@@ -46,13 +46,12 @@ module _ (codeAt : ℕ → Code) (program : ℕ) (small : program < 2 ^ 32) (fs 
   row-number w right = volume-row-number (volume w) (told (volume w) (back w right .read-is)) ∙ number-is w right
 
   in-set : (v w : ℕ) → VolumeRight v fs → VolumeRight w fs → VolumeIn (rowsFor (entriesIn (volume v))) (volume w)
-  in-set v w first right =
-      record {
-        parts = _;
-        read = back w right .read-is;
-        same = ap (λ es. rowsFor es) (entries-are w right ∙ sym (entries-are v first));
-        low = omega (arith, number-is w right, right .volume-low);
-      }
+  in-set v w first right = record {
+    parts = _;
+    read = back w right .read-is;
+    same = ap (λ es. rowsFor es) (entries-are w right ∙ sym (entries-are v first));
+    low = omega (arith, number-is w right, right .volume-low);
+  }
 
   -- ---- each number once
 

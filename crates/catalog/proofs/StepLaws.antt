@@ -53,11 +53,10 @@ pub record Next (h : Held) (n : ℕ) (room : List ℕ) : Type 0 where
   pub answer-is : n ≡ heldLength h
 
 made : {m : Refusal} {s out : List ℕ} {n : ℕ} {room : List ℕ} (h : Held) → In h → Accepted m s out n room → s ≡ catalogOf h → Next h n room
-made {s = s} {out = out} h i w e =
-    record {
-      invariant = record { inside = i; rest = drop (length s) out; room-is = w .room-is ∙ ap (λ (l : List ℕ). l ++ drop (length s) out) e };
-      answer-is = w .length-is ∙ ap length e ∙ in-rows h i .size;
-    }
+made {s = s} {out = out} h i w e = record {
+  invariant = record { inside = i; rest = drop (length s) out; room-is = w .room-is ∙ ap (λ (l : List ℕ). l ++ drop (length s) out) e };
+  answer-is = w .length-is ∙ ap length e ∙ in-rows h i .size;
+}
 
 -- ---- opening
 

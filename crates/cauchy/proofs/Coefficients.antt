@@ -30,11 +30,10 @@ module _ (f v : ℕ) (h : InRange f v) where
 
   -- f is at most 255 - v, so it is not 256 - v
   sum-positive : 0 < bitXor f (256 - v)
-  sum-positive =
-      elim (ℕ-discrete (bitXor f (256 - v)) 0) [
-        | yes e ↦ let same = xor-equal f (256 - v) e in absurd (omega arith)
-        | no q ↦ omega (arith, q)
-      ]
+  sum-positive = elim (ℕ-discrete (bitXor f (256 - v)) 0) [
+    | yes e ↦ let same = xor-equal f (256 - v) e in absurd (omega arith)
+    | no q ↦ omega (arith, q)
+  ]
 
   row-point : (256 - v) % 256 ≡ 256 - v
   row-point = mod-eq-of-lt (omega arith)
@@ -54,14 +53,13 @@ pub cauchy-bytes : CauchyBytes
 cauchy-bytes f v h = (cauchy-byte f v (omega arith), positive)
   where
     positive : 0 < cauchy f v
-    positive =
-        elim (ℕ-discrete (cauchy f v) 0) [
-          | yes e ↦
-              let a = bitXor f (256 - v) in
-              let none : _≡_ {A = ℕ} 1 0 = sym (cauchy-rule f v h .0) ∙ ap (product a) e ∙ product-zero-r a in
-              absurd (omega arith)
-          | no q ↦ omega (arith, q)
-        ]
+    positive = elim (ℕ-discrete (cauchy f v) 0) [
+      | yes e ↦
+          let a = bitXor f (256 - v) in
+          let none : _≡_ {A = ℕ} 1 0 = sym (cauchy-rule f v h .0) ∙ ap (product a) e ∙ product-zero-r a in
+          absurd (omega arith)
+      | no q ↦ omega (arith, q)
+    ]
 
 -- ---- the tables
 

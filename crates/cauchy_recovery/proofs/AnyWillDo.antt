@@ -34,13 +34,12 @@ module _ (t : State) (fits : t .n ≤ 254) (f : ℕ) (is-file : isFile (t .n) f 
   in-column l = ap₂ (λ (a b : Bool). a && b) (ap (isFile (t .n)) (sym as-suc) ∙ is-file) (is-column l)
 
   recovered : nonemptyMissing t ≤ volumesPresent t → Recoverable cauchy t f
-  recovered enough =
-      elim (decLt 0 (t .size f)) [
-        | yes l ↦
-            let s = solution t fits enough (f - 1) (in-column l) in
-            subst (Recoverable cauchy t) (sym as-suc) (solution-recoverable cauchy cauchy-byte t fits (f - 1) below (s .0) (s .1))
-        | no q ↦ empty-recoverable cauchy t f is-file (omega (arith, q))
-      ]
+  recovered enough = elim (decLt 0 (t .size f)) [
+    | yes l ↦
+        let s = solution t fits enough (f - 1) (in-column l) in
+        subst (Recoverable cauchy t) (sym as-suc) (solution-recoverable cauchy cauchy-byte t fits (f - 1) below (s .0) (s .1))
+    | no q ↦ empty-recoverable cauchy t f is-file (omega (arith, q))
+  ]
 
   unrecovered : volumesPresent t < nonemptyMissing t → 1 ≤ t .size f → ¬ Recoverable cauchy t f
   unrecovered few l r =

@@ -49,8 +49,7 @@ module _ {F : Type 0} (K : Field F) where
   add-left-comm a b c = sym (add-assoc a b c) ∙ ap (λ (x : F). x ⊕ c) (add-comm a b) ∙ add-assoc b a c
 
   cross : (a b p q : F) → (a ⊕ b) ⊗ (p ⊕ q) ≡ (a ⊕ q) ⊗ (b ⊕ p) ⊕ (a ⊕ p) ⊗ (b ⊕ q)
-  cross a b p q =
-      simp (mul-add, S.add-mul K, add-assoc, add-comm, add-left-comm, add-self, S.add-twice K, zero-add, mul-comm)
+  cross a b p q = simp (mul-add, S.add-mul K, add-assoc, add-comm, add-left-comm, add-self, S.add-twice K, zero-add, mul-comm)
 
   ne-zero : (a b : F) → a ≢ b → a ⊕ b ≢ 𝟘
   ne-zero a b h e = h (S.eq-of-sum K a b e)
@@ -97,16 +96,15 @@ module _ {F : Type 0} (K : Field F) where
 
         without-off : (i : ℕ) → remove a b i ≡ false → without i ≡ 𝟘
         unfolding without
-        without-off i e =
-            elim (ℕ-discrete i a) [
-              | yes q ↦
-                  ap (λ (y : F). x i ⊗ (y ⊗ entry p i)) (S.sum-of-eq K (X a) (X i) (ap X (sym q)))
-                  ∙ simp (S.zero-mul K, S.mul-zero K)
-              | no q ↦
-                  ap (λ (y : F). y ⊗ ((X a ⊕ X i) ⊗ entry p i))
-                  (off i (sym (ap (λ (c : Bool). not c && b i) (ne-eqb i a q)) ∙ e))
-                  ∙ S.zero-mul K ((X a ⊕ X i) ⊗ entry p i)
-            ]
+        without-off i e = elim (ℕ-discrete i a) [
+          | yes q ↦
+              ap (λ (y : F). x i ⊗ (y ⊗ entry p i)) (S.sum-of-eq K (X a) (X i) (ap X (sym q)))
+              ∙ simp (S.zero-mul K, S.mul-zero K)
+          | no q ↦
+              ap (λ (y : F). y ⊗ ((X a ⊕ X i) ⊗ entry p i))
+              (off i (sym (ap (λ (c : Bool). not c && b i) (ne-eqb i a q)) ∙ e))
+              ∙ S.zero-mul K ((X a ⊕ X i) ⊗ entry p i)
+        ]
 
         each : (q : ℕ) → r q ≡ true → (i : ℕ)
             → (Y p ⊕ Y q) ⊗ (without i ⊗ entry q i) ≡ (X a ⊕ Y q) ⊗ (x i ⊗ entry q i) ⊕ (X a ⊕ Y p) ⊗ (x i ⊗ entry p i)
@@ -119,8 +117,7 @@ module _ {F : Type 0} (K : Field F) where
                 term (x i) (X a ⊕ X i) (Y p ⊕ Y q) (X a ⊕ Y q) (X a ⊕ Y p) (X i ⊕ Y p) (X i ⊕ Y q) (entry p i) (entry q i)
                 (cross (X a) (X i) (Y p) (Y q)) (inv-mul (X i ⊕ Y p) (ne-zero (X i) (Y p) (h .both i p e in-p)))
                 (inv-mul (X i ⊕ Y q) (ne-zero (X i) (Y q) (h .both i q e in-q)))
-            go false e =
-                no-term (x i) (X a ⊕ X i) (Y p ⊕ Y q) (X a ⊕ Y q) (X a ⊕ Y p) (entry p i) (entry q i) (off i e)
+            go false e = no-term (x i) (X a ⊕ X i) (Y p ⊕ Y q) (X a ⊕ Y q) (X a ⊕ Y p) (entry p i) (entry q i) (off i e)
 
         without-rows : (q : ℕ) → r q ≡ true → p ≢ q → RowZero x q → RowZero without q
         without-rows q in-q other zero-q =

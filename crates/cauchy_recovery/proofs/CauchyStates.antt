@@ -172,8 +172,7 @@ module _ (t : State) (fits : t .n ≤ 254) where
 
         each : (g : ℕ) → inColumn g ≡ true → (s : ℕ) → s < 255 - t .n → (b : Bool) → isRow s ≡ b
             → mask b (w s) ⊗ turned g s ≡ w s ⊗ matrix s g
-        each g q s l true e =
-            ap (λ (y : Byte). w s ⊗ y) (ap inv (K .add-comm (rowByte s) (columnByte g)) ∙ entry-matrix s g e q)
+        each g q s l true e = ap (λ (y : Byte). w s ⊗ y) (ap inv (K .add-comm (rowByte s) (columnByte g)) ∙ entry-matrix s g e q)
         each g q s l false e =
             S.zero-mul K (turned g s) ∙ sym (S.mul-zero K (w s))
             ∙ ap (λ (y : Byte). w s ⊗ y)

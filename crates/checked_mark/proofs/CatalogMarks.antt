@@ -60,13 +60,12 @@ inserted r t [] e = record { earlier = []; later = []; one-is = refl; other-is =
 inserted r t (x ∷ rs) e = by (ltb (numberOf x) (numberOf t)) refl (inserted r t rs e)
   where
     by : (b : Bool) → ltb (numberOf x) (numberOf t) ≡ b → Inserted r t rs → Inserted r t (x ∷ rs)
-    by true p i =
-        record {
-          earlier = x ∷ i .earlier;
-          later = i .later;
-          one-is = simp (e, p) (ap (λ (l : List (List ℕ)). x ∷ l) (i .one-is));
-          other-is = simp p (ap (λ (l : List (List ℕ)). x ∷ l) (i .other-is));
-        }
+    by true p i = record {
+      earlier = x ∷ i .earlier;
+      later = i .later;
+      one-is = simp (e, p) (ap (λ (l : List (List ℕ)). x ∷ l) (i .one-is));
+      other-is = simp p (ap (λ (l : List (List ℕ)). x ∷ l) (i .other-is));
+    }
     by false p i = record { earlier = []; later = x ∷ rs; one-is = simp (e, p); other-is = simp p }
 
 module _ (n m : ℕ) where
@@ -123,18 +122,17 @@ parts-length {s} {t} {h} {k} p e =
     omega (arith, simp length-append at (ap length (p .one-is)), simp length-append at (ap length (p .other-is)))
 
 but-hash : (x h k y : List ℕ) → length h ≡ 16 → length k ≡ 16 → ButHash (x ++ (h ++ y)) (x ++ (k ++ y)) h k
-but-hash x h k y e f =
-    record {
-      at = length x;
-      before-same = take-append-seam x (h ++ y) ∙ sym (take-append-seam x (k ++ y));
-      one-has = ap (take 16) (drop-append-seam x (h ++ y)) ∙ take-at h y 16 e;
-      other-has = ap (take 16) (drop-append-seam x (k ++ y)) ∙ take-at k y 16 f;
-      after-same =
-          sym (drop-drop 16 (length x) (x ++ (h ++ y)))
-          ∙ ap (drop 16) (drop-append-seam x (h ++ y))
-          ∙ drop-at h y 16 e
-          ∙ sym (sym (drop-drop 16 (length x) (x ++ (k ++ y))) ∙ ap (drop 16) (drop-append-seam x (k ++ y)) ∙ drop-at k y 16 f);
-    }
+but-hash x h k y e f = record {
+  at = length x;
+  before-same = take-append-seam x (h ++ y) ∙ sym (take-append-seam x (k ++ y));
+  one-has = ap (take 16) (drop-append-seam x (h ++ y)) ∙ take-at h y 16 e;
+  other-has = ap (take 16) (drop-append-seam x (k ++ y)) ∙ take-at k y 16 f;
+  after-same =
+      sym (drop-drop 16 (length x) (x ++ (h ++ y)))
+      ∙ ap (drop 16) (drop-append-seam x (h ++ y))
+      ∙ drop-at h y 16 e
+      ∙ sym (sym (drop-drop 16 (length x) (x ++ (k ++ y))) ∙ ap (drop 16) (drop-append-seam x (k ++ y)) ∙ drop-at k y 16 f);
+}
 
 -- the same bytes after both
 parts-room : {s t h k : List ℕ} → Parts s t h k → (z : List ℕ) → length h ≡ 16 → length k ≡ 16 → ButHash (s ++ z) (t ++ z) h k
@@ -175,8 +173,7 @@ module _ {f g : List ℕ} (a : AlikeButMarks f g) where
         rw same (added-parts b (volumeNumberOf g) (dataSizeOf g) (controlHashOf f) (controlHashOf g))
 
     bytes-length : length (addedBytes b f) ≡ length (addedBytes b g)
-    bytes-length =
-        parts-length bytes-alike (simp (length-take, length-drop) (ap (λ (n : ℕ). min 16 (n - 16)) (a .length-same)))
+    bytes-length = parts-length bytes-alike (simp (length-take, length-drop) (ap (λ (n : ℕ). min 16 (n - 16)) (a .length-same)))
 
     pub added-same : addOf b f .0 ≡ addOf b g .0
     unfolding addOf

@@ -44,8 +44,7 @@ module _ (e : List ℕ) (fills : entrySize e ≡ length e) where
   name-is p = ap (λ (s : List ℕ). nameAllowed (nameOf s)) front-is ∙ p
 
   lone-number : itemNumber (firstOf e) ≡ loneNumber e
-  lone-number =
-      by (entrySizeAllowed (length e) (length e)) (fileSizeAllowed (fileSizeOf e)) (nameAllowed (nameOf e)) refl refl refl
+  lone-number = by (entrySizeAllowed (length e) (length e)) (fileSizeAllowed (fileSizeOf e)) (nameAllowed (nameOf e)) refl refl refl
     where
       by : (a b c : Bool) → entrySizeAllowed (length e) (length e) ≡ a → fileSizeAllowed (fileSizeOf e) ≡ b → nameAllowed (nameOf e) ≡ c
           → itemNumber (firstOf e) ≡ loneNumber e

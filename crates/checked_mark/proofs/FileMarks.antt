@@ -42,8 +42,7 @@ module _ {f g : List ℕ} (a : AlikeButMarks f g) where
   -- ---- the header
 
   part-first : (i k : ℕ) → i + k ≤ 16 → take k (drop i f) ≡ take k (drop i g)
-  part-first i k h =
-      sym (part-take i k 16 f h) ∙ ap (λ (s : List ℕ). take k (drop i s)) (a .first-same) ∙ part-take i k 16 g h
+  part-first i k h = sym (part-take i k 16 f h) ∙ ap (λ (s : List ℕ). take k (drop i s)) (a .first-same) ∙ part-take i k 16 g h
 
   part-later : (i k : ℕ) → i + k ≤ 64 → take k (drop (32 + i) f) ≡ take k (drop (32 + i) g)
   part-later i k h =
@@ -124,8 +123,7 @@ module _ {f g : List ℕ} (a : AlikeButMarks f g) where
 
   pub input-same : inputListing f ≡ inputListing g
   unfolding inputListing
-  input-same =
-      ap₂ (λ (n : ℕ) (t : List ℕ). cond (leb n maxListedLength) t (refusedLine (bare 1))) (a .length-same) listing-same
+  input-same = ap₂ (λ (n : ℕ) (t : List ℕ). cond (leb n maxListedLength) t (refusedLine (bare 1))) (a .length-same) listing-same
 
 -- ---- reading in chunks
 

@@ -71,11 +71,10 @@ module _ {e : List ℕ} (z : SizeRight e) (s : List ℕ) where
   front-left wrong = cut-stop lengthOf (e ++ s) (front-length ∙ simp wrong)
 
 sized-alike : {e g : List ℕ} → EntryAlike e g → SizeRight e → SizeRight g
-sized-alike a z =
-    record {
-      fills = sym (entry-size a) ∙ z .fills ∙ a .length-same;
-      size-right = ap (λ (n : ℕ). entrySizeAllowed n n) (sym (a .length-same)) ∙ z .size-right;
-    }
+sized-alike a z = record {
+  fills = sym (entry-size a) ∙ z .fills ∙ a .length-same;
+  size-right = ap (λ (n : ℕ). entrySizeAllowed n n) (sym (a .length-same)) ∙ z .size-right;
+}
 
 -- ---- the walk
 

@@ -70,19 +70,18 @@ length-same {x} {y} a =
     ∙ sym (length-entry (y .contents) (y .status) (y .name))
 
 entry-alike : {x y : File} → FileBack x → FileBack y → FileAlike x y → EntryAlike (entryFor x) (entryFor y)
-entry-alike {x} {y} b c a =
-    record {
-      length-same = length-same a;
-      size-same =
-          size-is (x .contents) (x .status) (x .name)
-          ∙ ap (λ (n : List ℕ). toLe 8 (56 + length n)) (a .name-same)
-          ∙ sym (size-is (y .contents) (y .status) (y .name));
-      status-alike = ap unmarked (b .status-is) ∙ a .status-alike ∙ sym (ap unmarked (c .status-is));
-      rest-same =
-          rest-is (x .contents) (x .status) (x .name)
-          ∙ ap₂ (λ (m n : List ℕ). flatten (toLe 8 (length m) ∷ md5 m ∷ md5First m ∷ n ∷ [])) (a .contents-same) (a .name-same)
-          ∙ sym (rest-is (y .contents) (y .status) (y .name));
-    }
+entry-alike {x} {y} b c a = record {
+  length-same = length-same a;
+  size-same =
+      size-is (x .contents) (x .status) (x .name)
+      ∙ ap (λ (n : List ℕ). toLe 8 (56 + length n)) (a .name-same)
+      ∙ sym (size-is (y .contents) (y .status) (y .name));
+  status-alike = ap unmarked (b .status-is) ∙ a .status-alike ∙ sym (ap unmarked (c .status-is));
+  rest-same =
+      rest-is (x .contents) (x .status) (x .name)
+      ∙ ap₂ (λ (m n : List ℕ). flatten (toLe 8 (length m) ∷ md5 m ∷ md5First m ∷ n ∷ [])) (a .contents-same) (a .name-same)
+      ∙ sym (rest-is (y .contents) (y .status) (y .name));
+}
 
 -- ---- all entries
 
@@ -152,48 +151,44 @@ module _ {v : ℕ} {fs gs : List File} {area : List ℕ} (one : SetPassed v fs a
       sym (statuses-are (set-back one)) ∙ ap (λ (es : List (List ℕ)). map (λ e. statusOf e) es) same ∙ statuses-are (set-back two)
 
   set-alike : Remarked (bytesFor (versionFor code) program v fs area) (bytesFor (versionFor code) program v gs area) fs gs
-  set-alike =
-      record {
-        alike =
-            rw (← bytes-are (set-back one) v area code program, ← bytes-are (set-back two) v area code program)
-            (volume-alike code program v area (lists-alike (set-back one) (set-back two) ps) p small (set-passed one));
-        differ = λ e.
-            statuses-same
-            (sym (set-read-back one code program p small .list-is) ∙ ap (λ (f : List ℕ). listOf f) e ∙ set-read-back two code program p small .list-is);
-      }
+  set-alike = record {
+    alike =
+        rw (← bytes-are (set-back one) v area code program, ← bytes-are (set-back two) v area code program)
+        (volume-alike code program v area (lists-alike (set-back one) (set-back two) ps) p small (set-passed one));
+    differ = λ e.
+        statuses-same
+        (sym (set-read-back one code program p small .list-is) ∙ ap (λ (f : List ℕ). listOf f) e ∙ set-read-back two code program p small .list-is);
+  }
 
 -- ---- the claim
 
 volume-right : {v : ℕ} {fs gs : List File} → Pairs FileAlike fs gs → VolumeRight v fs → VolumeRight v gs
-volume-right ps r =
-    record {
-      files-right = files-right ps (r .files-right);
-      volume-low = r .volume-low;
-      volume-high = omega (arith, r .volume-high, count-is ps);
-      count-low = omega (arith, r .count-low, count-is ps);
-      length-right = omega (arith, r .length-right, list-length ps, data-size ps);
-    }
+volume-right ps r = record {
+  files-right = files-right ps (r .files-right);
+  volume-low = r .volume-low;
+  volume-high = omega (arith, r .volume-high, count-is ps);
+  count-low = omega (arith, r .count-low, count-is ps);
+  length-right = omega (arith, r .length-right, list-length ps, data-size ps);
+}
 
 index-right : {fs gs : List File} {comment : List ℕ} → Pairs FileAlike fs gs → IndexRight fs comment → IndexRight gs comment
-index-right ps r =
-    record {
-      files-right = files-right ps (r .files-right);
-      count-high = omega (arith, r .count-high, count-is ps);
-      comment-right = r .comment-right;
-      length-right = omega (arith, r .length-right, list-length ps);
-    }
+index-right ps r = record {
+  files-right = files-right ps (r .files-right);
+  count-high = omega (arith, r .count-high, count-is ps);
+  comment-right = r .comment-right;
+  length-right = omega (arith, r .length-right, list-length ps);
+}
 
 pub some-marked : SomeMarked
-some-marked =
-    record {
-      volumes = λ code program v fs gs p right ps.
-          let other = volume-right ps right in
-          let area : List ℕ = dataFor (ruleOf code) v fs in
-          let two : SetPassed v gs area = rw (data-same ps (ruleOf code) v) (volume-set other (ruleOf code)) in
-          let made : Remarked (bytesFor (versionFor code) program v fs area) (bytesFor (versionFor code) program v gs area) fs gs =
-          set-alike (volume-set right (ruleOf code)) two ps code program p (omega (arith, right .volume-high)) in
-          (other, subst (λ (d : List ℕ). Remarked (bytesFor (versionFor code) program v fs area) (bytesFor (versionFor code) program v gs d) fs gs) (data-same ps (ruleOf code) v) made);
-      indices = λ code program fs gs comment p right ps.
-          let other = index-right ps right in
-          (other, set-alike (index-set right) (index-set other) ps code program p (omega arith));
-    }
+some-marked = record {
+  volumes = λ code program v fs gs p right ps.
+      let other = volume-right ps right in
+      let area : List ℕ = dataFor (ruleOf code) v fs in
+      let two : SetPassed v gs area = rw (data-same ps (ruleOf code) v) (volume-set other (ruleOf code)) in
+      let made : Remarked (bytesFor (versionFor code) program v fs area) (bytesFor (versionFor code) program v gs area) fs gs =
+      set-alike (volume-set right (ruleOf code)) two ps code program p (omega (arith, right .volume-high)) in
+      (other, subst (λ (d : List ℕ). Remarked (bytesFor (versionFor code) program v fs area) (bytesFor (versionFor code) program v gs d) fs gs) (data-same ps (ruleOf code) v) made);
+  indices = λ code program fs gs comment p right ps.
+      let other = index-right ps right in
+      (other, set-alike (index-set right) (index-set other) ps code program p (omega arith));
+}

@@ -61,8 +61,7 @@ listed-same l (pairs-more a ps) = ap₂ _||_ (named-same a l) (listed-same l ps)
 
 pub refusal-same : {es gs : List (List ℕ)} → Pairs EntryAlike es gs → (c : Cut) → textRefusal es c ≡ textRefusal gs c
 unfolding textRefusal againIn isAgain
-refusal-same {es} {gs} ps c =
-    ap (λ (test : ℕ → Bool). by (firstBelow (length (c .pieces)) test)) (fun-ext again)
+refusal-same {es} {gs} ps c = ap (λ (test : ℕ → Bool). by (firstBelow (length (c .pieces)) test)) (fun-ext again)
   where
     by : ℕ → Refusal
     by = λ k. cond (ltb k (length (c .pieces))) (record { number = 23; place = k + 1 }) (shapeRefusal (length (c .pieces)) (c .rest))

@@ -37,8 +37,7 @@ use Rattle.checked_mark.proofs.PairLaws.{count-same}
 
 pub lists-length : {s t : List ℕ} → ListsAlike s t → length s ≡ length t
 lists-length (rest-same s) = refl
-lists-length (entry-more {e} {g} {s} {t} z a l) =
-    length-append e s ∙ ap₂ _+_ (a .length-same) (lists-length l) ∙ sym (length-append g t)
+lists-length (entry-more {e} {g} {s} {t} z a l) = length-append e s ∙ ap₂ _+_ (a .length-same) (lists-length l) ∙ sym (length-append g t)
 
 -- ---- the parts of a written file
 
@@ -79,12 +78,11 @@ module _ (code : Code) (program number : ℕ) (area : List ℕ) {s t : List ℕ}
       ∙ ap (λ (h : List ℕ). h ++ numberBytes number (length (entriesOf t .pieces)) (length t) (length area)) (set-hash-same es)
 
   passed-alike : ListPassed number s (length area) → ListPassed number t (length area)
-  passed-alike p =
-      record {
-        totals-of = p .totals-of;
-        walk-is = sym (walk-same l) ∙ p .walk-is;
-        tests = subst (λ (n : ℕ). VolumePassed number (p .totals-of) n (length area)) (lists-length l) (p .tests);
-      }
+  passed-alike p = record {
+    totals-of = p .totals-of;
+    walk-is = sym (walk-same l) ∙ p .walk-is;
+    tests = subst (λ (n : ℕ). VolumePassed number (p .totals-of) n (length area)) (lists-length l) (p .tests);
+  }
 
   pub volume-alike : program < 2 ^ 32 → number < 2 ^ 64 → ListPassed number s (length area)
       → AlikeButMarks (volumeBytes code program number s area) (volumeBytes code program number t area)

@@ -54,24 +54,21 @@ oneTo-outside m k h = go (oneTo m k) refl
 
 pub all-true : (m : ℕ) (test : ℕ → Bool) → ((k : ℕ) → k < m → test k ≡ true) → allBelow m test ≡ true
 all-true zero test h = refl
-all-true (suc m) test h =
-    ap₂ (λ (a b : Bool). a && b) (h m (omega arith)) (all-true m test (λ k l. h k (omega arith)))
+all-true (suc m) test h = ap₂ (λ (a b : Bool). a && b) (h m (omega arith)) (all-true m test (λ k l. h k (omega arith)))
 
 pub all-false : (m : ℕ) (test : ℕ → Bool) (k : ℕ) → k < m → test k ≡ false → allBelow m test ≡ false
 all-false zero test k l h = absurd (not-suc-le-zero l)
-all-false (suc m) test k l h =
-    elim (ℕ-discrete k m) [
-      | yes e ↦ ap (λ (a : Bool). a && allBelow m test) (ap test (sym e) ∙ h)
-      | no q ↦ ap (λ (b : Bool). test m && b) (all-false m test k (omega arith) h) ∙ and-false (test m)
-    ]
+all-false (suc m) test k l h = elim (ℕ-discrete k m) [
+  | yes e ↦ ap (λ (a : Bool). a && allBelow m test) (ap test (sym e) ∙ h)
+  | no q ↦ ap (λ (b : Bool). test m && b) (all-false m test k (omega arith) h) ∙ and-false (test m)
+]
 
 pub all-at : (m : ℕ) (test : ℕ → Bool) → allBelow m test ≡ true → (k : ℕ) → k < m → test k ≡ true
 all-at zero test h k l = absurd (not-suc-le-zero l)
-all-at (suc m) test h k l =
-    elim (ℕ-discrete k m) [
-      | yes e ↦ ap test e ∙ and-both (test m) (allBelow m test) h .0
-      | no q ↦ all-at m test (and-both (test m) (allBelow m test) h .1) k (omega arith)
-    ]
+all-at (suc m) test h k l = elim (ℕ-discrete k m) [
+  | yes e ↦ ap test e ∙ and-both (test m) (allBelow m test) h .0
+  | no q ↦ all-at m test (and-both (test m) (allBelow m test) h .1) k (omega arith)
+]
 
 -- ---- equal functions
 
@@ -89,5 +86,4 @@ testBelow m (suc n) f g = allBelow m (λ k. testBelow m n (f k) (g k))
 
 pub equal-below : (m n : ℕ) (f g : Function n) → testBelow m n f g ≡ true → EqualBelow m n f g
 equal-below m zero x y t = eqb-true x y t
-equal-below m (suc n) f g t =
-    λ k h. equal-below m n (f k) (g k) (all-at m (λ k. testBelow m n (f k) (g k)) t k h)
+equal-below m (suc n) f g t = λ k h. equal-below m n (f k) (g k) (all-at m (λ k. testBelow m n (f k) (g k)) t k h)

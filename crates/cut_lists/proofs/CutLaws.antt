@@ -107,5 +107,4 @@ cut-count f =
 
 pub cut-all : (f : List ℕ → ℕ) (P : List ℕ → Type 0) → ((s : List ℕ) → 0 < length s → 0 < f s → P (take (f s) s))
     → (s : List ℕ) → All P (cut f s .pieces)
-cut-all f P first =
-    cut-induct f (λ s c. All P (c .pieces)) all-none (λ s e. all-none) (λ s h k e. all-more (first s h k) e)
+cut-all f P first = cut-induct f (λ s c. All P (c .pieces)) all-none (λ s e. all-none) (λ s h k e. all-more (first s h k) e)

@@ -30,11 +30,10 @@ use Rattle.elimination.proofs.Pivots.{IsPivot, pivot-is, pivot-same}
 -- the answer of a call for the inverse of a
 answered : (a s : ℕ) → inverseAnswer a ≡ Byte s → s ≡ inverse a
 unfolding inverseAnswer
-answered a s e =
-    elim (ℕ-discrete a 0) [
-      | yes z ↦ absurd (differ (sym (ap choice (eq-eqb a 0 z)) ∙ e))
-      | no z ↦ same (sym (ap choice (ne-eqb a 0 z)) ∙ e)
-    ]
+answered a s e = elim (ℕ-discrete a 0) [
+  | yes z ↦ absurd (differ (sym (ap choice (eq-eqb a 0 z)) ∙ e))
+  | no z ↦ same (sym (ap choice (ne-eqb a 0 z)) ∙ e)
+]
   where
     choice : Bool → ByteAnswer
     choice b = cond b (Refused 10) (Byte (inverse a))
@@ -47,11 +46,10 @@ answered a s e =
 
 refused : (a n : ℕ) → inverseAnswer a ≡ Refused n → a ≡ 0
 unfolding inverseAnswer
-refused a n e =
-    elim (ℕ-discrete a 0) [
-      | yes z ↦ z
-      | no z ↦ absurd (differ (sym (ap (λ (b : Bool). cond b (Refused 10) (Byte (inverse a))) (ne-eqb a 0 z)) ∙ e))
-    ]
+refused a n e = elim (ℕ-discrete a 0) [
+  | yes z ↦ z
+  | no z ↦ absurd (differ (sym (ap (λ (b : Bool). cond b (Refused 10) (Byte (inverse a))) (ne-eqb a 0 z)) ∙ e))
+]
   where
     differ : Byte (inverse a) ≡ Refused n → ⊥
     differ h = let z : _≡_ {A = ℕ} 0 1 = cc in omega arith
@@ -93,11 +91,10 @@ swept-same w y z k scale m h = listBelow-same 65536 _ _ (λ p l. inside (p / 256
     inside : (i j x : ℕ)
         → cond (ltb i w && ltb j w) (bitXor (entry m i j) (product (product scale (entry m i k)) (y j))) x
         ≡ cond (ltb i w && ltb j w) (bitXor (entry m i j) (product (product scale (entry m i k)) (z j))) x
-    inside i j x =
-        elim (decLt j w) [
-          | yes l ↦ ap (λ (v : ℕ). cond (ltb i w && ltb j w) (bitXor (entry m i j) (product (product scale (entry m i k)) v)) x) (h j l)
-          | no q ↦ simp (le-ltb j w (omega arith), and-false) refl
-        ]
+    inside i j x = elim (decLt j w) [
+      | yes l ↦ ap (λ (v : ℕ). cond (ltb i w && ltb j w) (bitXor (entry m i j) (product (product scale (entry m i k)) v)) x) (h j l)
+      | no q ↦ simp (le-ltb j w (omega arith), and-false) refl
+    ]
 
 module _ (w : ℕ) (u m owners y : List ℕ) (k : ℕ) (hw : w ≤ 256) (long : length y ≡ 256)
     (at : (j : ℕ) → j < w → getD y j 0 ≡ rowProductWithin w u m j) (hk : k ≡ pivotWithin w (λ j. getD y (0 + j) 0) owners) where
@@ -127,13 +124,12 @@ module _ (w : ℕ) (u m owners y : List ℕ) (k : ℕ) (hw : w ≤ 256) (long : 
       ∙ sym (taken-within w u number m owners (subst (λ (i : ℕ). i < w) same-pivot lk))
     where
       changed : (j : ℕ) → j < w → getD (set y k (bitXor (getD y k 0) 1)) j 0 ≡ bitXor (rowProductWithin w u m j) (cond (eqb k j) 1 0)
-      changed j l =
-          elim (ℕ-discrete j k) [
-            | yes p ↦
-                ap (λ (i : ℕ). getD (set y k (bitXor (getD y k 0) 1)) i 0) p
-                ∙ getD-set-same y k (bitXor (getD y k 0) 1) 0 (omega (arith, long))
-                ∙ ap₂ bitXor (ap (λ (i : ℕ). getD y i 0) (sym p) ∙ at j l) (ap (λ (b : Bool). cond b 1 0) (sym (eq-eqb k j (sym p))))
-            | no q ↦
-                getD-set-other y k j (bitXor (getD y k 0) 1) 0 q ∙ at j l ∙ sym (xor-zero-r (rowProductWithin w u m j))
-                ∙ ap (λ (b : Bool). bitXor (rowProductWithin w u m j) (cond b 1 0)) (sym (ne-eqb k j (λ z. q (sym z))))
-          ]
+      changed j l = elim (ℕ-discrete j k) [
+        | yes p ↦
+            ap (λ (i : ℕ). getD (set y k (bitXor (getD y k 0) 1)) i 0) p
+            ∙ getD-set-same y k (bitXor (getD y k 0) 1) 0 (omega (arith, long))
+            ∙ ap₂ bitXor (ap (λ (i : ℕ). getD y i 0) (sym p) ∙ at j l) (ap (λ (b : Bool). cond b 1 0) (sym (eq-eqb k j (sym p))))
+        | no q ↦
+            getD-set-other y k j (bitXor (getD y k 0) 1) 0 q ∙ at j l ∙ sym (xor-zero-r (rowProductWithin w u m j))
+            ∙ ap (λ (b : Bool). bitXor (rowProductWithin w u m j) (cond b 1 0)) (sym (ne-eqb k j (λ z. q (sym z))))
+      ]

@@ -49,8 +49,7 @@ module _ {F : Type 0} (K : Field F) where
   pub rowTimes-cong : (n : ℕ) (u v : ℕ → F) (D : ℕ → ℕ → F) (j : ℕ) → ((i : ℕ) → i < n → u i ≡ v i)
       → rowTimes K n u D j ≡ rowTimes K n v D j
   unfolding rowTimes
-  rowTimes-cong n u v D j e =
-      S.sum-cong K n (λ i. u i ⊗ D i j) (λ i. v i ⊗ D i j) (λ i l. ap (λ (x : F). x ⊗ D i j) (e i l))
+  rowTimes-cong n u v D j e = S.sum-cong K n (λ i. u i ⊗ D i j) (λ i. v i ⊗ D i j) (λ i l. ap (λ (x : F). x ⊗ D i j) (e i l))
 
   pub rowTimes-add : (n : ℕ) (u v : ℕ → F) (D : ℕ → ℕ → F) (j : ℕ)
       → rowTimes K n (λ i. u i ⊕ v i) D j ≡ rowTimes K n u D j ⊕ rowTimes K n v D j
@@ -225,8 +224,7 @@ module _ {F : Type 0} (K : Field F) where
       -- a row that is 0 everywhere now was 0 in column k
       zero-before : (u : ℕ → F) → ((j : ℕ) → j < n → timesD′ u j ≡ 𝟘) → timesD u k ≡ 𝟘
       unfolding q p
-      zero-before u h =
-          S.zero-of-mul K q (timesD u k) (S.inv-ne-zero K (timesD (A t) k) yk) (sym column-k ∙ h k lk)
+      zero-before u h = S.zero-of-mul K q (timesD u k) (S.inv-ne-zero K (timesD (A t) k) yk) (sym column-k ∙ h k lk)
         where
           y : F
           y = timesD (A t) k

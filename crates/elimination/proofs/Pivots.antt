@@ -32,12 +32,11 @@ passed o x e =
     (eqb-true o 0 (both .0), eqb-false x 0 (not-true (eqb x 0) (both .1)))
 
 failed : (o x : ℕ) → (eqb o 0 && not (eqb x 0)) ≡ false → o ≡ 0 → x ≡ 0
-failed o x e p =
-    elim (ℕ-discrete x 0) [
-      | yes z ↦ z
-      | no q ↦
-          absurd (true≢false (sym (ap (λ (b : Bool). eqb o 0 && not b) (ne-eqb x 0 q) ∙ ap (λ (b : Bool). b && true) (eq-eqb o 0 p)) ∙ e))
-    ]
+failed o x e p = elim (ℕ-discrete x 0) [
+  | yes z ↦ z
+  | no q ↦
+      absurd (true≢false (sym (ap (λ (b : Bool). eqb o 0 && not b) (ne-eqb x 0 q) ∙ ap (λ (b : Bool). b && true) (eq-eqb o 0 p)) ∙ e))
+]
 
 module _ (w : ℕ) (y : ℕ → ℕ) (owners : List ℕ) where
   pub pivot-is : IsPivot w y owners (pivotWithin w y owners)
@@ -56,13 +55,11 @@ module _ (w : ℕ) (y : ℕ → ℕ) (owners : List ℕ) where
       found .1 (Q .before k b (found .0))
 
   pub pivot-only : (k : ℕ) → IsPivot w y owners k → k ≡ pivotWithin w y owners
-  pivot-only k P =
-      omega (arith, not-before k (pivotWithin w y owners) P pivot-is, not-before (pivotWithin w y owners) k pivot-is P)
+  pivot-only k P = omega (arith, not-before k (pivotWithin w y owners) P pivot-is, not-before (pivotWithin w y owners) k pivot-is P)
 
 pub pivot-same : (w : ℕ) (y z : ℕ → ℕ) (owners : List ℕ) → ((j : ℕ) → j < w → y j ≡ z j) → pivotWithin w y owners ≡ pivotWithin w z owners
 unfolding pivotWithin
-pivot-same w y z owners h =
-    firstBelow-same w _ _ (λ k l. ap (λ (x : ℕ). eqb (getD owners k 0) 0 && not (eqb x 0)) (h k l))
+pivot-same w y z owners h = firstBelow-same w _ _ (λ k l. ap (λ (x : ℕ). eqb (getD owners k 0) 0 && not (eqb x 0)) (h k l))
 
 pub pivot-whole : (y : ℕ → ℕ) (owners : List ℕ) → pivotOf y owners ≡ pivotWithin 256 y owners
 unfolding pivotOf pivotWithin

@@ -80,15 +80,14 @@ withDiagonal-off (suc n) m i j hn hj h =
 withDiagonal-on : (n : ℕ) (m : List ℕ) (i : ℕ) → n ≤ 256 → length m ≡ 65536 → i < n → entry (withDiagonal n m) i i ≡ 1
 unfolding withDiagonal
 withDiagonal-on zero m i hn hm l = absurd (not-suc-le-zero l)
-withDiagonal-on (suc n) m i hn hm l =
-    elim (ℕ-discrete i n) [
-      | yes e ↦
-          ap (λ (k : ℕ). entry (set (withDiagonal n m) (n * 256 + n) 1) k k) e
-          ∙ getD-set-same (withDiagonal n m) (n * 256 + n) 1 0 (omega (arith, withDiagonal-length n m))
-      | no q ↦
-          getD-set-other (withDiagonal n m) (n * 256 + n) (i * 256 + i) 1 0 (λ e. q (omega arith))
-          ∙ withDiagonal-on n m i (omega arith) hm (omega arith)
-    ]
+withDiagonal-on (suc n) m i hn hm l = elim (ℕ-discrete i n) [
+  | yes e ↦
+      ap (λ (k : ℕ). entry (set (withDiagonal n m) (n * 256 + n) 1) k k) e
+      ∙ getD-set-same (withDiagonal n m) (n * 256 + n) 1 0 (omega (arith, withDiagonal-length n m))
+  | no q ↦
+      getD-set-other (withDiagonal n m) (n * 256 + n) (i * 256 + i) 1 0 (λ e. q (omega arith))
+      ∙ withDiagonal-on n m i (omega arith) hm (omega arith)
+]
 
 pub zeros-at : (n p : ℕ) → _≡_ {A = ℕ} (getD (replicate n 0) p 0) 0
 zeros-at zero p = refl
@@ -96,16 +95,15 @@ zeros-at (suc n) zero = refl
 zeros-at (suc n) (suc p) = zeros-at n p
 
 pub identity-at : (i j : ℕ) → i < 256 → j < 256 → entry (withDiagonal 256 (replicate 65536 0)) i j ≡ cond (eqb i j) 1 0
-identity-at i j li lj =
-    elim (ℕ-discrete i j) [
-      | yes e ↦
-          ap (entry (withDiagonal 256 (replicate 65536 0)) i) (sym e)
-          ∙ withDiagonal-on 256 (replicate 65536 0) i (omega arith) (length-replicate {A = ℕ} 65536 0) li
-          ∙ ap (λ (b : Bool). cond b 1 0) (sym (eq-eqb i j e))
-      | no q ↦
-          withDiagonal-off 256 (replicate 65536 0) i j (omega arith) lj (λ e. absurd (q e))
-          ∙ zeros-at 65536 (i * 256 + j) ∙ ap (λ (b : Bool). cond b 1 0) (sym (ne-eqb i j q))
-    ]
+identity-at i j li lj = elim (ℕ-discrete i j) [
+  | yes e ↦
+      ap (entry (withDiagonal 256 (replicate 65536 0)) i) (sym e)
+      ∙ withDiagonal-on 256 (replicate 65536 0) i (omega arith) (length-replicate {A = ℕ} 65536 0) li
+      ∙ ap (λ (b : Bool). cond b 1 0) (sym (eq-eqb i j e))
+  | no q ↦
+      withDiagonal-off 256 (replicate 65536 0) i j (omega arith) lj (λ e. absurd (q e))
+      ∙ zeros-at 65536 (i * 256 + j) ∙ ap (λ (b : Bool). cond b 1 0) (sym (ne-eqb i j q))
+]
 
 one-or-zero : (b : Bool) → cond b 1 0 < 256
 one-or-zero true = omega arith
@@ -193,14 +191,13 @@ module _ (A : ℕ → ℕ → Byte) (m owners : List ℕ) (t : ℕ) (R : Reduced
     }
 
     pub add-reduced : ReducedPair A (rowAdded u (suc t) m owners) (suc t)
-    add-reduced =
-        elim (decLt k 256) [
-          | yes l ↦ subst after (sym (row-taken u (suc t) m owners l)) (independent-reduced k l P)
-          | no q ↦
-              let b = P .within in
-              subst after (sym (row-left u (suc t) m owners (omega arith)))
-              (dependent-reduced (subst (IsPivot 256 (rowProduct u m) owners) (omega arith) P))
-        ]
+    add-reduced = elim (decLt k 256) [
+      | yes l ↦ subst after (sym (row-taken u (suc t) m owners l)) (independent-reduced k l P)
+      | no q ↦
+          let b = P .within in
+          subst after (sym (row-left u (suc t) m owners (omega arith)))
+          (dependent-reduced (subst (IsPivot 256 (rowProduct u m) owners) (omega arith) P))
+    ]
       where
         k : ℕ
         k = pivotOf (rowProduct u m) owners

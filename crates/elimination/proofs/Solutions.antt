@@ -112,8 +112,7 @@ module _ {F : Type 0} (K : Field F) where
         off r h q (inl (i, a, b)) =
             ap (λ (x : F). w r ⊗ x) (R .owned i r a b k m ∙ S.δ-other K i k (λ c. q (suc-inj (sym b ∙ ap owner c ∙ p))))
             ∙ S.mul-zero K (w r)
-        off r h q (inr none) =
-            ap (λ (x : F). x ⊗ timesD (A r) k) (z r h (R .dependent r h none)) ∙ S.zero-mul K (timesD (A r) k)
+        off r h q (inr none) = ap (λ (x : F). x ⊗ timesD (A r) k) (z r h (R .dependent r h none)) ∙ S.zero-mul K (timesD (A r) k)
 
     -- two choices of weights with the same sums, with no weight for rows that are sums of earlier ones, are the same
     pub weights-unique : (u w w′ : ℕ → F) → ((s : ℕ) → s < t → Dependent K A n s → w s ≡ 𝟘)
@@ -175,8 +174,7 @@ module _ {F : Type 0} (K : Field F) where
     Elimination A n t = (D : ℕ → ℕ → F) × (owner : ℕ → ℕ) × Reduced K A n D owner t
 
     pub eliminate : (A : ℕ → ℕ → F) (n t : ℕ) → Elimination A n t
-    eliminate A n zero =
-        (δ K, λ j. zero, E.reduced-start K A n (δ K) (λ j. zero) (λ i j l m. refl) (λ j l. refl))
+    eliminate A n zero = (δ K, λ j. zero, E.reduced-start K A n (δ K) (λ j. zero) (λ i j l m. refl) (λ j l. refl))
     eliminate A n (suc t) = go (eliminate A n t)
       where
         go : Elimination A n t → Elimination A n (suc t)

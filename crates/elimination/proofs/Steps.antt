@@ -39,8 +39,7 @@ row-at w m i j l = getD-take w (drop (i * 256) m) j 0 l ∙ getD-drop (i * 256) 
 
 pub diagonal-more : (i : ℕ) (m m′ : List ℕ) → m′ ≡ withDiagonal i m → set m′ (i * 256 + i) 1 ≡ withDiagonal (i + 1) m
 unfolding withDiagonal
-diagonal-more i m m′ e =
-    ap (λ (l : List ℕ). set l (i * 256 + i) 1) e ∙ ap (λ (n : ℕ). withDiagonal n m) (sym (add-one i))
+diagonal-more i m m′ e = ap (λ (l : List ℕ). set l (i * 256 + i) 1) e ∙ ap (λ (n : ℕ). withDiagonal n m) (sym (add-one i))
 
 -- ---- a row times the matrix
 
@@ -58,11 +57,10 @@ product-more w u m sum i hw e h j l =
 
 pub pivot-more : (y : ℕ → ℕ) (owners : List ℕ) (k : ℕ) → ((j : ℕ) → j < k → getD owners j 0 ≡ 0 → y j ≡ 0)
     → (getD owners k 0 ≡ 0 → y k ≡ 0) → (j : ℕ) → j < k + 1 → getD owners j 0 ≡ 0 → y j ≡ 0
-pivot-more y owners k h e j l o =
-    elim (ℕ-discrete j k) [
-      | yes p ↦ ap y p ∙ e (ap (λ (i : ℕ). getD owners i 0) (sym p) ∙ o)
-      | no q ↦ h j (omega arith) o
-    ]
+pivot-more y owners k h e j l o = elim (ℕ-discrete j k) [
+  | yes p ↦ ap y p ∙ e (ap (λ (i : ℕ). getD owners i 0) (sym p) ∙ o)
+  | no q ↦ h j (omega arith) o
+]
 
 -- ---- the sweep
 
@@ -158,16 +156,15 @@ swept-all w y k scale m m′ hm S = listBelow-is 65536 _ m′ (S .same-length �
   where
     at : (p i j : ℕ) → p ≡ i * 256 + j → j < 256
         → getD m′ p 0 ≡ cond (ltb i w && ltb j w) (sweptEntry (λ j. getD y j 0) k scale m i j) (getD m p 0)
-    at p i j e l =
-        elim (decLt i w) [
-          | yes li ↦ elim (decLt j w) [
-            | yes lj ↦ ap (λ (q : ℕ). getD m′ q 0) e ∙ S .rows i j li lj ∙ sym (simp (lt-ltb i w li, lt-ltb j w lj) refl)
-            | no q ↦
-                ap (λ (q : ℕ). getD m′ q 0) e ∙ S .past i j (omega arith) l ∙ ap (λ (q : ℕ). getD m q 0) (sym e)
-                ∙ sym (simp (le-ltb j w (omega arith), and-false) refl)
-          ]
-          | no q ↦ S .rest p (omega arith) ∙ sym (simp (le-ltb i w (omega arith)) refl)
-        ]
+    at p i j e l = elim (decLt i w) [
+      | yes li ↦ elim (decLt j w) [
+        | yes lj ↦ ap (λ (q : ℕ). getD m′ q 0) e ∙ S .rows i j li lj ∙ sym (simp (lt-ltb i w li, lt-ltb j w lj) refl)
+        | no q ↦
+            ap (λ (q : ℕ). getD m′ q 0) e ∙ S .past i j (omega arith) l ∙ ap (λ (q : ℕ). getD m q 0) (sym e)
+            ∙ sym (simp (le-ltb j w (omega arith), and-false) refl)
+      ]
+      | no q ↦ S .rest p (omega arith) ∙ sym (simp (le-ltb i w (omega arith)) refl)
+    ]
 
 -- ---- the weights
 
@@ -177,16 +174,15 @@ pub weight-more : (m owners weights : List ℕ) (f k : ℕ) → length weights �
     → (v : ℕ) → v < 256 → getD (set weights o (bitXor (getD weights o 0) (entry m f k))) v 0
     ≡ sumBelow (k + 1) (λ k. cond (eqb (getD owners k 0) v) (entry m f k) 0)
 unfolding sumBelow
-weight-more m owners weights f k e h o q v l =
-    elim (ℕ-discrete v o) [
-      | yes p ↦
-          ap (λ (i : ℕ). getD (set weights i (bitXor (getD weights i 0) (entry m f k))) v 0) (sym p)
-          ∙ getD-set-same weights v (bitXor (getD weights v 0) (entry m f k)) 0 (omega arith)
-          ∙ step (entry m f k) (ap (λ (b : Bool). cond b (entry m f k) 0) (eq-eqb (getD owners k 0) v (sym q ∙ sym p)))
-      | no p ↦
-          getD-set-other weights o v (bitXor (getD weights o 0) (entry m f k)) 0 p ∙ sym (xor-zero-r (getD weights v 0))
-          ∙ step 0 (ap (λ (b : Bool). cond b (entry m f k) 0) (ne-eqb (getD owners k 0) v (λ z. p (sym z ∙ sym q))))
-    ]
+weight-more m owners weights f k e h o q v l = elim (ℕ-discrete v o) [
+  | yes p ↦
+      ap (λ (i : ℕ). getD (set weights i (bitXor (getD weights i 0) (entry m f k))) v 0) (sym p)
+      ∙ getD-set-same weights v (bitXor (getD weights v 0) (entry m f k)) 0 (omega arith)
+      ∙ step (entry m f k) (ap (λ (b : Bool). cond b (entry m f k) 0) (eq-eqb (getD owners k 0) v (sym q ∙ sym p)))
+  | no p ↦
+      getD-set-other weights o v (bitXor (getD weights o 0) (entry m f k)) 0 p ∙ sym (xor-zero-r (getD weights v 0))
+      ∙ step 0 (ap (λ (b : Bool). cond b (entry m f k) 0) (ne-eqb (getD owners k 0) v (λ z. p (sym z ∙ sym q))))
+]
   where
     step : (x : ℕ) → cond (eqb (getD owners k 0) v) (entry m f k) 0 ≡ x
         → bitXor (getD weights v 0) x ≡ sumBelow (k + 1) (λ k. cond (eqb (getD owners k 0) v) (entry m f k) 0)

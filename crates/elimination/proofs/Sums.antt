@@ -92,11 +92,10 @@ module _ {F : Type 0} (K : Field F) where
   pub sum-one : (n k : ℕ) (g : ℕ → F) → k < n → ((i : ℕ) → i < n → i ≢ k → g i ≡ 𝟘) → sum K n g ≡ g k
   unfolding sum
   sum-one zero k g l e = absurd (not-suc-le-zero l)
-  sum-one (suc n) k g l e =
-      elim (ℕ-discrete n k) [
-        | yes p ↦ ap₂ _⊕_ (sum-none n g (λ i h. e i (omega arith) (omega arith))) (ap g p) ∙ zero-add (g k)
-        | no q ↦ ap₂ _⊕_ (sum-one n k g (omega arith) (λ i m r. e i (omega arith) r)) (e n (omega arith) q) ∙ add-zero (g k)
-      ]
+  sum-one (suc n) k g l e = elim (ℕ-discrete n k) [
+    | yes p ↦ ap₂ _⊕_ (sum-none n g (λ i h. e i (omega arith) (omega arith))) (ap g p) ∙ zero-add (g k)
+    | no q ↦ ap₂ _⊕_ (sum-one n k g (omega arith) (λ i m r. e i (omega arith) r)) (e n (omega arith) q) ∙ add-zero (g k)
+  ]
 
   pub sum-add : (n : ℕ) (g h : ℕ → F) → sum K n (λ i. g i ⊕ h i) ≡ sum K n g ⊕ sum K n h
   unfolding sum
@@ -109,8 +108,7 @@ module _ {F : Type 0} (K : Field F) where
   sum-mul (suc n) c g = ap (λ (x : F). x ⊕ c ⊗ g n) (sum-mul n c g) ∙ sym (mul-add c (sum K n g) (g n))
 
   pub sum-mul-right : (n : ℕ) (c : F) (g : ℕ → F) → sum K n (λ i. g i ⊗ c) ≡ sum K n g ⊗ c
-  sum-mul-right n c g =
-      sum-cong n (λ i. g i ⊗ c) (λ i. c ⊗ g i) (λ i l. mul-comm (g i) c) ∙ sum-mul n c g ∙ mul-comm c (sum K n g)
+  sum-mul-right n c g = sum-cong n (λ i. g i ⊗ c) (λ i. c ⊗ g i) (λ i l. mul-comm (g i) c) ∙ sum-mul n c g ∙ mul-comm c (sum K n g)
 
   pub sum-swap : (n m : ℕ) (g : ℕ → ℕ → F) → sum K n (λ i. sum K m (λ j. g i j)) ≡ sum K m (λ j. sum K n (λ i. g i j))
   unfolding sum

@@ -30,11 +30,10 @@ use Rattle.elimination.proofs.AddedRow.{row-left, row-taken, left-withi
 use Rattle.elimination.proofs.Reductions.{identity-at}
 
 pub start-apart : (w : ℕ) → w ≤ 256 → Apart w (withDiagonal 256 (replicate 65536 0))
-start-apart w h =
-    record {
-      right = λ i j li lj l. identity-at i j (omega arith) l ∙ off i j (λ e. omega arith);
-      below = λ i j li l lj. identity-at i j l (omega arith) ∙ off i j (λ e. omega arith);
-    }
+start-apart w h = record {
+  right = λ i j li lj l. identity-at i j (omega arith) l ∙ off i j (λ e. omega arith);
+  below = λ i j li l lj. identity-at i j l (omega arith) ∙ off i j (λ e. omega arith);
+}
   where
     off : (i j : ℕ) → (i ≡ j → ⊥) → _≡_ {A = ℕ} (cond (eqb i j) 1 0) 0
     off i j q = ap (λ (b : Bool). cond b 1 0) (ne-eqb i j q)
@@ -106,17 +105,16 @@ module _ (w : ℕ) (hw : w ≤ 256) (u m : List ℕ) (A : Apart w m) (Z : KeepsT
       -- an entry outside stays
       stays : (scale i j : ℕ) → i < 256 → j < 256 → (i < w → j < w → ⊥) → sweptEntry y k scale m i j ≡ entry m i j
       unfolding sweptEntry
-      stays scale i j li lj q =
-          elim (decLt i w) [
-            | yes b ↦
-                ap (λ (x : ℕ). bitXor (entry m i j) x)
-                (ap (product (product scale (entry m i k))) (y-past j (let n = q b in omega arith) lj) ∙ product-zero-r (product scale (entry m i k)))
-                ∙ xor-zero-r (entry m i j)
-            | no n ↦
-                ap (λ (x : ℕ). bitXor (entry m i j) (product x (y j)))
-                (ap (product scale) (A .below i k (omega arith) li l) ∙ product-zero-r scale)
-                ∙ ap (λ (x : ℕ). bitXor (entry m i j) x) (product-zero-l (y j)) ∙ xor-zero-r (entry m i j)
-          ]
+      stays scale i j li lj q = elim (decLt i w) [
+        | yes b ↦
+            ap (λ (x : ℕ). bitXor (entry m i j) x)
+            (ap (product (product scale (entry m i k))) (y-past j (let n = q b in omega arith) lj) ∙ product-zero-r (product scale (entry m i k)))
+            ∙ xor-zero-r (entry m i j)
+        | no n ↦
+            ap (λ (x : ℕ). bitXor (entry m i j) (product x (y j)))
+            (ap (product scale) (A .below i k (omega arith) li l) ∙ product-zero-r scale)
+            ∙ ap (λ (x : ℕ). bitXor (entry m i j) x) (product-zero-l (y j)) ∙ xor-zero-r (entry m i j)
+      ]
 
       swept-within : (scale : ℕ) → sweptWithin w y k scale m ≡ swept y k scale m
       unfolding sweptWithin swept
@@ -124,25 +122,23 @@ module _ (w : ℕ) (hw : w ≤ 256) (u m : List ℕ) (A : Apart w m) (Z : KeepsT
         where
           each : (p i j : ℕ) → p ≡ i * 256 + j → i < 256 → j < 256
               → cond (ltb i w && ltb j w) (sweptEntry y k scale m i j) (getD m p 0) ≡ sweptEntry y k scale m i j
-          each p i j e li lj =
-              elim (decLt i w) [
-                | yes bi ↦ elim (decLt j w) [
-                  | yes bj ↦ simp (lt-ltb i w bi, lt-ltb j w bj) refl
-                  | no q ↦
-                      simp (le-ltb j w (omega arith), and-false)
-                      (ap (λ (n : ℕ). getD m n 0) e ∙ sym (stays scale i j li lj (λ _ b. q b)))
-                ]
-                | no q ↦
-                    simp (le-ltb i w (omega arith)) (ap (λ (n : ℕ). getD m n 0) e ∙ sym (stays scale i j li lj (λ b _. q b)))
-              ]
+          each p i j e li lj = elim (decLt i w) [
+            | yes bi ↦ elim (decLt j w) [
+              | yes bj ↦ simp (lt-ltb i w bi, lt-ltb j w bj) refl
+              | no q ↦
+                  simp (le-ltb j w (omega arith), and-false)
+                  (ap (λ (n : ℕ). getD m n 0) e ∙ sym (stays scale i j li lj (λ _ b. q b)))
+            ]
+            | no q ↦
+                simp (le-ltb i w (omega arith)) (ap (λ (n : ℕ). getD m n 0) e ∙ sym (stays scale i j li lj (λ b _. q b)))
+          ]
 
       swept-apart : (scale : ℕ) → Apart w (swept y k scale m)
       unfolding swept
-      swept-apart scale =
-          record {
-            right = λ i j li lw lj. at i j (omega arith) lj (λ _ b. omega arith) ∙ A .right i j li lw lj;
-            below = λ i j lw li lj. at i j li (omega arith) (λ b _. omega arith) ∙ A .below i j lw li lj;
-          }
+      swept-apart scale = record {
+        right = λ i j li lw lj. at i j (omega arith) lj (λ _ b. omega arith) ∙ A .right i j li lw lj;
+        below = λ i j lw li lj. at i j li (omega arith) (λ b _. omega arith) ∙ A .below i j lw li lj;
+      }
         where
           at : (i j : ℕ) → i < 256 → j < 256 → (i < w → j < w → ⊥) → entry (swept y k scale m) i j ≡ entry m i j
           at i j li lj q =
@@ -154,33 +150,30 @@ module _ (w : ℕ) (hw : w ≤ 256) (u m : List ℕ) (A : Apart w m) (Z : KeepsT
 
     pub added-within : (number : ℕ) → rowAddedWithin w u number m owners ≡ rowAdded u number m owners
     unfolding columnTakenWithin columnTaken y
-    added-within number =
-        elim (decLt k w) [
-          | yes l ↦
-              taken-within w u number m owners l
-              ∙ ap (λ (s : List ℕ). (s, set owners k number))
-              (swept-same w _ (y l) k (inverse (rowProductWithin w u m k)) m
-              (λ j b. ap (λ (x : ℕ). bitXor x (cond (eqb k j) 1 0)) (sym (product-within j)))
-              ∙ ap (λ (x : ℕ). sweptWithin w (y l) k (inverse x) m) (sym (product-within k)) ∙ swept-within l (inverse (rowProduct u m k)))
-              ∙ ap (columnTaken u number m owners) (pivot-within l)
-              ∙ sym (row-taken u number m owners (subst (λ (n : ℕ). n < 256) (pivot-within l) (omega arith)))
-          | no q ↦ left-within w u number m owners (omega arith) ∙ sym (row-left u number m owners (no-pivot (omega arith)))
-        ]
+    added-within number = elim (decLt k w) [
+      | yes l ↦
+          taken-within w u number m owners l
+          ∙ ap (λ (s : List ℕ). (s, set owners k number))
+          (swept-same w _ (y l) k (inverse (rowProductWithin w u m k)) m
+          (λ j b. ap (λ (x : ℕ). bitXor x (cond (eqb k j) 1 0)) (sym (product-within j)))
+          ∙ ap (λ (x : ℕ). sweptWithin w (y l) k (inverse x) m) (sym (product-within k)) ∙ swept-within l (inverse (rowProduct u m k)))
+          ∙ ap (columnTaken u number m owners) (pivot-within l)
+          ∙ sym (row-taken u number m owners (subst (λ (n : ℕ). n < 256) (pivot-within l) (omega arith)))
+      | no q ↦ left-within w u number m owners (omega arith) ∙ sym (row-left u number m owners (no-pivot (omega arith)))
+    ]
 
     pub added-apart : (number : ℕ) → Apart w (rowAdded u number m owners .0)
     unfolding columnTaken y
-    added-apart number =
-        elim (decLt k w) [
-          | yes l ↦
-              let e = ap (columnTaken u number m owners) (pivot-within l)
-              ∙ sym (row-taken u number m owners (subst (λ (n : ℕ). n < 256) (pivot-within l) (omega arith))) in
-              subst (λ (s : List ℕ × List ℕ). Apart w (s .0)) e (swept-apart l (inverse (rowProduct u m k)))
-          | no q ↦ subst (λ (s : List ℕ × List ℕ). Apart w (s .0)) (sym (row-left u number m owners (no-pivot (omega arith)))) A
-        ]
+    added-apart number = elim (decLt k w) [
+      | yes l ↦
+          let e = ap (columnTaken u number m owners) (pivot-within l)
+          ∙ sym (row-taken u number m owners (subst (λ (n : ℕ). n < 256) (pivot-within l) (omega arith))) in
+          subst (λ (s : List ℕ × List ℕ). Apart w (s .0)) e (swept-apart l (inverse (rowProduct u m k)))
+      | no q ↦ subst (λ (s : List ℕ × List ℕ). Apart w (s .0)) (sym (row-left u number m owners (no-pivot (omega arith)))) A
+    ]
 
 pub in-width : AddedWithin
-in-width =
-    record {
-      at-first = start-apart;
-      added = λ w h u m owners apart keeps number. (added-within w h u m apart keeps owners number, added-apart w h u m apart keeps owners number);
-    }
+in-width = record {
+  at-first = start-apart;
+  added = λ w h u m owners apart keeps number. (added-within w h u m apart keeps owners number, added-apart w h u m apart keeps owners number);
+}

@@ -34,8 +34,7 @@ below false x y m hx hy = hy
 inverseBelow-lt : (n a m : ℕ) → n ≤ m → 0 < m → inverseBelow n a < m
 unfolding inverseBelow
 inverseBelow-lt zero a m h pos = pos
-inverseBelow-lt (suc n) a m h pos =
-    below (eqb (product a n) 1) n (inverseBelow n a) m h (inverseBelow-lt n a m (omega arith) pos)
+inverseBelow-lt (suc n) a m h pos = below (eqb (product a n) 1) n (inverseBelow n a) m h (inverseBelow-lt n a m (omega arith) pos)
 
 pub inverse-byte : (a : ℕ) → inverse a < 256
 unfolding inverse
@@ -67,8 +66,7 @@ unfolding inverse
 inverse-unique a b ha hb e = found 256 a b (omega arith) ha hb e
 
 power-254 : (a : ℕ) → a < 256 → 0 < a → product a (power a 254) ≡ 1
-power-254 a h pos =
-    ap (λ (x : ℕ). product x (power a 254)) (sym (power-one a h)) ∙ sym (power-add a 1 254 h) ∙ power-255 a h pos
+power-254 a h pos = ap (λ (x : ℕ). product x (power a 254)) (sym (power-one a h)) ∙ sym (power-add a 1 254 h) ∙ power-255 a h pos
 
 pub inverse-power : (a : ℕ) → a < 256 → 0 < a → inverse a ≡ power a 254
 inverse-power a h pos = inverse-unique a (power a 254) h (power-byte a 254 h) (power-254 a h pos)
@@ -89,11 +87,10 @@ inverse-answered = record { of-zero = refl; of-others = λ a h. simp (ne-eqb a 0
 -- ---- products and powers of bytes other than 0
 
 pub product-positive : (a b : ℕ) → a < 256 → b < 256 → 0 < a → 0 < b → 0 < product a b
-product-positive a b ha hb pa pb =
-    elim (ℕ-discrete (product a b) 0) [
-      | yes z ↦ let back : b ≡ 0 = sym (product-one-l b hb) ∙ ap (λ (x : ℕ). product x b) (sym (inverse-left a ha pa)) ∙ product-assoc (inverse a) a b (inverse-byte a) ha hb ∙ ap (product (inverse a)) z ∙ product-zero-r (inverse a) in absurd (omega arith)
-      | no q ↦ omega (arith, q)
-    ]
+product-positive a b ha hb pa pb = elim (ℕ-discrete (product a b) 0) [
+  | yes z ↦ let back : b ≡ 0 = sym (product-one-l b hb) ∙ ap (λ (x : ℕ). product x b) (sym (inverse-left a ha pa)) ∙ product-assoc (inverse a) a b (inverse-byte a) ha hb ∙ ap (product (inverse a)) z ∙ product-zero-r (inverse a) in absurd (omega arith)
+  | no q ↦ omega (arith, q)
+]
 
 pub power-positive : (a n : ℕ) → a < 256 → 0 < a → 0 < power a n
 unfolding power

@@ -21,8 +21,7 @@ use Rattle.computed_tests.proofs.Tests.{bit-cases, Function, EqualBelow, testBe
 
 module _ (P : ℕ → Type 0) (none : P 0) (both : (a b : ℕ) → P a → P b → P (bitXor a b)) where
   top : (n d : ℕ) → d < 2 → P (2 ^ n) → P (d * 2 ^ n)
-  top n d h p =
-      bit-cases (λ (x : ℕ). P (x * 2 ^ n)) (subst P (sym (zero-mul (2 ^ n))) none) (subst P (sym (one-mul (2 ^ n))) p) d h
+  top n d h p = bit-cases (λ (x : ℕ). P (x * 2 ^ n)) (subst P (sym (zero-mul (2 ^ n))) none) (subst P (sym (one-mul (2 ^ n))) p) d h
 
   pub sums : (n : ℕ) → ((i : ℕ) → i < n → P (2 ^ i)) → (a : ℕ) → a < 2 ^ n → P a
   sums zero powers a h = subst P (sym (lt-one h)) none
@@ -54,8 +53,7 @@ equal-none (suc n) f g p q = λ a h. equal-none n (f a) (g a) (p a) (q a)
 equal-sums : (n : ℕ) (f f₁ f₂ g g₁ g₂ : Function n) → Sum n f f₁ f₂ → Sum n g g₁ g₂
     → EqualBelow 256 n f₁ g₁ → EqualBelow 256 n f₂ g₂ → EqualBelow 256 n f g
 equal-sums zero f f₁ f₂ g g₁ g₂ p q e₁ e₂ = p ∙ ap₂ bitXor e₁ e₂ ∙ sym q
-equal-sums (suc n) f f₁ f₂ g g₁ g₂ p q e₁ e₂ =
-    λ a h. equal-sums n (f a) (f₁ a) (f₂ a) (g a) (g₁ a) (g₂ a) (p a) (q a) (e₁ a h) (e₂ a h)
+equal-sums (suc n) f f₁ f₂ g g₁ g₂ p q e₁ e₂ = λ a h. equal-sums n (f a) (f₁ a) (f₂ a) (g a) (g₁ a) (g₂ a) (p a) (q a) (e₁ a h) (e₂ a h)
 
 extend : (n : ℕ) (f g : Function n) → Linear n f → Linear n g
     → EqualBelow 8 n (atPowers n f) (atPowers n g) → EqualBelow 256 n f g

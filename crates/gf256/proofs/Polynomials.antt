@@ -71,8 +71,7 @@ bit-times-lt x a k hx ha =
     (subst (λ (y : ℕ). y < 2 ^ k) (sym (one-mul a)) ha) x hx
 
 coeff-xor-times : (p q i m : ℕ) → coeff (bitXor p q) i * m ≡ bitXor (coeff p i * m) (coeff q i * m)
-coeff-xor-times p q i m =
-    ap (λ (x : ℕ). x * m) (coeff-xor p q i) ∙ bits-times (coeff p i) (coeff q i) m (coeff-bit p i) (coeff-bit q i)
+coeff-xor-times p q i m = ap (λ (x : ℕ). x * m) (coeff-xor p q i) ∙ bits-times (coeff p i) (coeff q i) m (coeff-bit p i) (coeff-bit q i)
 
 -- ---- sums
 
@@ -80,14 +79,12 @@ pub sumBelow-xor : (n : ℕ) (f g h : ℕ → ℕ) → ((i : ℕ) → f i ≡ bi
     → sumBelow n f ≡ bitXor (sumBelow n g) (sumBelow n h)
 unfolding sumBelow
 sumBelow-xor zero f g h e = refl
-sumBelow-xor (suc n) f g h e =
-    ap₂ bitXor (sumBelow-xor n f g h e) (e n) ∙ xor-swap (sumBelow n g) (sumBelow n h) (g n) (h n)
+sumBelow-xor (suc n) f g h e = ap₂ bitXor (sumBelow-xor n f g h e) (e n) ∙ xor-swap (sumBelow n g) (sumBelow n h) (g n) (h n)
 
 pub sumBelow-lt : (n k : ℕ) (f : ℕ → ℕ) → ((i : ℕ) → i < n → f i < 2 ^ k) → sumBelow n f < 2 ^ k
 unfolding sumBelow
 sumBelow-lt zero k f h = pow-pos k
-sumBelow-lt (suc n) k f h =
-    xor-lt k (sumBelow n f) (f n) (sumBelow-lt n k f (λ i l. h i (omega arith))) (h n (omega arith))
+sumBelow-lt (suc n) k f h = xor-lt k (sumBelow n f) (f n) (sumBelow-lt n k f (λ i l. h i (omega arith))) (h n (omega arith))
 
 pub sumBelow-same : (n : ℕ) (f g : ℕ → ℕ) → ((i : ℕ) → i < n → f i ≡ g i) → sumBelow n f ≡ sumBelow n g
 unfolding sumBelow

@@ -29,13 +29,11 @@ use Rattle.gf256.proofs.Linear.{Linear, SameAtPowers, agree}
 
 pub product-xor-l : (a b c : ℕ) → product (bitXor a b) c ≡ bitXor (product a c) (product b c)
 unfolding product
-product-xor-l a b c =
-    ap (remainder 7) (polyProduct-xor-l 8 a b c) ∙ remainder-xor 7 (polyProduct 8 a c) (polyProduct 8 b c)
+product-xor-l a b c = ap (remainder 7) (polyProduct-xor-l 8 a b c) ∙ remainder-xor 7 (polyProduct 8 a c) (polyProduct 8 b c)
 
 pub product-xor-r : (a b c : ℕ) → product a (bitXor b c) ≡ bitXor (product a b) (product a c)
 unfolding product
-product-xor-r a b c =
-    ap (remainder 7) (polyProduct-xor-r 8 a b c) ∙ remainder-xor 7 (polyProduct 8 a b) (polyProduct 8 a c)
+product-xor-r a b c = ap (remainder 7) (polyProduct-xor-r 8 a b c) ∙ remainder-xor 7 (polyProduct 8 a b) (polyProduct 8 a c)
 
 pub product-zero-l : (a : ℕ) → product 0 a ≡ 0
 product-zero-l a = product-xor-l 0 0 a ∙ xor-self (product 0 a)

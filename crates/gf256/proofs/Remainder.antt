@@ -117,8 +117,7 @@ of-zero r x =
     sym e ∙ small-multiple (x .width) (x .quotient) (subst (λ (y : ℕ). y < 256) (sym e) (x .byte))
 
 remainder-only : (p r s : ℕ) → IsRemainder p r → IsRemainder p s → r ≡ s
-remainder-only p r s x y =
-    xor-equal r s (of-zero (bitXor r s) (subst (λ (z : ℕ). IsRemainder z (bitXor r s)) (xor-self p) (of-sum x y)))
+remainder-only p r s x y = xor-equal r s (of-zero (bitXor r s) (subst (λ (z : ℕ). IsRemainder z (bitXor r s)) (xor-self p) (of-sum x y)))
 
 -- ---- the product of bytes
 

@@ -91,8 +91,7 @@ power-255-squared a h =
     ∙ ap (λ (x : ℕ). product x (power a 254)) (power-256 a h ∙ sym (power-one a h)) ∙ sym (power-add a 1 254 h)
 
 power-255-zero : (a : ℕ) → a < 256 → power a 255 ≡ 0 → a ≡ 0
-power-255-zero a h e =
-    sym (power-256 a h) ∙ power-add a 1 255 h ∙ ap (product (power a 1)) e ∙ product-zero-r (power a 1)
+power-255-zero a h e = sym (power-256 a h) ∙ power-add a 1 255 h ∙ ap (product (power a 1)) e ∙ product-zero-r (power a 1)
 
 -- the power 255 is its own square, so 0 or 1; it is 0 only where a is
 pub power-255 : (a : ℕ) → a < 256 → 0 < a → power a 255 ≡ 1

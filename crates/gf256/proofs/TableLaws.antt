@@ -62,8 +62,7 @@ power-table-at i h = listBelow-at 263 (λ i. power 2 i) i h
 -- the one test of a table of exponents: that of 0 is 255; that of any other byte is below 255, is 0 only for 1, and goes up by one, modulo
 -- 255, with twice the byte
 unfoldable pub countsAt : List ℕ → ℕ → Bool
-countsAt es x =
-    ltb (getD es x 0) 255 && (leb x (1 + 255 * getD es x 0) && eqb (getD es (product 2 x) 0) ((getD es x 0 + 1) % 255))
+countsAt es x = ltb (getD es x 0) 255 && (leb x (1 + 255 * getD es x 0) && eqb (getD es (product 2 x) 0) ((getD es x 0 + 1) % 255))
 
 abbrev pub counts : List ℕ → Bool
 counts es = eqb (getD es 0 0) 255 && allBelow 255 (λ x. countsAt es (suc x))
@@ -125,13 +124,12 @@ module _ (es : List ℕ) (t : counts es ≡ true) where
       ∙ ap (λ (w : ℕ). product w x) (sym (power-add 2 e k (lit< tt)) ∙ ap (power 2) sum ∙ power-255 2 (lit< tt) (lit< tt)) ∙ product-one-l x h
 
   pub exponents-are : length es ≡ 256 → IsExponents es
-  exponents-are full =
-      record {
-        full = full;
-        of-zero = parts .0;
-        below = λ x pos h. entry-at x pos h .below;
-        gives = gives;
-      }
+  exponents-are full = record {
+    full = full;
+    of-zero = parts .0;
+    below = λ x pos h. entry-at x pos h .below;
+    gives = gives;
+  }
 
 -- ---- the only table
 

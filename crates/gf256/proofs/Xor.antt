@@ -26,8 +26,7 @@ differ-assoc : (x : ℕ) → x < 2 → (y : ℕ) → y < 2 → (z : ℕ) → z <
 differ-assoc = equal-below 2 3 (λ x y z. differ (differ x y) z) (λ x y z. differ x (differ y z)) refl
 
 differ-lt : (a b : ℕ) → differ (a % 2) (b % 2) < 2
-differ-lt a b =
-    subst (λ (x : ℕ). x < 2) (sym (differ-bit (a % 2) (bit a) (b % 2) (bit b))) (bit (differ (a % 2) (b % 2)))
+differ-lt a b = subst (λ (x : ℕ). x < 2) (sym (differ-bit (a % 2) (bit a) (b % 2) (bit b))) (bit (differ (a % 2) (b % 2)))
 
 -- ---- grouping
 

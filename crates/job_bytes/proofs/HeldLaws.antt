@@ -108,13 +108,12 @@ whole-size head at named e =
 ended-kept : (head : List ℕ) (t : Totals) (h : Md5) → length head ≡ 56 → t .greatest ≤ 16777216 → fileSizeOf head ≤ 16777216 → HeldMd5 h
     → Kept (entryEnded head t h)
 unfolding entryEnded addEntry
-ended-kept head t h size g f k =
-    record {
-      head-size = size;
-      low-fits = omega arith;
-      greatest-most = entry-greatest (isCounted (statusOf head)) (t .greatest) (fileSizeOf head) g f;
-      hash-held = entry-hash (isSaved (statusOf head)) h (md5Of head) k;
-    }
+ended-kept head t h size g f k = record {
+  head-size = size;
+  low-fits = omega arith;
+  greatest-most = entry-greatest (isCounted (statusOf head)) (t .greatest) (fileSizeOf head) g f;
+  hash-held = entry-hash (isSaved (statusOf head)) h (md5Of head) k;
+}
 
 kept-step : (sc : Scan) (b : ℕ) → b < 256 → Kept sc → Kept (stepOf sc b)
 unfolding stepOf

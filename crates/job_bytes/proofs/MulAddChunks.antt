@@ -93,24 +93,23 @@ end-taken b u is e =
 -- ---- over lists
 
 follows : Follows mulAddByteSteps mulAddByteWhole Goes isMulAdd
-follows =
-    record {
-      started = λ a. let e = started-whole a in (ap (λ (r : ℕ × List ℕ). (r .0, [])) e, ap (λ (r : ℕ × List ℕ). r .1) e);
-      pushed = λ a m b p g.
-          let e = pushed-going a m b (p .fragment) (p .buffer) (p .short) g in
-          (ap (λ (r : ℕ × List ℕ × List ℕ). (r .0, r .2)) e, ap (λ (r : ℕ × List ℕ × List ℕ). r .1) e);
-      ended = λ a m b u g.
-          let e = ended-going a m b g in (
-            ap (λ (r : ℕ × List ℕ). (r .0, [])) e,
-            ap (λ (r : ℕ × List ℕ). isMulAdd (r .1)) e ∙ loaded-ended (a .weight) (positionOf (length m)) (a .byte) (omega arith),
-          );
-      push-taken = push-taken;
-      end-taken = end-taken;
-      push-refused = λ b p o. ap (λ (r : ℕ × List ℕ × List ℕ). ((r .0, r .2), r .1)) (pushed-on-others b o (p .fragment) (p .buffer));
-      end-refused = λ b u o. ap (λ (r : ℕ × List ℕ). ((r .0, []), r .1)) (ended-on-others b o);
-      push-20 = λ p. refl;
-      end-20 = λ u. refl;
-    }
+follows = record {
+  started = λ a. let e = started-whole a in (ap (λ (r : ℕ × List ℕ). (r .0, [])) e, ap (λ (r : ℕ × List ℕ). r .1) e);
+  pushed = λ a m b p g.
+      let e = pushed-going a m b (p .fragment) (p .buffer) (p .short) g in
+      (ap (λ (r : ℕ × List ℕ × List ℕ). (r .0, r .2)) e, ap (λ (r : ℕ × List ℕ × List ℕ). r .1) e);
+  ended = λ a m b u g.
+      let e = ended-going a m b g in (
+        ap (λ (r : ℕ × List ℕ). (r .0, [])) e,
+        ap (λ (r : ℕ × List ℕ). isMulAdd (r .1)) e ∙ loaded-ended (a .weight) (positionOf (length m)) (a .byte) (omega arith),
+      );
+  push-taken = push-taken;
+  end-taken = end-taken;
+  push-refused = λ b p o. ap (λ (r : ℕ × List ℕ × List ℕ). ((r .0, r .2), r .1)) (pushed-on-others b o (p .fragment) (p .buffer));
+  end-refused = λ b u o. ap (λ (r : ℕ × List ℕ). ((r .0, []), r .1)) (ended-on-others b o);
+  push-20 = λ p. refl;
+  end-20 = λ u. refl;
+}
 
 pub mul-add-bytes-chunked : MulAddBytesChunked
 mul-add-bytes-chunked = chunked mulAddByteSteps mulAddByteWhole Goes isMulAdd follows

@@ -23,13 +23,12 @@ use Rattle.job_bytes.specs.Reads.{wordsBytes, md5Bytes, scanBytes, readJ
 use Rattle.job_bytes.proofs.ReadLaws.{Sized, length-words, length-md5, length-scan, length-read, words-read, md5-read, scan-read, read-read, read-of}
 
 pub sized : (j : RunningRead) → HeldRead j → Sized j
-sized j h =
-    record {
-      header = h .header-size;
-      control = h .control-held .tail-size;
-      head = h .list-held .head-size;
-      hash = h .list-held .hash-held .tail-size;
-    }
+sized j h = record {
+  header = h .header-size;
+  control = h .control-held .tail-size;
+  head = h .list-held .head-size;
+  hash = h .list-held .hash-held .tail-size;
+}
 
 -- ---- parts in a row
 

@@ -170,26 +170,25 @@ abbrev Goes : ReadStart → List ℕ → List ℕ → Type 0
 Goes a m b = (b ≡ bytesAfter m) × Bytes m
 
 follows : Follows readByteSteps readByteWhole Goes opened
-follows =
-    record {
-      started = λ a. let e = started-after a in (ap (λ (r : ℕ × List ℕ). (bare (r .0), [])) e, (ap (λ (r : ℕ × List ℕ). r .1) e, none));
-      pushed = λ a m b p g.
-          let e = ap (λ (b : List ℕ). readPushed b (p .bytes)) (g .0) ∙ pushed-after m (p .bytes) (g .1) (p .lendable .0) in (
-            ap (λ (r : ℕ × List ℕ). (bare (r .0), [])) e,
-            (ap (λ (r : ℕ × List ℕ). r .1) e, bytes-append m (p .bytes) (g .1) (p .lendable .0)),
-          );
-      ended = λ a m b out g.
-          let e = ap (λ (b : List ℕ). readEnded b out) (g .0) ∙ ended-after m (g .1) out in (
-            ap (λ (r : Refusal × List ℕ × List ℕ). (r .0, r .2)) e,
-            ap (λ (r : Refusal × List ℕ × List ℕ). opened (r .1)) e ∙ over-after m (g .1),
-          );
-      push-taken = λ b p o. push-taken b o (p .bytes);
-      end-taken = λ b out o. end-taken b o out;
-      push-refused = λ b p o. ap (λ (r : ℕ × List ℕ). ((bare (r .0), []), r .1)) (pushed-shut b o (p .bytes));
-      end-refused = λ b out o. ap (λ (r : Refusal × List ℕ × List ℕ). ((r .0, r .2), r .1)) (ended-shut b o out);
-      push-20 = λ p. refl;
-      end-20 = λ out. refl;
-    }
+follows = record {
+  started = λ a. let e = started-after a in (ap (λ (r : ℕ × List ℕ). (bare (r .0), [])) e, (ap (λ (r : ℕ × List ℕ). r .1) e, none));
+  pushed = λ a m b p g.
+      let e = ap (λ (b : List ℕ). readPushed b (p .bytes)) (g .0) ∙ pushed-after m (p .bytes) (g .1) (p .lendable .0) in (
+        ap (λ (r : ℕ × List ℕ). (bare (r .0), [])) e,
+        (ap (λ (r : ℕ × List ℕ). r .1) e, bytes-append m (p .bytes) (g .1) (p .lendable .0)),
+      );
+  ended = λ a m b out g.
+      let e = ap (λ (b : List ℕ). readEnded b out) (g .0) ∙ ended-after m (g .1) out in (
+        ap (λ (r : Refusal × List ℕ × List ℕ). (r .0, r .2)) e,
+        ap (λ (r : Refusal × List ℕ × List ℕ). opened (r .1)) e ∙ over-after m (g .1),
+      );
+  push-taken = λ b p o. push-taken b o (p .bytes);
+  end-taken = λ b out o. end-taken b o out;
+  push-refused = λ b p o. ap (λ (r : ℕ × List ℕ). ((bare (r .0), []), r .1)) (pushed-shut b o (p .bytes));
+  end-refused = λ b out o. ap (λ (r : Refusal × List ℕ × List ℕ). ((r .0, r .2), r .1)) (ended-shut b o out);
+  push-20 = λ p. refl;
+  end-20 = λ out. refl;
+}
 
 pub read-bytes-chunked : ReadBytesChunked
 read-bytes-chunked = chunked readByteSteps readByteWhole Goes opened follows

@@ -191,8 +191,7 @@ triple a b c = cc
 module _ (b : List ℕ) {j : RunningRead} where
   pub pushed-by : (bs : List ℕ) {p : Pushed} {r : ℕ × List ℕ} → j ≡ readJobOf b → p ≡ pushAnswer j bs → r ≡ readStored (p .number) (p .next) b
       → r ≡ readPushed b bs
-  pushed-by bs e f g =
-      g ∙ ap (λ (p : Pushed). readStored (p .number) (p .next) b) (f ∙ ap (λ (j : RunningRead). pushAnswer j bs) e)
+  pushed-by bs e f g = g ∙ ap (λ (p : Pushed). readStored (p .number) (p .next) b) (f ∙ ap (λ (j : RunningRead). pushAnswer j bs) e)
 
   pub ended-by : (out : List ℕ) {q : Ended} {n m : ℕ} {r : Refusal} {room after : List ℕ} → j ≡ readJobOf b → q ≡ endAnswer j
       → (r, room) ≡ readInto (q .reading) out → n ≡ jobNumber (r .number) → (m, after) ≡ readStored n (q .next) b → (r, after, room) ≡ readEnded b out

@@ -74,15 +74,14 @@ module _ {S A P E R : Type 0} (k : Steps S A P E R) (w : Whole A P E R) (Goes : 
       by false o = shut o
 
   pub chunked : Chunked k w
-  chunked =
-      record {
-        cut-anyhow = λ a ps e. f .ended a _ _ e (pushes-follow a [] (k .starts a .1) ps (f .started a .1)) .0;
-        every-call =
-            λ s a cs.
-            ap₂ (λ (r : R) (rs : List R). r ∷ rs) (f .started a .0) (answers-follow (going a []) (k .starts a .1) (f .started a .1) cs);
-        kept-by-push = λ s p e. by-test s (λ o. absurd (f .push-taken s p o e)) (f .push-refused s p);
-        kept-by-end = λ s x e. by-test s (λ o. absurd (f .end-taken s x o e)) (f .end-refused s x);
-      }
+  chunked = record {
+    cut-anyhow = λ a ps e. f .ended a _ _ e (pushes-follow a [] (k .starts a .1) ps (f .started a .1)) .0;
+    every-call =
+        λ s a cs.
+        ap₂ (λ (r : R) (rs : List R). r ∷ rs) (f .started a .0) (answers-follow (going a []) (k .starts a .1) (f .started a .1) cs);
+    kept-by-push = λ s p e. by-test s (λ o. absurd (f .push-taken s p o e)) (f .push-refused s p);
+    kept-by-end = λ s x e. by-test s (λ o. absurd (f .end-taken s x o e)) (f .end-refused s x);
+  }
 
   module _ {C : Type 0} (Held : S → Type 0) (counts : S → C) where
     -- of one call with the number n
@@ -94,17 +93,16 @@ module _ {S A P E R : Type 0} (k : Steps S A P E R) (w : Whole A P E R) (Goes : 
 
     pub exactly-20 : ((s : S) → Held s → isOpen s ≡ true → Given k w counts s) → ((s : S) → Held s → Given k w counts s → isOpen s ≡ true)
         → Exactly20 k w Held counts
-    exactly-20 given opened =
-        record {
-          pushed =
-              λ s h p.
-              exactly s (w .number (k .pushes s p .0)) (given s h) (opened s h) (f .push-taken s p)
-              (λ o. ap (λ (q : R × S). w .number (q .0)) (f .push-refused s p o) ∙ f .push-20 p);
-          ended =
-              λ s h e.
-              exactly s (w .number (k .ends s e .0)) (given s h) (opened s h) (f .end-taken s e)
-              (λ o. ap (λ (q : R × S). w .number (q .0)) (f .end-refused s e o) ∙ f .end-20 e);
-        }
+    exactly-20 given opened = record {
+      pushed =
+          λ s h p.
+          exactly s (w .number (k .pushes s p .0)) (given s h) (opened s h) (f .push-taken s p)
+          (λ o. ap (λ (q : R × S). w .number (q .0)) (f .push-refused s p o) ∙ f .push-20 p);
+      ended =
+          λ s h e.
+          exactly s (w .number (k .ends s e .0)) (given s h) (opened s h) (f .end-taken s e)
+          (λ o. ap (λ (q : R × S). w .number (q .0)) (f .end-refused s e o) ∙ f .end-20 e);
+    }
 
 -- ---- pushes of one byte each
 

@@ -67,21 +67,20 @@ record HeadOf (hd p : List ℕ) : Type 0 where
   front : take (length p) hd ≡ take 56 p
 
 head-step : {hd p : List ℕ} (b : ℕ) → HeadOf hd p → HeadOf (set hd (length p) b) (snoc p b)
-head-step {hd} {p} b h =
-    record {
-      size = length-set hd (length p) b ∙ h .size;
-      front = elim (decLt (length p) 56) [
-        | yes before ↦
-            let n : length (snoc p b) ≡ suc (length p) = omega (arith, length-snoc p b) in
-            ap (λ (k : ℕ). take k (set hd (length p) b)) n ∙ take-suc-set hd (length p) b (omega (arith, h .size))
-            ∙ ap (λ (l : List ℕ). snoc l b) (h .front ∙ take-all 56 p (omega arith)) ∙ sym (take-all 56 (snoc p b) (omega arith))
-        | no past ↦
-            ap (take (length (snoc p b))) (set-out hd (length p) b (omega (arith, h .size)))
-            ∙ take-all (length (snoc p b)) hd (omega (arith, h .size, length-snoc p b))
-            ∙ sym (take-all (length p) hd (omega (arith, h .size))) ∙ h .front
-            ∙ sym (take-append-le 56 p (b ∷ []) (omega arith))
-      ];
-    }
+head-step {hd} {p} b h = record {
+  size = length-set hd (length p) b ∙ h .size;
+  front = elim (decLt (length p) 56) [
+    | yes before ↦
+        let n : length (snoc p b) ≡ suc (length p) = omega (arith, length-snoc p b) in
+        ap (λ (k : ℕ). take k (set hd (length p) b)) n ∙ take-suc-set hd (length p) b (omega (arith, h .size))
+        ∙ ap (λ (l : List ℕ). snoc l b) (h .front ∙ take-all 56 p (omega arith)) ∙ sym (take-all 56 (snoc p b) (omega arith))
+    | no past ↦
+        ap (take (length (snoc p b))) (set-out hd (length p) b (omega (arith, h .size)))
+        ∙ take-all (length (snoc p b)) hd (omega (arith, h .size, length-snoc p b))
+        ∙ sym (take-all (length p) hd (omega (arith, h .size))) ∙ h .front
+        ∙ sym (take-append-le 56 p (b ∷ []) (omega arith))
+  ];
+}
 
 head-all : {hd p : List ℕ} → HeadOf hd p → 56 ≤ length p → hd ≡ take 56 p
 head-all {hd} {p} h past = sym (take-all (length p) hd (omega (arith, h .size))) ∙ h .front

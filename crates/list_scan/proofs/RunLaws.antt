@@ -83,13 +83,12 @@ module _ (hd : List ℕ) (at low : ℕ) (named : NameSoFar) (l : List ℕ) (some
   -- a single byte
   run-byte : {w : NameSoFar} → w ≡ nameByte named at low (getD l 0 0) → IsRunOf 1 w
   unfolding namedAfter
-  run-byte e =
-      record {
-        some = omega arith;
-        within = some;
-        none-ends = λ k pos less w. absurd (omega (arith, length-take-le 1 l some));
-        named-is = e ∙ ap (namedAfter named at low) (sym (take-one l some));
-      }
+  run-byte e = record {
+    some = omega arith;
+    within = some;
+    none-ends = λ k pos less w. absurd (omega (arith, length-take-le 1 l some));
+    named-is = e ∙ ap (namedAfter named at low) (sym (take-one l some));
+  }
 
   pub run-high : {w : NameSoFar} → 56 ≤ at → at % 2 ≡ 1 → w ≡ nameUnit named (low + 256 * getD l 0 0) → IsRunOf 1 w
   run-high h o e = run-byte (e ∙ sym (byte-high named at low (getD l 0 0) h o))

@@ -53,16 +53,15 @@ module _ {status : ℕ} (entry : IsEntry (plainEntry status) 58 status 0) where
   one-more g =
       let m = entry-scan 58 entry (g .again) in
       record {
-        again =
-            record {
-              at-is = m .at-is;
-              low-is = m .low-is;
-              named-is = m .named-is;
-              totals-is = refl;
-              hash-is = refl;
-              head-size = m .head-size;
-              head-is = m .head-is;
-            };
+        again = record {
+          at-is = m .at-is;
+          low-is = m .low-is;
+          named-is = m .named-is;
+          totals-is = refl;
+          hash-is = refl;
+          head-size = m .head-size;
+          head-is = m .head-is;
+        };
         entries-is = ap (λ (t : Totals). t .entries) (m .totals-is) ∙ ap (λ (k : ℕ). k + 1) (g .entries-is);
         saved-is = ap (λ (t : Totals). t .saved) (m .totals-is) ∙ ap (λ (k : ℕ). k + savedCount status) (g .saved-is);
       }
@@ -84,8 +83,7 @@ zeros-at (suc n) (suc p) = zeros-at n p
 zeros-number : (k n i : ℕ) → leAt k (replicate n 0) i ≡ 0
 unfolding leAt fromLe
 zeros-number zero n i = refl
-zeros-number (suc k) n i =
-    leAt-suc k (replicate n 0) i ∙ omega (arith, zeros-at n i, zeros-number k n (suc i))
+zeros-number (suc k) n i = leAt-suc k (replicate n 0) i ∙ omega (arith, zeros-at n i, zeros-number k n (suc i))
 
 none-zeros : (n : ℕ) → lengthOf (replicate n 0) ≡ 0
 unfolding lengthOf entryAllowed entrySizeAllowed

@@ -108,8 +108,7 @@ module _ (weight : ℕ → ℕ) (fragment : ℕ → List ℕ) where
   pub length-mulAddAll : (ks bs : List ℕ) → length (mulAddAll weight fragment ks bs) ≡ length bs
   unfolding mulAddAll
   length-mulAddAll [] bs = refl
-  length-mulAddAll (k ∷ ks) bs =
-      length-mulAddAll ks (mulAdd (weight k) (fragment k) bs) ∙ length-mulAdd (weight k) (fragment k) bs
+  length-mulAddAll (k ∷ ks) bs = length-mulAddAll ks (mulAdd (weight k) (fragment k) bs) ∙ length-mulAdd (weight k) (fragment k) bs
 
   mulAddAll-sum : (ks cs bs : List ℕ)
       → sumBytes cs (mulAddAll weight fragment ks bs) ≡ mulAddAll weight fragment ks (sumBytes cs bs)

@@ -61,11 +61,10 @@ each-byte ms w e (x ∷ xs) (b ∷ bs) = ap₂ (λ (y : ℕ) (l : List ℕ). bit
 pub by-tables : (ps es : List ℕ) → ps ≡ powersOf2 → IsExponents es → (w : ℕ) → w < 256 → (xs bs cs : List ℕ)
     → cs ≡ mulAddBy ps es w xs bs → cs ≡ mulAdd w xs bs
 unfolding mulAddBy
-by-tables ps es p t w h xs bs cs c =
-    elim (ℕ-discrete w 0) [
-      | yes e ↦ by-weight (eq-eqb w 0 e) ∙ sym (ap (λ (v : ℕ). mulAdd v xs bs) e ∙ mulAdd-zero xs bs)
-      | no q ↦ by-weight (ne-eqb w 0 q) ∙ each-byte (eightFrom ps (getD es w 0)) w (eight-by-tables ps es p t w (pos-of-ne-zero q) h) xs bs
-    ]
+by-tables ps es p t w h xs bs cs c = elim (ℕ-discrete w 0) [
+  | yes e ↦ by-weight (eq-eqb w 0 e) ∙ sym (ap (λ (v : ℕ). mulAdd v xs bs) e ∙ mulAdd-zero xs bs)
+  | no q ↦ by-weight (ne-eqb w 0 q) ∙ each-byte (eightFrom ps (getD es w 0)) w (eight-by-tables ps es p t w (pos-of-ne-zero q) h) xs bs
+]
   where
     by-weight : {z : Bool} → eqb w 0 ≡ z → cs ≡ cond z bs (addMultiples (eightFrom ps (getD es w 0)) xs bs)
     by-weight e = c ∙ ap (λ (z : Bool). cond z bs (addMultiples (eightFrom ps (getD es w 0)) xs bs)) e

@@ -38,8 +38,7 @@ two-fragments w xs ys b c d e h same p q r =
     two-adds w w xs ys b c d h p q ∙ mulAdd-fragments w xs ys b same ∙ sym (one-answer w (sumBytes xs ys) b e h r)
 
 pub two-weights : TwoWeights
-two-weights v w xs b c d e h p q r =
-    two-adds v w xs xs b c d h p q ∙ mulAdd-weights v w xs b ∙ sym (one-answer (bitXor v w) xs b e h r)
+two-weights v w xs b c d e h p q r = two-adds v w xs xs b c d h p q ∙ mulAdd-weights v w xs b ∙ sym (one-answer (bitXor v w) xs b e h r)
 
 pub twice-restores : TwiceRestores
 twice-restores w xs b c d h p q = two-adds w w xs xs b c d h p q ∙ mulAdd-twice w xs b

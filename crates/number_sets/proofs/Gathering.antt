@@ -91,8 +91,7 @@ module _ (ws : List ℕ) (number : ℕ → ℕ) (test : ℕ → Bool) where
         Next b = member (cond b (inserted (number m) (gathered ws number test m)) (gathered ws number test m)) k ≡ true
 
         kept : (b : Bool) → member (gathered ws number test m) k ≡ true → Next b
-        kept true e =
-            member-step m k (bytes m (omega arith)) ∙ ap (λ (b : Bool). eqb k (number m) || b) e ∙ or-true (eqb k (number m))
+        kept true e = member-step m k (bytes m (omega arith)) ∙ ap (λ (b : Bool). eqb k (number m) || b) e ∙ or-true (eqb k (number m))
         kept false e = e
 
         here : (b : Bool) → b ≡ true → number m ≡ k → Next b
@@ -103,8 +102,7 @@ module _ (ws : List ℕ) (number : ℕ → ℕ) (test : ℕ → Bool) where
 
         go : (b : Bool) → test m ≡ b → (Gathers m k → member (gathered ws number test m) k ≡ true) → Gathers (suc m) k → Next b
         go b t rest (inl e) = kept b (rest (inl e))
-        go b t rest (inr (i, l, ti, z)) =
-            elim (ℕ-discrete i m) [
-              | yes p ↦ here b (sym t ∙ ap test (sym p) ∙ ti) (ap number (sym p) ∙ z)
-              | no q ↦ kept b (rest (inr (i, omega arith, ti, z)))
-            ]
+        go b t rest (inr (i, l, ti, z)) = elim (ℕ-discrete i m) [
+          | yes p ↦ here b (sym t ∙ ap test (sym p) ∙ ti) (ap number (sym p) ∙ z)
+          | no q ↦ kept b (rest (inr (i, omega arith, ti, z)))
+        ]

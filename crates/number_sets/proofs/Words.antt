@@ -65,8 +65,7 @@ bit-zero w = omega arith
 
 bit-suc : (w k : ℕ) → bit w (suc k) ≡ bit (w / 2) k
 unfolding bit
-bit-suc w k =
-    ap (λ (x : ℕ). x % 2) (ap (λ (x : ℕ). w / x) (pow-suc 2 k ∙ mul-comm (2 ^ k) 2) ∙ sym (div-div-eq-div-mul w 2 (2 ^ k)))
+bit-suc w k = ap (λ (x : ℕ). x % 2) (ap (λ (x : ℕ). w / x) (pow-suc 2 k ∙ mul-comm (2 ^ k) 2) ∙ sym (div-div-eq-div-mul w 2 (2 ^ k)))
 
 bit-of-zero : (k : ℕ) → bit 0 k ≡ 0
 bit-of-zero zero = bit-zero 0
@@ -80,8 +79,7 @@ power-other : (b k : ℕ) → k ≢ b → bit (2 ^ b) k ≡ 0
 power-other zero zero q = absurd (q refl)
 power-other zero (suc k) q = bit-suc 1 k ∙ bit-of-zero k
 power-other (suc b) zero q = bit-zero (2 ^ suc b) ∙ omega arith
-power-other (suc b) (suc k) q =
-    bit-suc (2 ^ suc b) k ∙ ap (λ (x : ℕ). bit x k) (omega arith) ∙ power-other b k (λ e. q (ap suc e))
+power-other (suc b) (suc k) q = bit-suc (2 ^ suc b) k ∙ ap (λ (x : ℕ). bit x k) (omega arith) ∙ power-other b k (λ e. q (ap suc e))
 
 -- the complement of x in n bits
 complement : (n x k : ℕ) → x < 2 ^ n → k < n → bit (2 ^ n - 1 - x) k ≡ 1 - bit x k
@@ -108,8 +106,7 @@ member-above ws k e h =
 
 pub member-none : (k : ℕ) → member (replicate 4 0) k ≡ false
 unfolding member bit
-member-none k =
-    ap (λ (w : ℕ). eqb (w / 2 ^ (k % 64) % 2) 1) (zeros 4 (k / 64)) ∙ ap (λ (x : ℕ). eqb x 1) (bit-of-zero (k % 64))
+member-none k = ap (λ (w : ℕ). eqb (w / 2 ^ (k % 64) % 2) 1) (zeros 4 (k / 64)) ∙ ap (λ (x : ℕ). eqb x 1) (bit-of-zero (k % 64))
   where
     zeros : (n p : ℕ) → _≡_ {A = ℕ} (getD (replicate n 0) p 0) 0
     zeros zero p = refl
@@ -121,31 +118,29 @@ member-set : (ws : List ℕ) (g v : ℕ) → g / 64 < length ws → (b : Bool) �
     → ((k : ℕ) → k < 64 → k ≢ g % 64 → bit v k ≡ bit (getD ws (g / 64) 0) k)
     → (h : ℕ) → member (set ws (g / 64) v) h ≡ cond (eqb h g) b (member ws h)
 unfolding member bit
-member-set ws g v l b e q h =
-    elim (ℕ-discrete (h / 64) (g / 64)) [
-      | yes p ↦ elim (ℕ-discrete (h % 64) (g % 64)) [
-        | yes r ↦
-            let z : h ≡ g = omega arith in
-            ap₂ (λ (i k : ℕ). eqb (bit (getD (set ws (g / 64) v) i 0) k) 1) p r
-            ∙ ap (λ (x : ℕ). eqb (bit x (g % 64)) 1) (getD-set-same ws (g / 64) v 0 l) ∙ e
-            ∙ ap (λ (z : Bool). cond z b (member ws h)) (sym (eq-eqb h g z))
-        | no r ↦
-            ap (λ (i : ℕ). eqb (bit (getD (set ws (g / 64) v) i 0) (h % 64)) 1) p
-            ∙ ap (λ (x : ℕ). eqb (bit x (h % 64)) 1) (getD-set-same ws (g / 64) v 0 l)
-            ∙ ap (λ (x : ℕ). eqb x 1) (q (h % 64) (omega arith) r)
-            ∙ ap (λ (i : ℕ). eqb (bit (getD ws i 0) (h % 64)) 1) (sym p)
-            ∙ ap (λ (z : Bool). cond z b (member ws h)) (sym (ne-eqb h g (λ z. r (ap (λ (k : ℕ). k % 64) z))))
-      ]
-      | no p ↦
-          ap (λ (x : ℕ). eqb (bit x (h % 64)) 1) (getD-set-other ws (g / 64) (h / 64) v 0 p)
-          ∙ ap (λ (z : Bool). cond z b (member ws h)) (sym (ne-eqb h g (λ z. p (ap (λ (k : ℕ). k / 64) z))))
-    ]
+member-set ws g v l b e q h = elim (ℕ-discrete (h / 64) (g / 64)) [
+  | yes p ↦ elim (ℕ-discrete (h % 64) (g % 64)) [
+    | yes r ↦
+        let z : h ≡ g = omega arith in
+        ap₂ (λ (i k : ℕ). eqb (bit (getD (set ws (g / 64) v) i 0) k) 1) p r
+        ∙ ap (λ (x : ℕ). eqb (bit x (g % 64)) 1) (getD-set-same ws (g / 64) v 0 l) ∙ e
+        ∙ ap (λ (z : Bool). cond z b (member ws h)) (sym (eq-eqb h g z))
+    | no r ↦
+        ap (λ (i : ℕ). eqb (bit (getD (set ws (g / 64) v) i 0) (h % 64)) 1) p
+        ∙ ap (λ (x : ℕ). eqb (bit x (h % 64)) 1) (getD-set-same ws (g / 64) v 0 l)
+        ∙ ap (λ (x : ℕ). eqb x 1) (q (h % 64) (omega arith) r)
+        ∙ ap (λ (i : ℕ). eqb (bit (getD ws i 0) (h % 64)) 1) (sym p)
+        ∙ ap (λ (z : Bool). cond z b (member ws h)) (sym (ne-eqb h g (λ z. r (ap (λ (k : ℕ). k % 64) z))))
+  ]
+  | no p ↦
+      ap (λ (x : ℕ). eqb (bit x (h % 64)) 1) (getD-set-other ws (g / 64) (h / 64) v 0 p)
+      ∙ ap (λ (z : Bool). cond z b (member ws h)) (sym (ne-eqb h g (λ z. p (ap (λ (k : ℕ). k / 64) z))))
+]
 
 -- ---- insertion and removal
 
 one-shifted : (k : ℕ) → 1 * 2 ^ (k % 64) % 2 ^ 64 ≡ 2 ^ (k % 64)
-one-shifted k =
-    ap (λ (x : ℕ). x % 2 ^ 64) (omega arith) ∙ mod-eq-of-lt (pow-lt {i = k % 64} {j = 64} (omega arith))
+one-shifted k = ap (λ (x : ℕ). x % 2 ^ 64) (omega arith) ∙ mod-eq-of-lt (pow-lt {i = k % 64} {j = 64} (omega arith))
 
 pub inserted-by-mask : (k : ℕ) (ws : List ℕ)
     → set ws (k / 64) (bitOr (getD ws (k / 64) 0) (1 * 2 ^ (k % 64) % 2 ^ 64)) ≡ inserted k ws
@@ -229,8 +224,7 @@ total-cong (suc k) g h e = ap₂ _+_ (total-cong k g h (λ i l. e i (omega arith
 total-split : (a b : ℕ) (g : ℕ → ℕ) → total (a + b) g ≡ total a g + total b (λ i. g (a + i))
 unfolding total
 total-split a zero g = ap (λ (k : ℕ). total k g) (add-zero a) ∙ sym (add-zero (total a g))
-total-split a (suc b) g =
-    ap (λ (k : ℕ). total k g) (add-suc a b) ∙ ap (λ (x : ℕ). x + g (a + b)) (total-split a b g) ∙ omega arith
+total-split a (suc b) g = ap (λ (k : ℕ). total k g) (add-suc a b) ∙ ap (λ (x : ℕ). x + g (a + b)) (total-split a b g) ∙ omega arith
 
 ones-total : (k w : ℕ) → w < 2 ^ k → ones w ≡ total k (bit w)
 unfolding total ones

@@ -85,8 +85,7 @@ pub set-tells : (c : Code) (program v : ℕ) (fs : List File) (area room out : L
     → writeSet c program v fs area room out ≡ (Written n, after)
     → All FileRight fs × All Writable fs × (writeVolumeOf c program v (listFor fs) area out ≡ (Written n, after))
 unfolding writeSet
-set-tells c program v fs area room out {n} {after} e =
-    let r : Writing × List ℕ = writeEntries fs 0 room in by (r .0) (r .1) refl e
+set-tells c program v fs area room out {n} {after} e = let r : Writing × List ℕ = writeEntries fs 0 room in by (r .0) (r .1) refl e
   where
     by : (w : Writing) (t : List ℕ) → writeEntries fs 0 room ≡ (w, t) → next w out (λ k. writeVolumeOf c program v (take k t) area out) ≡ (Written n, after)
         → All FileRight fs × All Writable fs × (writeVolumeOf c program v (listFor fs) area out ≡ (Written n, after))

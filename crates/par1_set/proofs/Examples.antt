@@ -51,14 +51,13 @@ file-right contents status sized small = record { size-right = sized; status-rig
 
 pub p6-right : (v : ℕ) → 1 ≤ v → v ≤ 253 → VolumeRight v p6
 unfolding isCounted
-p6-right v low high =
-    record {
-      files-right = all-more (file-right _ 1 refl (omega arith)) (all-more (file-right _ 0 refl (omega arith)) (all-more (file-right _ 1 refl (omega arith)) all-none));
-      volume-low = omega arith;
-      volume-high = omega arith;
-      count-low = omega arith;
-      length-right = omega (arith, p6-list);
-    }
+p6-right v low high = record {
+  files-right = all-more (file-right _ 1 refl (omega arith)) (all-more (file-right _ 0 refl (omega arith)) (all-more (file-right _ 1 refl (omega arith)) all-none));
+  volume-low = omega arith;
+  volume-high = omega arith;
+  count-low = omega arith;
+  length-right = omega (arith, p6-list);
+}
 
 -- files 1 and 2 of the same set, the first marked as checked: it is not written any more, and its volume is still read
 abbrev marked : List File
@@ -70,14 +69,13 @@ marked-list = simp (length-append, length-entry)
 
 marked-right : VolumeRight 1 marked
 unfolding isCounted
-marked-right =
-    record {
-      files-right = all-more (file-right _ 3 refl (omega arith)) (all-more (file-right _ 1 refl (omega arith)) all-none);
-      volume-low = omega arith;
-      volume-high = omega arith;
-      count-low = omega arith;
-      length-right = omega (arith, marked-list);
-    }
+marked-right = record {
+  files-right = all-more (file-right _ 3 refl (omega arith)) (all-more (file-right _ 1 refl (omega arith)) all-none);
+  volume-low = omega arith;
+  volume-high = omega arith;
+  count-low = omega arith;
+  length-right = omega (arith, marked-list);
+}
 
 not-written : Writable (file (1 ∷ 2 ∷ []) 3) → ⊥
 not-written h = omega arith

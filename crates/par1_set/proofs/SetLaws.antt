@@ -47,12 +47,11 @@ module _ {v : ℕ} {fs : List File} {area : List ℕ} (s : SetPassed v fs area) 
   set-back = files-back (s .files-right) (omega (arith, s .length-right))
 
   pub set-passed : ListPassed v (listFor fs) (length area)
-  set-passed =
-      record {
-        totals-of = totalsFor fs;
-        walk-is = walk-is set-back;
-        tests = record { number-right = s .number-right; data-right = s .data-right; size = record { low = omega arith; high = s .length-right } };
-      }
+  set-passed = record {
+    totals-of = totalsFor fs;
+    walk-is = walk-is set-back;
+    tests = record { number-right = s .number-right; data-right = s .data-right; size = record { low = omega arith; high = s .length-right } };
+  }
 
   module _ (c : Code) (program : ℕ) where
     same : volumeBytes c program v (listFor fs) area ≡ bytesFor (versionFor c) program v fs area

@@ -63,14 +63,13 @@ pub set-read : SetRead
 set-read c program v fs p right = set-read-back (volume-set right (ruleOf c)) c program p (omega (arith, right .volume-high))
 
 pub set-written : SetWritten
-set-written c program v fs ks room out p right writable once list-fits fits =
-    record {
-      list-is = entries-written room (right .files-right) writable list-fits;
-      coefficients-are = coefficients right c;
-      data-is = volume-data c (fileCount fs) (contentsOf fs) v (dataSizeFor fs) ks once;
-      volume-is = volume-made right c (ruleOf c) program ks room out writable once list-fits fits;
-      read-back = set-read c program v fs p right;
-    }
+set-written c program v fs ks room out p right writable once list-fits fits = record {
+  list-is = entries-written room (right .files-right) writable list-fits;
+  coefficients-are = coefficients right c;
+  data-is = volume-data c (fileCount fs) (contentsOf fs) v (dataSizeFor fs) ks once;
+  volume-is = volume-made right c (ruleOf c) program ks room out writable once list-fits fits;
+  read-back = set-read c program v fs p right;
+}
 
 pub only-volumes : OnlyVolumes
 only-volumes c program v fs ks room out n after low once e =
@@ -93,23 +92,21 @@ only-volumes c program v fs ks room out n after low once e =
 -- ---- the index
 
 pub index-set : {fs : List File} {comment : List ℕ} → IndexRight fs comment → SetPassed 0 fs comment
-index-set {fs} {comment} right =
-    record {
-      files-right = right .files-right;
-      number-right = index-number (fileCount fs) (right .count-high);
-      data-right = index-size (dataSizeFor fs) (length comment) (right .comment-right);
-      length-right = right .length-right;
-    }
+index-set {fs} {comment} right = record {
+  files-right = right .files-right;
+  number-right = index-number (fileCount fs) (right .count-high);
+  data-right = index-size (dataSizeFor fs) (length comment) (right .comment-right);
+  length-right = right .length-right;
+}
 
 pub index-read : IndexRead
 index-read c program fs comment p right = set-read-back (index-set right) c program p (omega arith)
 
 pub index-written : IndexWritten
-index-written c program fs comment room out p right writable list-fits fits =
-    record {
-      index-is = set-accepted (index-set right) c program room out writable list-fits fits;
-      read-back = index-read c program fs comment p right;
-    }
+index-written c program fs comment room out p right writable list-fits fits = record {
+  index-is = set-accepted (index-set right) c program room out writable list-fits fits;
+  read-back = index-read c program fs comment p right;
+}
 
 pub only-indices : OnlyIndices
 only-indices c program fs comment room out n after e =

@@ -23,8 +23,7 @@ descending (suc n) = suc n ∷ descending n
 absent : (n k : ℕ) → (0 < k → k ≤ n → ⊥) → count k (descending n) ≡ 0
 unfolding descending count
 absent zero k q = refl
-absent (suc n) k q =
-    count-other k (suc n) (descending n) (λ e. q (omega arith) (omega arith)) ∙ absent n k (λ pos h. q pos (omega arith))
+absent (suc n) k q = count-other k (suc n) (descending n) (λ e. q (omega arith) (omega arith)) ∙ absent n k (λ pos h. q pos (omega arith))
 
 present : (n k : ℕ) → 0 < k → k ≤ n → count k (descending n) ≡ 1
 unfolding descending

@@ -52,8 +52,7 @@ pub volume-shares : VolumeShares
 volume-shares c n X v m ks ls once = mulAddAll-shares (λ f. ruleOf c f v) X ks ls m ∙ volume-data c n X v m (ks ++ ls) once
 
 pub parity-bytes : ParityBytes
-parity-bytes c n X v p h hX =
-    parityByte-byte (ruleOf c) n X v p (λ f pos l. rule-byte c f v (omega arith)) (λ f. hX f p)
+parity-bytes c n X v p h hX = parityByte-byte (ruleOf c) n X v p (λ f pos l. rule-byte c f v (omega arith)) (λ f. hX f p)
 
 pub parity-ends : ParityEnds
 parity-ends c n X v p h = parityByte-end (ruleOf c) n X v p h

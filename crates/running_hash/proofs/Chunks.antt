@@ -71,20 +71,19 @@ end-taken h out o e =
 
 hash-follows : Follows hashSteps hashWhole Runs isOpen
 unfolding startHash
-hash-follows =
-    record {
-      started = λ a. (refl, refl);
-      pushed = λ a m h bs g. let e = push-runs m bs h g in
-          (ap (λ (r : Outcome). (r .number, [])) e, ap (λ (r : Outcome). r .next) e);
-      ended = λ a m h out g. let e = end-runs m out h g in
-          (ap (λ (r : Outcome × List ℕ). (r .0 .number, r .1)) e, ap (λ (r : Outcome × List ℕ). isOpen (r .0 .next)) e);
-      push-taken = push-taken;
-      end-taken = end-taken;
-      push-refused = λ h bs o. ap (λ (r : Outcome). ((r .number, []), r .next)) (push-over h bs (eqb-false (h .ended) 0 o));
-      end-refused = λ h out o. ap (λ (r : Outcome × List ℕ). ((r .0 .number, r .1), r .0 .next)) (end-over h out (eqb-false (h .ended) 0 o));
-      push-20 = λ bs. refl;
-      end-20 = λ out. refl;
-    }
+hash-follows = record {
+  started = λ a. (refl, refl);
+  pushed = λ a m h bs g. let e = push-runs m bs h g in
+      (ap (λ (r : Outcome). (r .number, [])) e, ap (λ (r : Outcome). r .next) e);
+  ended = λ a m h out g. let e = end-runs m out h g in
+      (ap (λ (r : Outcome × List ℕ). (r .0 .number, r .1)) e, ap (λ (r : Outcome × List ℕ). isOpen (r .0 .next)) e);
+  push-taken = push-taken;
+  end-taken = end-taken;
+  push-refused = λ h bs o. ap (λ (r : Outcome). ((r .number, []), r .next)) (push-over h bs (eqb-false (h .ended) 0 o));
+  end-refused = λ h out o. ap (λ (r : Outcome × List ℕ). ((r .0 .number, r .1), r .0 .next)) (end-over h out (eqb-false (h .ended) 0 o));
+  push-20 = λ bs. refl;
+  end-20 = λ out. refl;
+}
 
 pub hash-chunked : HashChunked
 hash-chunked = chunked hashSteps hashWhole Runs isOpen hash-follows
@@ -108,8 +107,7 @@ given h held o =
     }
 
 given-open : (h : RunningHash) → Held h → Given hashSteps hashWhole counts h → isOpen h ≡ true
-given-open h held g =
-    eq-eqb (h .ended) 0 (ap (λ (p : ℕ × ℕ). p .1) (sym (g .same) ∙ ap counts (after-pushes (g .pushed))))
+given-open h held g = eq-eqb (h .ended) 0 (ap (λ (p : ℕ × ℕ). p .1) (sym (g .same) ∙ ap counts (after-pushes (g .pushed))))
 
 pub hash-20 : Hash20
 hash-20 = exactly-20 hashSteps hashWhole Runs isOpen hash-follows Held counts given given-open

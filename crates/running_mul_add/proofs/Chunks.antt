@@ -67,23 +67,22 @@ end-taken s u o e =
 -- ---- over lists
 
 follows : Follows mulAddSteps mulAddWhole Goes isOpen
-follows =
-    record {
-      started = λ w. (refl, refl);
-      pushed = λ w m s p g.
-          let e = goes-on w m (p .fragment) (p .buffer) (p .short) g in
-          (ap (λ (r : Outcome × List ℕ). (r .0 .number, r .1)) e, ap (λ (r : Outcome × List ℕ). r .0 .next) e);
-      ended = λ w m s e g.
-          let r = ap endOf g ∙ end-going (mulAddFrom w (positionOf (length m))) refl in
-          (ap (λ (o : Outcome). (o .number, [])) r, ap (λ (o : Outcome). isOpen (o .next)) r);
-      push-taken = push-taken;
-      end-taken = end-taken;
-      push-refused = λ s p o.
-          ap (λ (r : Outcome × List ℕ). ((r .0 .number, r .1), r .0 .next)) (push-over s (p .fragment) (p .buffer) (not-false (s .ended) o));
-      end-refused = λ s e o. ap (λ (r : Outcome). ((r .number, []), r .next)) (end-over s (not-false (s .ended) o));
-      push-20 = λ p. refl;
-      end-20 = λ e. refl;
-    }
+follows = record {
+  started = λ w. (refl, refl);
+  pushed = λ w m s p g.
+      let e = goes-on w m (p .fragment) (p .buffer) (p .short) g in
+      (ap (λ (r : Outcome × List ℕ). (r .0 .number, r .1)) e, ap (λ (r : Outcome × List ℕ). r .0 .next) e);
+  ended = λ w m s e g.
+      let r = ap endOf g ∙ end-going (mulAddFrom w (positionOf (length m))) refl in
+      (ap (λ (o : Outcome). (o .number, [])) r, ap (λ (o : Outcome). isOpen (o .next)) r);
+  push-taken = push-taken;
+  end-taken = end-taken;
+  push-refused = λ s p o.
+      ap (λ (r : Outcome × List ℕ). ((r .0 .number, r .1), r .0 .next)) (push-over s (p .fragment) (p .buffer) (not-false (s .ended) o));
+  end-refused = λ s e o. ap (λ (r : Outcome). ((r .number, []), r .next)) (end-over s (not-false (s .ended) o));
+  push-20 = λ p. refl;
+  end-20 = λ e. refl;
+}
 
 pub mul-add-chunked : MulAddChunked
 mul-add-chunked = chunked mulAddSteps mulAddWhole Goes isOpen follows

@@ -101,25 +101,24 @@ end-taken : (j : RunningRead) → goesOn j ≡ true → readingRefusal (endAnswe
 end-taken j o e = end-not-20 j (sym (ap (λ (q : Ended). readingRefusal (q .reading) .number) (end-open j o)) ∙ e)
 
 read-follows : Follows readSteps readWhole Goes goesOn
-read-follows =
-    record {
-      started = λ a. (refl, after-start ∙ ap jobAfter (sym (take-nil cap)));
-      pushed =
-          λ a m j bs g.
-          let p : pushAnswer j bs ≡ record { number = 0; next = jobAfter (take cap (m ++ bs)) } =
-          ap (λ (k : RunningRead). pushAnswer k bs) g ∙ pushed-more m bs in
-          (ap (λ (q : Pushed). number (q .number)) p, ap (λ (q : Pushed). q .next) p);
-      ended =
-          λ a m j e g.
-          let p : endAnswer j ≡ record { reading = readOf m; next = overOf (jobAfter (take cap m)) } = ap endAnswer g ∙ ended-whole m in
-          (ap (λ (q : Ended). reading (q .reading)) p, ap (λ (q : Ended). goesOn (q .next)) p ∙ over-shut (jobAfter (take cap m)));
-      push-taken = push-taken;
-      end-taken = λ j e. end-taken j;
-      push-refused = λ j bs o. ap (λ (q : Pushed). (number (q .number), q .next)) (push-refused j bs o);
-      end-refused = λ j e o. ap (λ (q : Ended). (reading (q .reading), q .next)) (end-refused j o);
-      push-20 = λ bs. refl;
-      end-20 = λ e. refl;
-    }
+read-follows = record {
+  started = λ a. (refl, after-start ∙ ap jobAfter (sym (take-nil cap)));
+  pushed =
+      λ a m j bs g.
+      let p : pushAnswer j bs ≡ record { number = 0; next = jobAfter (take cap (m ++ bs)) } =
+      ap (λ (k : RunningRead). pushAnswer k bs) g ∙ pushed-more m bs in
+      (ap (λ (q : Pushed). number (q .number)) p, ap (λ (q : Pushed). q .next) p);
+  ended =
+      λ a m j e g.
+      let p : endAnswer j ≡ record { reading = readOf m; next = overOf (jobAfter (take cap m)) } = ap endAnswer g ∙ ended-whole m in
+      (ap (λ (q : Ended). reading (q .reading)) p, ap (λ (q : Ended). goesOn (q .next)) p ∙ over-shut (jobAfter (take cap m)));
+  push-taken = push-taken;
+  end-taken = λ j e. end-taken j;
+  push-refused = λ j bs o. ap (λ (q : Pushed). (number (q .number), q .next)) (push-refused j bs o);
+  end-refused = λ j e o. ap (λ (q : Ended). (reading (q .reading), q .next)) (end-refused j o);
+  push-20 = λ bs. refl;
+  end-20 = λ e. refl;
+}
 
 pub read-chunked : ReadChunked
 read-chunked = chunked readSteps readWhole Goes goesOn read-follows

@@ -79,8 +79,7 @@ after-end m h =
 
 long-refused : (m : List ℕ) → maxVolumeLength < length m → readOf m ≡ Refused (bare 1)
 unfolding readOf
-long-refused m h =
-    length-refused m (length m) (controlHash m) (setHash (entriesIn m)) (walkOf (listOf m)) (too-long (length m) h)
+long-refused m h = length-refused m (length m) (controlHash m) (setHash (entriesIn m)) (walkOf (listOf m)) (too-long (length m) h)
 
 module _ (n : ℕ) (h : maxVolumeLength < n) where
   past : (m : List ℕ) → (n < length m) ⊎ (length m ≤ n) → readOf (take n m) ≡ readOf m

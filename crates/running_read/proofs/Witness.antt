@@ -46,8 +46,7 @@ module _ (n : ℕ) (l z : List ℕ) (fits : n < 256 ^ 8) (is : length l ≡ n) w
 
   file-list : listOf (fileWith n l z) ≡ l
   unfolding fileWith
-  file-list =
-      ap₂ (λ (k : ℕ) (r : List ℕ). take k r) file-size (drop-at (headerWith n) (l ++ z) 96 (length-header n)) ∙ take-at l z n is
+  file-list = ap₂ (λ (k : ℕ) (r : List ℕ). take k r) file-size (drop-at (headerWith n) (l ++ z) 96 (length-header n)) ∙ take-at l z n is
 
   file-length : length (fileWith n l z) ≡ 96 + n + length z
   unfolding fileWith

@@ -32,19 +32,17 @@ use Rattle.volume_weights.specs.Weights.{columnIn, tableOf, rowOf}
 
 pub set-below : (f : ℕ → ℕ) (l : List ℕ) (j v : ℕ) → j < length l → v ≡ f j → ((i : ℕ) → i < j → getD l i 0 ≡ f i)
     → (i : ℕ) → i < j + 1 → getD (set l j v) i 0 ≡ f i
-set-below f l j v b e h i m =
-    elim (ℕ-discrete i j) [
-      | yes p ↦ ap (λ (k : ℕ). getD (set l j v) k 0) p ∙ getD-set-same l j v 0 b ∙ e ∙ ap f (sym p)
-      | no q ↦ getD-set-other l j i v 0 q ∙ h i (omega arith)
-    ]
+set-below f l j v b e h i m = elim (ℕ-discrete i j) [
+  | yes p ↦ ap (λ (k : ℕ). getD (set l j v) k 0) p ∙ getD-set-same l j v 0 b ∙ e ∙ ap f (sym p)
+  | no q ↦ getD-set-other l j i v 0 q ∙ h i (omega arith)
+]
 
 -- ---- an entry
 
 -- the coefficient that the tables give, where it is wanted
 pub entry-wanted : (c : Code) (ps es : List ℕ) → ps ≡ powersOf2 → IsExponents es → (wanted : Bool) (f v : ℕ) → f < 256 → wanted ≡ true
     → coefficientBy c ps es f v ≡ cond wanted (ruleOf c f v) 0
-entry-wanted c ps es p t wanted f v l e =
-    rule-by-tables ps es p t c f v l ∙ sym (ap (λ (b : Bool). cond b (ruleOf c f v) 0) e)
+entry-wanted c ps es p t wanted f v l e = rule-by-tables ps es p t c f v l ∙ sym (ap (λ (b : Bool). cond b (ruleOf c f v) 0) e)
 
 -- ---- a row
 
@@ -96,5 +94,4 @@ module _ (rule : ℕ → ℕ → ℕ) (small : (f v : ℕ) → f < 256 → rule 
 
   pub table-absent : (v : ℕ) → member volumes (suc v) ≡ false → (i : ℕ) → tableOf rule nonempty present volumes v i ≡ byteField .𝟘
   unfolding tableOf
-  table-absent v e i =
-      ap (λ (b : Bool). toByte (cond b (entryOf rule nonempty present (suc v) i) 0)) e ∙ toByte-of-value (byteField .𝟘)
+  table-absent v e i = ap (λ (b : Bool). toByte (cond b (entryOf rule nonempty present (suc v) i) 0)) e ∙ toByte-of-value (byteField .𝟘)

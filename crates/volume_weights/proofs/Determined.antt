@@ -36,13 +36,12 @@ module _ (rule : ℕ → ℕ → ℕ) (nonempty present volumes : List ℕ) (row
       → (v : ℕ) → weightAt rows w v ≡ weightAt rows w′ v
   unfolding weightAt
   weight-same w w′ W W′ zero = refl
-  weight-same w w′ W W′ (suc v) =
-      elim (decLt v rows) [
-        | yes l ↦ ap (λ (x : Byte). cond (leb (suc v) rows) (x .0) 0) (one v l)
-        | no q ↦
-            let e = lt-leb (suc v) rows (omega arith) in
-            ap (λ (b : Bool). cond b (w v .0) 0) e ∙ sym (ap (λ (b : Bool). cond b (w′ v .0) 0) e)
-      ]
+  weight-same w w′ W W′ (suc v) = elim (decLt v rows) [
+    | yes l ↦ ap (λ (x : Byte). cond (leb (suc v) rows) (x .0) 0) (one v l)
+    | no q ↦
+        let e = lt-leb (suc v) rows (omega arith) in
+        ap (λ (b : Bool). cond b (w v .0) 0) e ∙ sym (ap (λ (b : Bool). cond b (w′ v .0) 0) e)
+  ]
     where
       one : (v : ℕ) → v < rows → w v ≡ w′ v
       one v l = go (eliminate byteField is-zero table 256 rows)
@@ -132,8 +131,7 @@ module _ (rule : ℕ → ℕ → ℕ) (nonempty present volumes : List ℕ) (row
   member-is : (i : ℕ) → i < 255 → (a b : Bool) → member found (suc i) ≡ a → tested i .passes ≡ b → b ≡ a
   member-is i l true true h t = refl
   member-is i l false false h t = refl
-  member-is i l true false h t =
-      let (j, p, z) = from (suc i) h in sym t ∙ ap (λ (k : ℕ). tested k .passes) (sym (suc-inj z)) ∙ p
+  member-is i l true false h t = let (j, p, z) = from (suc i) h in sym t ∙ ap (λ (k : ℕ). tested k .passes) (sym (suc-inj z)) ∙ p
   member-is i l false true h t =
       sym (gathered-in (replicate 4 0) suc (λ i. tested i .passes) words-none 255 (suc i) (λ i l. omega arith) (inr (i, l, t, refl))) ∙ h
 

@@ -46,17 +46,16 @@ numbers-member (suc n) i l =
     ∙ ap (λ (b : Bool). eqb (suc i) (suc n) || b) (numbers-member n i (omega arith)) ∙ one-more
   where
     one-more : (eqb (suc i) (suc n) || ltb i n) ≡ ltb i (suc n)
-    one-more =
-        elim (ℕ-discrete i n) [
-          | yes e ↦
-              ap (λ (b : Bool). b || ltb i n) (eq-eqb (suc i) (suc n) (ap suc e)) ∙ sym (lt-ltb i (suc n) (omega arith))
-          | no q ↦
-              ap (λ (b : Bool). b || ltb i n) (ne-eqb (suc i) (suc n) (λ z. q (suc-inj z)))
-              ∙ elim (decLt i n) [
-                | yes b ↦ lt-ltb i n b ∙ sym (lt-ltb i (suc n) (omega arith))
-                | no b ↦ le-ltb i n (omega arith) ∙ sym (le-ltb i (suc n) (omega arith))
-              ]
-        ]
+    one-more = elim (ℕ-discrete i n) [
+      | yes e ↦
+          ap (λ (b : Bool). b || ltb i n) (eq-eqb (suc i) (suc n) (ap suc e)) ∙ sym (lt-ltb i (suc n) (omega arith))
+      | no q ↦
+          ap (λ (b : Bool). b || ltb i n) (ne-eqb (suc i) (suc n) (λ z. q (suc-inj z)))
+          ∙ elim (decLt i n) [
+            | yes b ↦ lt-ltb i n b ∙ sym (lt-ltb i (suc n) (omega arith))
+            | no b ↦ le-ltb i n (omega arith) ∙ sym (le-ltb i (suc n) (omega arith))
+          ]
+    ]
 
 pub numbers-column : (n i : ℕ) → n < 256 → columnIn (numbersTo n) (replicate 4 0) (suc i) ≡ ltb i n
 numbers-column n i l =

@@ -64,14 +64,13 @@ module _ (column : ℕ → Bool) where
 
   -- two columns have not the same number
   before-once : (i j : ℕ) → column i ≡ true → column j ≡ true → i ≢ j → before i ≢ before j
-  before-once i j ei ej q h =
-      elim (decLt i j) [
-        | yes l ↦ let b = before-lt i j ei l in omega arith
-        | no n ↦ elim (decLt j i) [
-          | yes l ↦ let b = before-lt j i ej l in omega arith
-          | no n′ ↦ q (omega arith)
-        ]
-      ]
+  before-once i j ei ej q h = elim (decLt i j) [
+    | yes l ↦ let b = before-lt i j ei l in omega arith
+    | no n ↦ elim (decLt j i) [
+      | yes l ↦ let b = before-lt j i ej l in omega arith
+      | no n′ ↦ q (omega arith)
+    ]
+  ]
 
   pub before-onto : (m p : ℕ) → p < before m → (i : ℕ) × (i < m) × (column i ≡ true) × (before i ≡ p)
   unfolding sizeBelow
@@ -83,11 +82,10 @@ module _ (column : ℕ → Bool) where
 
       go : (p < before m → (i : ℕ) × (i < m) × (column i ≡ true) × (before i ≡ p)) → (b : Bool) → column m ≡ b
           → (i : ℕ) × (i < suc m) × (column i ≡ true) × (before i ≡ p)
-      go found true e =
-          elim (decLt p (before m)) [
-            | yes b ↦ later (found b)
-            | no q ↦ let h = before-column m e in (m, omega arith, e, omega arith)
-          ]
+      go found true e = elim (decLt p (before m)) [
+        | yes b ↦ later (found b)
+        | no q ↦ let h = before-column m e in (m, omega arith, e, omega arith)
+      ]
       go found false e = let h = before-other m e in later (found (omega arith))
 
   -- ---- the list of the columns
@@ -147,11 +145,10 @@ module _ {F : Type 0} (K : Field F) (n : ℕ) (column : ℕ → Bool) (A B : ℕ
   infixl 60 _⊕_
   infixl 70 _⊗_
   δ-before : (f g : ℕ) → column f ≡ true → column g ≡ true → δ K (before column f) (before column g) ≡ δ K f g
-  δ-before f g ef eg =
-      elim (ℕ-discrete f g) [
-        | yes e ↦ S.δ-same K _ _ (ap (before column) e) ∙ sym (S.δ-same K f g e)
-        | no q ↦ S.δ-other K _ _ (before-once column f g ef eg q) ∙ sym (S.δ-other K f g q)
-      ]
+  δ-before f g ef eg = elim (ℕ-discrete f g) [
+    | yes e ↦ S.δ-same K _ _ (ap (before column) e) ∙ sym (S.δ-same K f g e)
+    | no q ↦ S.δ-other K _ _ (before-once column f g ef eg q) ∙ sym (S.δ-other K f g q)
+  ]
 
   times-zero : (t : ℕ) (w x : ℕ → F) → ((s : ℕ) → x s ≡ 𝟘) → sum K t (λ s. w s ⊗ x s) ≡ 𝟘
   times-zero t w x h = S.sum-none K t (λ s. w s ⊗ x s) (λ s l. ap (λ (z : F). w s ⊗ z) (h s) ∙ S.mul-zero K (w s))

@@ -86,15 +86,14 @@ module _ (rule : ℕ → ℕ → ℕ) (small : (f v : ℕ) → f < 256 → rule 
     weight-at : isSolvable m owners i ≡ true → (v : ℕ) → weightOf m owners i v ≡ weightAt rows weights v
     unfolding weightAt
     weight-at h zero = weight-none table m owners rows X i h
-    weight-at h (suc v) =
-        elim (decLt v rows) [
-          | yes l ↦
-              weight-value table m owners rows X i v inside
-              ∙ sym (ap (λ (b : Bool). cond b (weights v .0) 0) (le-leb (suc v) rows l))
-          | no q ↦
-              weight-late table m owners rows X i v (omega arith)
-              ∙ sym (ap (λ (b : Bool). cond b (weights v .0) 0) (lt-leb (suc v) rows (omega arith)))
-        ]
+    weight-at h (suc v) = elim (decLt v rows) [
+      | yes l ↦
+          weight-value table m owners rows X i v inside
+          ∙ sym (ap (λ (b : Bool). cond b (weights v .0) 0) (le-leb (suc v) rows l))
+      | no q ↦
+          weight-late table m owners rows X i v (omega arith)
+          ∙ sym (ap (λ (b : Bool). cond b (weights v .0) 0) (lt-leb (suc v) rows (omega arith)))
+    ]
 
     pub solved-by : (found : Bool) (ws : List ℕ) → found ≡ isSolvable m owners i → found ≡ true → ws ≡ listBelow 256 (weightOf m owners i)
         → Solved rule nonempty present volumes rows i ws found

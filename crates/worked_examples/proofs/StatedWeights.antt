@@ -33,11 +33,10 @@ use Rattle.worked_examples.proofs.Chosen.{usedBy, chosen-used}
 sumBelow-first : (m n : ℕ) (g : ℕ → ℕ) → m ≤ n → ((i : ℕ) → m ≤ i → g i ≡ 0) → sumBelow n g ≡ sumBelow m g
 unfolding sumBelow
 sumBelow-first m zero g l h = let e : 0 ≡ m = omega arith in ap (λ (k : ℕ). sumBelow k g) e
-sumBelow-first m (suc n) g l h =
-    elim (decLe m n) [
-      | yes b ↦ ap₂ bitXor (sumBelow-first m n g b h) (h n b) ∙ xor-zero-r (sumBelow m g)
-      | no b ↦ let e : suc n ≡ m = omega arith in ap (λ (k : ℕ). sumBelow k g) e
-    ]
+sumBelow-first m (suc n) g l h = elim (decLe m n) [
+  | yes b ↦ ap₂ bitXor (sumBelow-first m n g b h) (h n b) ∙ xor-zero-r (sumBelow m g)
+  | no b ↦ let e : suc n ≡ m = omega arith in ap (λ (k : ℕ). sumBelow k g) e
+]
 
 module _ (t : State) (f : ℕ) (start : List ℕ) where
   abbrev w : List ℕ
@@ -69,8 +68,7 @@ module _ (t : State) (f : ℕ) (start : List ℕ) where
     where
       go : (b : Bool) → usedBy t (getD ls s []) s ≡ b → getD start (t .n + s) 0 ≡ 0
       go true e = absurd (q (chosen-used t fits (getD ls s []) s e))
-      go false e =
-          eqb-true (getD start (t .n + s) 0) 0 (sym (ap (λ (b : Bool). b || eqb (getD start (t .n + s) 0) 0) e) ∙ h)
+      go false e = eqb-true (getD start (t .n + s) 0) 0 (sym (ap (λ (b : Bool). b || eqb (getD start (t .n + s) 0) 0) e) ∙ h)
 
   module _ (n-fits : t .n ≤ length start) (fits : length start ≤ 255) where
     past-start : (p : ℕ) → length start ≤ p → getD w p 0 ≡ 0

@@ -20,6 +20,5 @@ returns c =
     (told .code-number .ensures)
 
 pub bytes-of-parts-spec : {M : Type 1} → statement M
-bytes-of-parts-spec =
-    tie.close
-    (tie.spec (λ c κs. search needs) (λ c. search needs) (λ c. search needs) (λ c. search needs) (λ c κs. search needs) returns)
+bytes-of-parts-spec = tie.close (tie.spec (λ c κs. search needs) (λ c. search needs) (λ c. search needs) (λ c. search needs) (λ c κs. search needs)
+    returns)

@@ -25,7 +25,5 @@ returns-2 c =
     (written-refusal _ out (w .write .ensures ∙ ap (λ (l : List ℕ). withNumber (written l out)) (b .bytes-of-parts .ensures)))
 
 pub put-reading-spec : {M : Type 1} → statement M
-put-reading-spec =
-    tie.close
-    (tie.spec (λ c. search needs) returns (λ c. search needs) (λ c κs. search needs) (λ c. search needs) (λ c κs. search needs) (λ c κs. search needs)
-    (λ c. search needs) returns-2)
+put-reading-spec = tie.close (tie.spec (λ c. search needs) returns (λ c. search needs) (λ c κs. search needs) (λ c. search needs)
+    (λ c κs. search needs) (λ c κs. search needs) (λ c. search needs) returns-2)

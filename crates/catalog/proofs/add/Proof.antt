@@ -14,6 +14,5 @@ returns-2 : tie.Need-returns-2
 returns-2 c = let f = c .before .before .before in add-unread (now (f .before .before .before .args .catalog)) (now (f .before .before .before .args .volume)) (sym (f .read .ensures) ∙ c .before .refusal .given .1)
 
 pub add-spec : {M : Type 1} → statement M
-add-spec =
-    tie.close
-    (tie.spec (λ c κs. search needs) (λ c. search needs) add-read-requires (λ c. search needs) (λ c. search needs) (λ c. search needs) returns-2)
+add-spec = tie.close (tie.spec (λ c κs. search needs) (λ c. search needs) add-read-requires (λ c. search needs) (λ c. search needs)
+    (λ c. search needs) returns-2)

@@ -68,8 +68,6 @@ returns-3 c = let f = c .before .before .before .before in
     add-refuses (now (s .args .catalog)) (now (s .args .volume)) (s .pre) (sym (f .plan-add .ensures) ∙ c .before .before .refusal .given .1) (c .bare2 .ensures)
 
 pub add-read-spec : {M : Type 1} → statement M
-add-read-spec =
-    tie.close
-    (tie.spec (λ c κs. search needs) (λ c. search needs) add-total (λ c κs. search needs) (λ c. search needs) returns (λ c κs. search needs) row-of-requires
-    (λ c. search needs) insert-row-requires add-put-head put-head-requires (λ c. search needs) (λ c κs. search needs) (λ c. search needs) returns-2
-    (λ c. search needs) returns-3)
+add-read-spec = tie.close (tie.spec (λ c κs. search needs) (λ c. search needs) add-total (λ c κs. search needs) (λ c. search needs) returns
+    (λ c κs. search needs) row-of-requires (λ c. search needs) insert-row-requires add-put-head put-head-requires (λ c. search needs)
+    (λ c κs. search needs) (λ c. search needs) returns-2 (λ c. search needs) returns-3)

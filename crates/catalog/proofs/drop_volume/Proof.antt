@@ -40,7 +40,5 @@ returns-2 c = let f = c .before .before .before .before in
     drop-refuses (now (s .args .catalog)) (s .args .number) (sym (f .plan-drop .ensures) ∙ c .before .before .refusal .given .1) (c .bare .ensures)
 
 pub drop-volume-spec : {M : Type 1} → statement M
-drop-volume-spec =
-    tie.close
-    (tie.spec (λ c κs. search needs) (λ c. search needs) remove-row-requires sub-put-head put-head-requires sub-t14 (λ c. search needs) (λ c κs. search needs)
-    (λ c. search needs) returns (λ c. search needs) returns-2)
+drop-volume-spec = tie.close (tie.spec (λ c κs. search needs) (λ c. search needs) remove-row-requires sub-put-head put-head-requires sub-t14
+    (λ c. search needs) (λ c κs. search needs) (λ c. search needs) returns (λ c. search needs) returns-2)

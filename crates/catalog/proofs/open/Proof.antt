@@ -14,6 +14,5 @@ returns-2 : tie.Need-returns-2
 returns-2 c = let f = c .before .before .before in open-unread (now (f .before .before .before .args .file)) (now (f .before .before .before .args .out)) (sym (f .read .ensures) ∙ c .before .refusal .given .1)
 
 pub open-spec : {M : Type 1} → statement M
-open-spec =
-    tie.close
-    (tie.spec (λ c κs. search needs) (λ c. search needs) open-read-requires (λ c. search needs) (λ c. search needs) (λ c. search needs) returns-2)
+open-spec = tie.close (tie.spec (λ c κs. search needs) (λ c. search needs) open-read-requires (λ c. search needs) (λ c. search needs)
+    (λ c. search needs) returns-2)

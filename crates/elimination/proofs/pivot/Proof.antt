@@ -41,7 +41,5 @@ returns-2 c =
     pivot-only _ _ _ _ record { within = omega arith; found = λ h. absurd (none h); before = l .inv .1 }
 
 pub pivot-spec : {M : Type 1} → statement M
-pivot-spec =
-    tie.close
-    (tie.spec Inv-loop μ-loop loop-holds (λ c. omega arith) (λ c. omega arith) (λ c. omega arith) returns (λ c. omega arith) (λ c. omega arith) loop-again
-    returns-2)
+pivot-spec = tie.close (tie.spec Inv-loop μ-loop loop-holds (λ c. omega arith) (λ c. omega arith) (λ c. omega arith) returns (λ c. omega arith)
+    (λ c. omega arith) loop-again returns-2)

@@ -40,7 +40,6 @@ returns c =
     swept-all (a .width) (a .y .now) (a .k) (a .scale) (a .matrix .now) (l .matrix) (s .pre .3) (rw e at (l .inv .1))
 
 pub sweep-spec : {M : Type 1} → statement M
-sweep-spec =
-    tie.close
-    (tie.spec Inv-loop μ-loop loop-holds (λ c. omega arith) (λ c. omega arith) (λ c. omega arith) (λ c. omega arith) (λ c κs. search needs) (λ c. omega arith)
-    (λ c. omega arith) (λ c. omega arith) (λ c κs. search needs) (λ c. omega arith) (λ c. omega arith) loop-again (λ c. omega arith) returns)
+sweep-spec = tie.close (tie.spec Inv-loop μ-loop loop-holds (λ c. omega arith) (λ c. omega arith) (λ c. omega arith) (λ c. omega arith)
+    (λ c κs. search needs) (λ c. omega arith) (λ c. omega arith) (λ c. omega arith) (λ c κs. search needs) (λ c. omega arith) (λ c. omega arith)
+    loop-again (λ c. omega arith) returns)

@@ -48,7 +48,5 @@ returns c =
     listBelow-is 256 _ _ (l .inv .1) (rw e at (l .inv .2))
 
 pub weights-spec : {M : Type 1} → statement M
-weights-spec =
-    tie.close
-    (tie.spec Inv-loop μ-loop (λ c κs. search needs) (λ c. omega arith) loop-holds (λ c. omega arith) (λ c κs. search needs) (λ c. omega arith)
-    (λ c. omega arith) (λ c. omega arith) (λ c. omega arith) (λ c. omega arith) (λ c. omega arith) loop-again returns)
+weights-spec = tie.close (tie.spec Inv-loop μ-loop (λ c κs. search needs) (λ c. omega arith) loop-holds (λ c. omega arith) (λ c κs. search needs)
+    (λ c. omega arith) (λ c. omega arith) (λ c. omega arith) (λ c. omega arith) (λ c. omega arith) (λ c. omega arith) loop-again returns)

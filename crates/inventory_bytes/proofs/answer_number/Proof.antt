@@ -22,6 +22,5 @@ unfolding answerNumber
 returns-4 c = rw (c .before .answer .given .1)
 
 pub answer-number-spec : {M : Type 1} → statement M
-answer-number-spec =
-    tie.close
-    (tie.spec (λ c. search needs) (λ c. search needs) (λ c. search needs) (λ c. search needs) returns returns-2 returns-3 returns-4)
+answer-number-spec = tie.close (tie.spec (λ c. search needs) (λ c. search needs) (λ c. search needs) (λ c. search needs) returns returns-2 returns-3
+    returns-4)

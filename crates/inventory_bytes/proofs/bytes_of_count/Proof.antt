@@ -10,6 +10,4 @@ unfolding numbers toLe
 returns c = c .before .write-numbers .ensures
 
 pub bytes-of-count-spec : {M : Type 1} → statement M
-bytes-of-count-spec =
-    tie.close
-    (tie.spec (λ c. search needs) (λ c. search needs) (λ c κs. search needs) returns)
+bytes-of-count-spec = tie.close (tie.spec (λ c. search needs) (λ c. search needs) (λ c κs. search needs) returns)

@@ -34,7 +34,5 @@ returns-3 c =
     (c .before .opened-by .ensures ∙ ap (λ (k : ℕ). openStep (a .code) (a .n) (numbersAt k (now (a .sizes)) 0)) many)
 
 pub opened-spec : {M : Type 1} → statement M
-opened-spec =
-    tie.close
-    (tie.spec (λ c κs. search needs) returns (λ c. search needs) (λ c κs. search needs) returns-2 (λ c. search needs) slice-aggregate-opened-by
-    (λ c κs. search needs) returns-3)
+opened-spec = tie.close (tie.spec (λ c κs. search needs) returns (λ c. search needs) (λ c κs. search needs) returns-2 (λ c. search needs)
+    slice-aggregate-opened-by (λ c κs. search needs) returns-3)

@@ -25,6 +25,5 @@ returns-2 c =
     (count-written out _ _ _ (w .write .ensures ∙ ap (λ (l : List ℕ). withNumber (written l out)) (b .bytes-of-count .ensures)))
 
 pub store-count-spec : {M : Type 1} → statement M
-store-count-spec =
-    tie.close
-    (tie.spec (λ c. search needs) returns (λ c. search needs) (λ c κs. search needs) (λ c. search needs) (λ c κs. search needs) (λ c. search needs) returns-2)
+store-count-spec = tie.close (tie.spec (λ c. search needs) returns (λ c. search needs) (λ c κs. search needs) (λ c. search needs)
+    (λ c κs. search needs) (λ c. search needs) returns-2)

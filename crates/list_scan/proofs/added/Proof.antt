@@ -15,6 +15,5 @@ unfolding addEntry
 returns c = cc
 
 pub added-spec : {M : Type 1} → statement M
-added-spec =
-    tie.close
-    (tie.spec (λ c κs. search needs) (λ c κs. search needs) (λ c. search needs) (λ c κs. search needs) add-t11 (λ c κs. search needs) returns)
+added-spec = tie.close (tie.spec (λ c κs. search needs) (λ c κs. search needs) (λ c. search needs) (λ c κs. search needs) add-t11
+    (λ c κs. search needs) returns)

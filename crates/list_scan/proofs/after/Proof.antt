@@ -103,8 +103,6 @@ returns : tie.Need-returns Inv-loop μ-loop
 returns c = let l = c .before .loop in kept-done _ _ _ (l .i) (omega arith) (l .inv)
 
 pub after-spec : {M : Type 1} → statement M
-after-spec =
-    tie.close
-    (tie.spec Inv-loop μ-loop loop-holds (λ c. omega arith) part-rest-start (λ c. omega arith) next-run-requires slice-aggregate-taken add-i slice-aggregate-put
-    (λ c κs. search needs) add-at (λ c κs. search needs) added-requires (λ c κs. search needs) loop-less loop-again sub-low shared-slice-read-low loop-less-2
-    loop-again-2 returns)
+after-spec = tie.close (tie.spec Inv-loop μ-loop loop-holds (λ c. omega arith) part-rest-start (λ c. omega arith) next-run-requires
+    slice-aggregate-taken add-i slice-aggregate-put (λ c κs. search needs) add-at (λ c κs. search needs) added-requires (λ c κs. search needs)
+    loop-less loop-again sub-low shared-slice-read-low loop-less-2 loop-again-2 returns)

@@ -35,6 +35,4 @@ returns-3 : tie.Need-returns-3
 returns-3 c = simp (decided (c .before), le-leb _ _ (c .if2 .left))
 
 pub fault-at-spec : {M : Type 1} → statement M
-fault-at-spec =
-    tie.close
-    (tie.spec (λ c κs. search needs) (λ c κs. search needs) returns (λ c κs. search needs) returns-2 returns-3)
+fault-at-spec = tie.close (tie.spec (λ c κs. search needs) (λ c κs. search needs) returns (λ c κs. search needs) returns-2 returns-3)

@@ -29,5 +29,4 @@ returns-3 c =
     (c .sum-fits3 .ensures)
 
 pub has-room-spec : {M : Type 1} → statement M
-has-room-spec =
-    tie.close (tie.spec (λ c κs. search needs) returns (λ c κs. search needs) returns-2 (λ c κs. search needs) returns-3)
+has-room-spec = tie.close (tie.spec (λ c κs. search needs) returns (λ c κs. search needs) returns-2 (λ c κs. search needs) returns-3)

@@ -44,6 +44,5 @@ returns-4 : tie.Need-returns-4
 returns-4 c = c .name-ended .ensures ∙ sym (simp (decided (c .before .before), le-leb _ _ (c .before .if3 .left)))
 
 pub is-whole-spec : {M : Type 1} → statement M
-is-whole-spec =
-    tie.close
-    (tie.spec (λ c κs. search needs) returns (λ c κs. search needs) returns-2 (λ c κs. search needs) returns-3 (λ c κs. search needs) returns-4)
+is-whole-spec = tie.close (tie.spec (λ c κs. search needs) returns (λ c κs. search needs) returns-2 (λ c κs. search needs) returns-3
+    (λ c κs. search needs) returns-4)

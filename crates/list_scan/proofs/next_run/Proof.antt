@@ -45,7 +45,5 @@ returns-4 c =
     (c .with-units .ensures)
 
 pub next-run-spec : {M : Type 1} → statement M
-next-run-spec =
-    tie.close
-    (tie.spec (λ c. search needs) (λ c κs. search needs) returns (λ c. search needs) (λ c κs. search needs) returns-2 returns-3 (λ c κs. search needs)
-    units-to-end-requires slice-aggregate-with-units (λ c κs. search needs) returns-4)
+next-run-spec = tie.close (tie.spec (λ c. search needs) (λ c κs. search needs) returns (λ c. search needs) (λ c κs. search needs) returns-2 returns-3
+    (λ c κs. search needs) units-to-end-requires slice-aggregate-with-units (λ c κs. search needs) returns-4)

@@ -16,6 +16,4 @@ returns-3 : tie.Need-returns-3
 returns-3 c = (omega arith, omega arith, omega arith, inr (omega arith))
 
 pub units-to-end-spec : {M : Type 1} → statement M
-units-to-end-spec =
-    tie.close
-    (tie.spec (λ c. search needs) returns (λ c. search needs) returns-2 (λ c. search needs) returns-3)
+units-to-end-spec = tie.close (tie.spec (λ c. search needs) returns (λ c. search needs) returns-2 (λ c. search needs) returns-3)

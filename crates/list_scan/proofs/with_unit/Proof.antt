@@ -4,10 +4,6 @@ use borrow.Author.Needs.{needs}
 use Rattle.list_scan.proofs.with_unit.Statement.{statement}
 use Rattle.list_scan.proofs.with_unit.Tie as tie
 
-returns : tie.Need-returns
-returns c = cc
-
 pub with-unit-spec : {M : Type 1} → statement M
-with-unit-spec =
-    tie.close
-    (tie.spec (λ c. search needs) (λ c. search needs) (λ c κs. search needs) (λ c κs. search needs) (λ c κs. search needs) (λ c κs. search needs) returns)
+with-unit-spec = tie.close (tie.spec (λ c. search needs) (λ c. search needs) (λ c κs. search needs) (λ c κs. search needs) (λ c κs. search needs)
+    (λ c κs. search needs) (λ c. cc))

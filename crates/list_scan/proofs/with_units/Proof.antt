@@ -4,9 +4,5 @@ use borrow.Author.Needs.{needs}
 use Rattle.list_scan.proofs.with_units.Statement.{statement}
 use Rattle.list_scan.proofs.with_units.Tie as tie
 
-returns : tie.Need-returns
-returns c = cc
-
 pub with-units-spec : {M : Type 1} → statement M
-with-units-spec =
-    tie.close (tie.spec (λ c κs. search needs) (λ c κs. search needs) (λ c κs. search needs) (λ c κs. search needs) returns)
+with-units-spec = tie.close (tie.spec (λ c κs. search needs) (λ c κs. search needs) (λ c κs. search needs) (λ c κs. search needs) (λ c. cc))

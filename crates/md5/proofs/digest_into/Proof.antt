@@ -17,6 +17,4 @@ returns c =
     w .write .ensures ∙ ap (λ (d : List ℕ). withNumber (written d (now (a .out)))) (found .digest .ensures)
 
 pub digest-into-spec : {M : Type 1} → statement M
-digest-into-spec =
-    tie.close
-    (tie.spec (λ c κs. search needs) (λ c. search needs) (λ c κs. search needs) (λ c. search needs) returns)
+digest-into-spec = tie.close (tie.spec (λ c κs. search needs) (λ c. search needs) (λ c κs. search needs) (λ c. search needs) returns)

@@ -16,7 +16,5 @@ returns c =
     (search needs, ap (take (zeros n + 9)) (c .before .write64 .ensures) ∙ padding-is n)
 
 pub padding-of-spec : {M : Type 1} → statement M
-padding-of-spec =
-    tie.close
-    (tie.spec (λ c. search needs) (λ c. search needs) (λ c. search needs) (λ c. search needs) (λ c. search needs) (λ c κs. search needs) (λ c. search needs)
-    returns)
+padding-of-spec = tie.close (tie.spec (λ c. search needs) (λ c. search needs) (λ c. search needs) (λ c. search needs) (λ c. search needs)
+    (λ c κs. search needs) (λ c. search needs) returns)

@@ -44,7 +44,5 @@ returns c =
     l .inv .1 ∙ addMultiples-all _ (a .fragment .now) (a .buffer .now) (l .p) (omega arith)
 
 pub add-multiples-spec : {M : Type 1} → statement M
-add-multiples-spec =
-    tie.close
-    (tie.spec Inv-loop μ-loop (λ c κs. search needs) loop-holds (λ c. omega arith) (λ c. omega arith) (λ c κs. search needs) (λ c. omega arith)
-    (λ c. omega arith) (λ c. omega arith) loop-again same-length returns)
+add-multiples-spec = tie.close (tie.spec Inv-loop μ-loop (λ c κs. search needs) loop-holds (λ c. omega arith) (λ c. omega arith)
+    (λ c κs. search needs) (λ c. omega arith) (λ c. omega arith) (λ c. omega arith) loop-again same-length returns)

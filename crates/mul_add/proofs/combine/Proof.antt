@@ -19,7 +19,5 @@ returns c =
     (d .if-high4 .ensures) (e .if-high5 .ensures) (f .if-high6 .ensures) (g .if-high7 .ensures) (c .if-high8 .ensures)
 
 pub combine-spec : {M : Type 1} → statement M
-combine-spec =
-    tie.close
-    (tie.spec (λ c κs. search needs) (λ c κs. search needs) (λ c κs. search needs) (λ c κs. search needs) (λ c κs. search needs) (λ c κs. search needs)
-    (λ c κs. search needs) (λ c κs. search needs) returns)
+combine-spec = tie.close (tie.spec (λ c κs. search needs) (λ c κs. search needs) (λ c κs. search needs) (λ c κs. search needs) (λ c κs. search needs)
+    (λ c κs. search needs) (λ c κs. search needs) (λ c κs. search needs) returns)

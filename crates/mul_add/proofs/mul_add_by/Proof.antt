@@ -27,5 +27,4 @@ returns-2 c =
     sym (ap (λ (b : Bool). cond b (a .buffer .now) added) (eq-eqb _ _ (c .if1 .left)))
 
 pub mul-add-by-spec : {M : Type 1} → statement M
-mul-add-by-spec =
-    tie.close (tie.spec (λ c κs. search needs) (λ c. search needs) (λ c κs. search needs) (λ c. search needs) returns returns-2)
+mul-add-by-spec = tie.close (tie.spec (λ c κs. search needs) (λ c. search needs) (λ c κs. search needs) (λ c. search needs) returns returns-2)

@@ -15,5 +15,5 @@ returns-2 : tie.Need-returns-2
 returns-2 c = inserted-by-mask (c .before .args .k) (c .before .args .t1)
 
 pub insert-spec : {M : Type 1} → statement M
-insert-spec =
-    tie.close (tie.spec returns (λ c. search needs) (λ c. search needs) (λ c. search needs) (λ c. search needs) (λ c. search needs) returns-2)
+insert-spec = tie.close (tie.spec returns (λ c. search needs) (λ c. search needs) (λ c. search needs) (λ c. search needs) (λ c. search needs)
+    returns-2)

@@ -15,5 +15,5 @@ returns-2 : tie.Need-returns-2
 returns-2 c = removed-by-mask (c .before .args .k) (c .before .args .t1)
 
 pub remove-spec : {M : Type 1} → statement M
-remove-spec =
-    tie.close (tie.spec returns (λ c. search needs) (λ c. search needs) (λ c. search needs) (λ c. search needs) (λ c. search needs) returns-2)
+remove-spec = tie.close (tie.spec returns (λ c. search needs) (λ c. search needs) (λ c. search needs) (λ c. search needs) (λ c. search needs)
+    returns-2)

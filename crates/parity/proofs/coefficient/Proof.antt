@@ -30,6 +30,4 @@ returns-5 c =
     ap Byte (c .coefficient-of .ensures) ∙ sym (answer-in-range (a .code) (a .file) (a .volume) (omega arith) (omega arith) (omega arith))
 
 pub coefficient-spec : {M : Type 1} → statement M
-coefficient-spec =
-    tie.close
-    (tie.spec returns returns-2 returns-3 returns-4 (λ c. search needs) (λ c. search needs) (λ c κs. search needs) returns-5)
+coefficient-spec = tie.close (tie.spec returns returns-2 returns-3 returns-4 (λ c. search needs) (λ c. search needs) (λ c κs. search needs) returns-5)

@@ -13,6 +13,4 @@ unfolding coefficientBy
 returns-2 c = rw (c .before .enum-told2 .given .1) (c .cauchy-by .ensures)
 
 pub coefficient-by-spec : {M : Type 1} → statement M
-coefficient-by-spec =
-    tie.close
-    (tie.spec (λ c. search needs) (λ c κs. search needs) (λ c. search needs) (λ c κs. search needs) returns returns-2)
+coefficient-by-spec = tie.close (tie.spec (λ c. search needs) (λ c κs. search needs) (λ c. search needs) (λ c κs. search needs) returns returns-2)

@@ -16,6 +16,5 @@ returns-2 c =
     at-part (a .weight) (a .at) (now (a .fragment)) (now (a .buffer)) (c .before .before .mul-add .ensures)
 
 pub mul-add-at-spec : {M : Type 1} → statement M
-mul-add-at-spec =
-    tie.close
-    (tie.spec returns (λ c. search needs) (λ c. search needs) (λ c. search needs) (λ c κs. search needs) (λ c. search needs) returns-2)
+mul-add-at-spec = tie.close (tie.spec returns (λ c. search needs) (λ c. search needs) (λ c. search needs) (λ c κs. search needs) (λ c. search needs)
+    returns-2)

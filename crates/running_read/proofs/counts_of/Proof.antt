@@ -5,9 +5,6 @@ use Rattle.running_read.specs.Running.{countsOf}
 use Rattle.running_read.proofs.counts_of.Statement.{statement}
 use Rattle.running_read.proofs.counts_of.Tie as tie
 
-returns : tie.Need-returns
-unfolding countsOf
-returns c = refl
-
 pub counts-of-spec : {M : Type 1} → statement M
-counts-of-spec = tie.close (tie.spec returns)
+unfolding countsOf
+counts-of-spec = tie.close (tie.spec (λ c. refl))

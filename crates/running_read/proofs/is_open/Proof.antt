@@ -64,6 +64,5 @@ returns-7 : tie.Need-returns-7
 returns-7 c = let t = told (c .before .before) in sym (open-set _ (t .goes) (t .short) (t .control-is) (t .within) (t .some))
 
 pub is-open-spec : {M : Type 1} → statement M
-is-open-spec =
-    tie.close
-    (tie.spec returns returns-2 (λ c κs. search needs) returns-3 (λ c κs. search needs) returns-4 returns-5 returns-6 mul-result returns-7)
+is-open-spec = tie.close (tie.spec returns returns-2 (λ c κs. search needs) returns-3 (λ c κs. search needs) returns-4 returns-5 returns-6 mul-result
+    returns-7)

@@ -4,9 +4,5 @@ use borrow.Author.Needs.{needs}
 use Rattle.running_read.proofs.listed_in.Statement.{statement}
 use Rattle.running_read.proofs.listed_in.Tie as tie
 
-returns : tie.Need-returns
-returns c = cc
-
 pub listed-in-spec : {M : Type 1} → statement M
-listed-in-spec =
-    tie.close (tie.spec (λ c κs. search needs) (λ c κs. search needs) (λ c κs. search needs) (λ c κs. search needs) returns)
+listed-in-spec = tie.close (tie.spec (λ c κs. search needs) (λ c κs. search needs) (λ c κs. search needs) (λ c κs. search needs) (λ c. cc))

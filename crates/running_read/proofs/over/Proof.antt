@@ -5,9 +5,6 @@ use Rattle.running_read.specs.Running.{overOf}
 use Rattle.running_read.proofs.over.Statement.{statement}
 use Rattle.running_read.proofs.over.Tie as tie
 
-returns : tie.Need-returns
-unfolding overOf
-returns c = refl
-
 pub over-spec : {M : Type 1} → statement M
-over-spec = tie.close (tie.spec returns)
+unfolding overOf
+over-spec = tie.close (tie.spec (λ c. refl))

@@ -24,8 +24,7 @@ extended-requires : tie.Need-extended-requires
 extended-requires c κs = open-short _ (opened c)
 
 returns-2 : tie.Need-returns-2
-returns-2 c =
-    ap (λ (j : RunningRead). record { number = 0; next = j }) (c .extended .ensures) ∙ sym (push-open _ _ (opened (c .before)))
+returns-2 c = ap (λ (j : RunningRead). record { number = 0; next = j }) (c .extended .ensures) ∙ sym (push-open _ _ (opened (c .before)))
 
 pub push-spec : {M : Type 1} → statement M
 push-spec = tie.close (tie.spec (λ c κs. search needs) (λ c κs. search needs) returns extended-requires returns-2)

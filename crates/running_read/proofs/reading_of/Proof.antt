@@ -5,12 +5,7 @@ use borrow.Author.Needs.{needs}
 use Rattle.running_read.proofs.reading_of.Statement.{statement}
 use Rattle.running_read.proofs.reading_of.Tie as tie
 
-returns : tie.Need-returns
-unfolding readingOf
-returns c = cc
-
 pub reading-of-spec : {M : Type 1} → statement M
-reading-of-spec =
-    tie.close
-    (tie.spec (λ c κs. search needs) (λ c κs. search needs) (λ c. search needs) (λ c. search needs) (λ c. search needs) (λ c κs. search needs)
-    (λ c κs. search needs) returns)
+unfolding readingOf
+reading-of-spec = tie.close (tie.spec (λ c κs. search needs) (λ c κs. search needs) (λ c. search needs) (λ c. search needs) (λ c. search needs)
+    (λ c κs. search needs) (λ c κs. search needs) (λ c. cc))

@@ -5,9 +5,6 @@ use borrow.Author.Needs.{needs}
 use Rattle.running_read.proofs.start.Statement.{statement}
 use Rattle.running_read.proofs.start.Tie as tie
 
-returns : tie.Need-returns
-unfolding startRead
-returns c = cc
-
 pub start-spec : {M : Type 1} → statement M
-start-spec = tie.close (tie.spec (λ c κs. search needs) (λ c κs. search needs) returns)
+unfolding startRead
+start-spec = tie.close (tie.spec (λ c κs. search needs) (λ c κs. search needs) (λ c. cc))

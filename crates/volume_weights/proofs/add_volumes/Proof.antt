@@ -35,6 +35,5 @@ add-volume-requires : tie.Need-add-volume-requires Inv-loop μ-loop
 add-volume-requires c κs = c .before .before .before .loop .inv .1 (search needs) .apart
 
 pub add-volumes-spec : {M : Type 1} → statement M
-add-volumes-spec =
-    tie.close
-    (tie.spec Inv-loop μ-loop loop-holds (λ c. omega arith) add-volume-requires (λ c. omega arith) (λ c. omega arith) loop-again returns)
+add-volumes-spec = tie.close (tie.spec Inv-loop μ-loop loop-holds (λ c. omega arith) add-volume-requires (λ c. omega arith) (λ c. omega arith)
+    loop-again returns)

@@ -36,7 +36,5 @@ returns c =
     (λ i b. l .inv .1 .each i b ∙ ap (λ (m : ℕ). fileWeight (ruleOf (a .code)) (a .present) (a .weights .now) m i) e)
 
 pub file-weights-spec : {M : Type 1} → statement M
-file-weights-spec =
-    tie.close
-    (tie.spec Inv-loop μ-loop loop-holds (λ c. omega arith) (λ c. omega arith) (λ c. omega arith) (λ c. omega arith) (λ c κs. search needs) (λ c. omega arith)
-    (λ c. omega arith) loop-again returns)
+file-weights-spec = tie.close (tie.spec Inv-loop μ-loop loop-holds (λ c. omega arith) (λ c. omega arith) (λ c. omega arith) (λ c. omega arith)
+    (λ c κs. search needs) (λ c. omega arith) (λ c. omega arith) loop-again returns)

@@ -54,7 +54,5 @@ returns-2 c =
     first-only _ _ _ record { within = omega arith; found = λ h. absurd (omega arith); before = l .inv .1 }
 
 pub place-spec : {M : Type 1} → statement M
-place-spec =
-    tie.close
-    (tie.spec Inv-loop μ-loop loop-holds (λ c κs. search needs) (λ c. omega arith) (λ c κs. search needs) (λ c κs. search needs) (λ c. omega arith) returns
-    (λ c. omega arith) (λ c. omega arith) loop-again returns-2)
+place-spec = tie.close (tie.spec Inv-loop μ-loop loop-holds (λ c κs. search needs) (λ c. omega arith) (λ c κs. search needs) (λ c κs. search needs)
+    (λ c. omega arith) returns (λ c. omega arith) (λ c. omega arith) loop-again returns-2)

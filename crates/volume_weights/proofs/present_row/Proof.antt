@@ -52,7 +52,5 @@ returns c =
     row-filled (ruleOf (a .code)) (a .present) (replicate 4 0) (a .volume) (l .row) (l .inv .1) (l .inv .2) (rw e at (l .inv .3))
 
 pub present-row-spec : {M : Type 1} → statement M
-present-row-spec =
-    tie.close
-    (tie.spec Inv-loop μ-loop (λ c κs. search needs) (λ c κs. search needs) loop-holds (λ c. omega arith) (λ c κs. search needs) (λ c. omega arith)
-    (λ c κs. search needs) (λ c. omega arith) (λ c. omega arith) (λ c. omega arith) loop-again returns)
+present-row-spec = tie.close (tie.spec Inv-loop μ-loop (λ c κs. search needs) (λ c κs. search needs) loop-holds (λ c. omega arith)
+    (λ c κs. search needs) (λ c. omega arith) (λ c κs. search needs) (λ c. omega arith) (λ c. omega arith) (λ c. omega arith) loop-again returns)

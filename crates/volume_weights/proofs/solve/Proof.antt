@@ -51,7 +51,5 @@ returns-3 c =
     (unplaced (a .nonempty) (a .present) _ _ (columns .columns .ensures) (a .column) _ (place .place .ensures) (c .if1 .left))
 
 pub solve-spec : {M : Type 1} → statement M
-solve-spec =
-    tie.close
-    (tie.spec (λ c κs. search needs) (λ c κs. search needs) (λ c κs. search needs) add-volumes-requires (λ c κs. search needs) (λ c κs. search needs) returns
-    returns-2 returns-3)
+solve-spec = tie.close (tie.spec (λ c κs. search needs) (λ c κs. search needs) (λ c κs. search needs) add-volumes-requires (λ c κs. search needs)
+    (λ c κs. search needs) returns returns-2 returns-3)

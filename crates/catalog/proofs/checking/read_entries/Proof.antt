@@ -3,12 +3,11 @@
 use mathlib.Core.Path.{_≡_, sym, ap, _∙_}
 use Prim.Native.Nat.{ℕ, _≤_, _+_, _*_}
 use native.Mathlib.Omega.{arith}
-use lib.ListN.{length}
+use lib.ListN.{length, drop}
 use borrow.Author.Needs.{needs}
 use borrow.Author.Tests.{lt-leb, le-leb, not-true, not-false}
 use mathlib.Core.List.{[]}
 use lib.Dec.{eqb}
-use lib.ListN.{drop}
 use denote.Ref.{now}
 use Rattle.catalog.specs.Catalog.{rowsIn}
 use Rattle.catalog.specs.Plan.{enteredOf}
@@ -30,20 +29,8 @@ none l z = ap (λ (k : ℕ). rowsIn k (drop (l .loop .at) (now (l .before .befor
 loop-holds : tie.Need-loop-holds Inv-loop μ-loop
 loop-holds c = (omega arith, omega arith, entered-start (rowsIn (c .before .args .count) (now (c .before .args .rows))))
 
-read32-requires : tie.Need-read32-requires Inv-loop μ-loop
-read32-requires c κs = search needs
-
-cast-number : tie.Need-cast-number Inv-loop μ-loop
-cast-number c = omega arith
-
 add-read64 : tie.Need-add-read64 Inv-loop μ-loop
 add-read64 c = let i = c .before .before .loop .inv .0 in omega arith
-
-read64-requires : tie.Need-read64-requires Inv-loop μ-loop
-read64-requires c κs = search needs
-
-in-turn-requires : tie.Need-in-turn-requires Inv-loop μ-loop
-in-turn-requires c κs = search needs
 
 returns : tie.Need-returns Inv-loop μ-loop
 returns c = let l = c .before .before .before .before .before in
@@ -58,21 +45,6 @@ returns-2 c = let n = c .before .before in
     let size = lt-leb _ _ (c .if2 .taken) in
     sym (entered-stop (l .loop .saved) (l .loop .greatest) _ _ _ (n .before .before .before .loop-test .taken)
     (n .before .before .read32 .ensures) (n .before .read64 .ensures) (simp (turn, size))) ∙ l .loop .inv .2
-
-greatest-after-requires : tie.Need-greatest-after-requires Inv-loop μ-loop
-greatest-after-requires c κs = search needs
-
-saved-after-requires : tie.Need-saved-after-requires Inv-loop μ-loop
-saved-after-requires c κs = omega arith
-
-add-at : tie.Need-add-at Inv-loop μ-loop
-add-at c = omega arith
-
-sub-left : tie.Need-sub-left Inv-loop μ-loop
-sub-left c = omega arith
-
-loop-less : tie.Need-loop-less Inv-loop μ-loop
-loop-less c = omega arith
 
 loop-again : tie.Need-loop-again Inv-loop μ-loop
 loop-again c = let n = c .before .before .before .before in
@@ -95,7 +67,6 @@ returns-4 c = let l = c .before .before in
     sym (entered-end (l .loop .saved) (l .loop .greatest) (none l (omega arith)) (c .if3 .left)) ∙ l .loop .inv .2
 
 pub read-entries-spec : {M : Type 1} → statement M
-read-entries-spec =
-    tie.close
-    (tie.spec Inv-loop μ-loop loop-holds read32-requires cast-number add-read64 read64-requires in-turn-requires returns returns-2 greatest-after-requires
-    saved-after-requires add-at sub-left loop-less loop-again returns-3 returns-4)
+read-entries-spec = tie.close (tie.spec Inv-loop μ-loop loop-holds (λ c κs. search needs) (λ c. omega arith) add-read64 (λ c κs. search needs)
+    (λ c κs. search needs) returns returns-2 (λ c κs. search needs) (λ c κs. omega arith) (λ c. omega arith) (λ c. omega arith) (λ c. omega arith)
+    loop-again returns-3 returns-4)

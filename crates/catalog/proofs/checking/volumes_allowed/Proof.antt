@@ -3,11 +3,10 @@
 use mathlib.Core.Path.{_≡_, refl, sym, ap, _∙_}
 use Prim.Native.Nat.{ℕ, _≤_, _-_, _+_, _*_}
 use native.Mathlib.Omega.{arith}
-use lib.ListN.{length}
+use lib.ListN.{length, drop}
 use borrow.Author.Needs.{needs}
 use borrow.Author.Tests.{not-true, not-false}
 use mathlib.Core.Bool.{_&&_}
-use lib.ListN.{drop}
 use denote.Ref.{now}
 use Rattle.catalog.specs.Catalog.{rowsIn, volumeRowsAllowed}
 use Rattle.catalog.proofs.CheckLaws.{volumes-more}
@@ -34,33 +33,12 @@ more c = volumes-more _ _ _ _ _ _ (c .before .before .before .loop-test .taken) 
 loop-holds : tie.Need-loop-holds Inv-loop μ-loop
 loop-holds c = (omega arith, refl)
 
-read32-requires : tie.Need-read32-requires Inv-loop μ-loop
-read32-requires c κs = search needs
-
-cast-number : tie.Need-cast-number Inv-loop μ-loop
-cast-number c = omega arith
-
 add-read64 : tie.Need-add-read64 Inv-loop μ-loop
 add-read64 c = let i = c .before .before .loop .inv .0 in omega arith
-
-read64-requires : tie.Need-read64-requires Inv-loop μ-loop
-read64-requires c κs = search needs
-
-volume-allowed-requires : tie.Need-volume-allowed-requires Inv-loop μ-loop
-volume-allowed-requires c κs = search needs
 
 returns : tie.Need-returns Inv-loop μ-loop
 returns c = let l = c .before .before .before .before .before .loop in
     sym (more (c .before) ∙ simp (not-true (c .before .volume-allowed .result) (c .if1 .taken))) ∙ l .inv .1
-
-add-at : tie.Need-add-at Inv-loop μ-loop
-add-at c = omega arith
-
-sub-left : tie.Need-sub-left Inv-loop μ-loop
-sub-left c = omega arith
-
-loop-less : tie.Need-loop-less Inv-loop μ-loop
-loop-less c = omega arith
 
 loop-again : tie.Need-loop-again Inv-loop μ-loop
 loop-again c = let l = c .before .before .before .before .before .loop in
@@ -74,7 +52,5 @@ returns-2 c = let l = c .before in
     sym (ap (λ (k : ℕ). volumeRowsAllowed (a .saved) (a .greatest) (l .loop .last) (rowsIn k (drop (l .loop .at) (now (a .rows))))) none) ∙ l .loop .inv .1
 
 pub volumes-allowed-spec : {M : Type 1} → statement M
-volumes-allowed-spec =
-    tie.close
-    (tie.spec Inv-loop μ-loop loop-holds read32-requires cast-number add-read64 read64-requires volume-allowed-requires returns add-at sub-left loop-less
-    loop-again returns-2)
+volumes-allowed-spec = tie.close (tie.spec Inv-loop μ-loop loop-holds (λ c κs. search needs) (λ c. omega arith) add-read64 (λ c κs. search needs)
+    (λ c κs. search needs) returns (λ c. omega arith) (λ c. omega arith) (λ c. omega arith) loop-again returns-2)

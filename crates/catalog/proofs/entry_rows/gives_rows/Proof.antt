@@ -3,10 +3,9 @@
 use mathlib.Core.Path.{_≡_, refl, sym, ap, _∙_}
 use Prim.Native.Nat.{ℕ, _≤_, _-_, _+_}
 use native.Mathlib.Omega.{arith}
-use lib.ListN.{length}
+use lib.ListN.{length, drop}
 use borrow.Author.Needs.{needs}
 use mathlib.Core.List.{List, _∷_, flatten}
-use lib.ListN.{drop}
 use denote.Ref.{now}
 use borrow.Author.Tests.{not-true, not-false}
 use Rattle.lent_bytes.specs.Equal.{equal}
@@ -60,12 +59,6 @@ next c =
 loop-holds : tie.Need-loop-holds Inv-loop μ-loop
 loop-holds c = (omega arith, omega arith, omega arith, refl)
 
-at-requires : tie.Need-at-requires Inv-loop μ-loop
-at-requires c κs = search needs
-
-enum-known-length : tie.Need-enum-known-length Inv-loop μ-loop
-enum-known-length c = search needs
-
 returns : tie.Need-returns Inv-loop μ-loop
 unfolding rowsAfter
 returns c = let l = c .before .before in
@@ -75,32 +68,17 @@ returns c = let l = c .before .before in
 add-part : tie.Need-add-part Inv-loop μ-loop
 add-part c = let i = entry-in c in omega (arith, i .low, i .fits)
 
-part-requires : tie.Need-part-requires Inv-loop μ-loop
-part-requires c κs = search needs
-
 file-number-requires : tie.Need-file-number-requires Inv-loop μ-loop
 file-number-requires c κs = omega (arith, entry-in (c .before) .low, entry-in (c .before) .fits)
 
 row-of-requires : tie.Need-row-of-requires Inv-loop μ-loop
 row-of-requires c κs = let i = entry-in (c .before .before) in hash-length 0 _ _ i (c .before .part .ensures)
 
-slice-aggregate-same : tie.Need-slice-aggregate-same Inv-loop μ-loop
-slice-aggregate-same c = omega arith
-
-part-requires-2 : tie.Need-part-requires-2 Inv-loop μ-loop
-part-requires-2 c κs = search needs
-
-same-requires : tie.Need-same-requires Inv-loop μ-loop
-same-requires c κs = search needs
-
 returns-2 : tie.Need-returns-2 Inv-loop μ-loop
 returns-2 c = let same = c .before in
     let l = same .before .before .before .before .before .before .before .before .before .before in
     sym (compare-next _ _ (now (l .before .before .before .args .rows)) (l .loop .at) (next same .1) (next same .0) (same .before .part2 .ensures) (same .same .ensures)
     ∙ simp (not-true (same .same .result) (c .if1 .taken))) ∙ l .loop .inv .3
-
-saved-count-requires : tie.Need-saved-count-requires Inv-loop μ-loop
-saved-count-requires c κs = search needs
 
 add-saved : tie.Need-add-saved Inv-loop μ-loop
 add-saved c = let known = c .before .before .before .before .before .before .before .before in
@@ -143,7 +121,6 @@ loop-again c = let same = c .before .before in
     )
 
 pub gives-rows-spec : {M : Type 1} → statement M
-gives-rows-spec =
-    tie.close
-    (tie.spec Inv-loop μ-loop loop-holds at-requires enum-known-length returns add-part part-requires file-number-requires row-of-requires slice-aggregate-same
-    part-requires-2 same-requires returns-2 saved-count-requires add-saved add-at add-from loop-less loop-again)
+gives-rows-spec = tie.close (tie.spec Inv-loop μ-loop loop-holds (λ c κs. search needs) (λ c. search needs) returns add-part (λ c κs. search needs)
+    file-number-requires row-of-requires (λ c. omega arith) (λ c κs. search needs) (λ c κs. search needs) returns-2 (λ c κs. search needs) add-saved
+    add-at add-from loop-less loop-again)

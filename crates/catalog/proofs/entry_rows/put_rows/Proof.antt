@@ -3,10 +3,9 @@
 use mathlib.Core.Path.{_≡_, refl, sym, ap, _∙_}
 use Prim.Native.Nat.{ℕ, _≤_, _-_, _+_, _*_}
 use native.Mathlib.Omega.{arith}
-use lib.ListN.{length}
+use lib.ListN.{length, drop}
 use borrow.Author.Needs.{needs}
 use mathlib.Core.List.{List, _∷_, flatten}
-use lib.ListN.{drop}
 use lib.Seq.{sets}
 use denote.Ref.{now}
 use Rattle.entries.specs.Entry.{savedCount}
@@ -36,12 +35,6 @@ entry-in c = entry-at _ _ (c .before .before .before .at .ensures) (c .before .l
 loop-holds : tie.Need-loop-holds Inv-loop μ-loop
 loop-holds c = (omega arith, refl, omega arith, c .before .before .pre, refl)
 
-at-requires : tie.Need-at-requires Inv-loop μ-loop
-at-requires c κs = search needs
-
-enum-known-length : tie.Need-enum-known-length Inv-loop μ-loop
-enum-known-length c = search needs
-
 same-length : tie.Need-same-length Inv-loop μ-loop
 same-length c = let l = c .before .before in l .loop .inv .1
 
@@ -54,23 +47,11 @@ returns c = let l = c .before .before in
 add-part : tie.Need-add-part Inv-loop μ-loop
 add-part c = let i = entry-in c in omega (arith, i .low, i .fits)
 
-part-requires : tie.Need-part-requires Inv-loop μ-loop
-part-requires c κs = search needs
-
 file-number-requires : tie.Need-file-number-requires Inv-loop μ-loop
 file-number-requires c κs = omega (arith, entry-in (c .before) .low, entry-in (c .before) .fits)
 
 row-of-requires : tie.Need-row-of-requires Inv-loop μ-loop
 row-of-requires c κs = let i = entry-in (c .before .before) in hash-length 0 _ _ i (c .before .part .ensures)
-
-slice-aggregate-put : tie.Need-slice-aggregate-put Inv-loop μ-loop
-slice-aggregate-put c = omega arith
-
-put-requires : tie.Need-put-requires Inv-loop μ-loop
-put-requires c κs = search needs
-
-saved-count-requires : tie.Need-saved-count-requires Inv-loop μ-loop
-saved-count-requires c κs = search needs
 
 add-saved : tie.Need-add-saved Inv-loop μ-loop
 add-saved c = let known = c .before .before .before .before .before .before .before .before .before in
@@ -112,7 +93,6 @@ loop-again c = let put = c .before .before .before in
     )
 
 pub put-rows-spec : {M : Type 1} → statement M
-put-rows-spec =
-    tie.close
-    (tie.spec Inv-loop μ-loop loop-holds at-requires enum-known-length same-length returns add-part part-requires file-number-requires row-of-requires
-    slice-aggregate-put put-requires saved-count-requires add-saved add-at add-from loop-less loop-again)
+put-rows-spec = tie.close (tie.spec Inv-loop μ-loop loop-holds (λ c κs. search needs) (λ c. search needs) same-length returns add-part
+    (λ c κs. search needs) file-number-requires row-of-requires (λ c. omega arith) (λ c κs. search needs) (λ c κs. search needs) add-saved add-at
+    add-from loop-less loop-again)

@@ -3,8 +3,7 @@
 use mathlib.Core.Path.{_≡_, sym, ap, _∙_}
 use Prim.Native.Nat.{ℕ, _≤_, _-_, _+_}
 use native.Mathlib.Omega.{arith}
-use lib.ListN.{length}
-use lib.ListN.{take, drop}
+use lib.ListN.{length, take, drop}
 use lib.Seq.{sets, length-sets}
 use denote.Ref.{now}
 use Rattle.catalog.proofs.MoveLaws.{up-more}
@@ -28,20 +27,11 @@ loop-holds c = let a = c .args in
     let n : a .to - a .to ≡ 0 = omega arith in
     (omega arith, omega arith, sym (ap (λ (k : ℕ). sets (now (a .bytes)) (a .to + 28) (take k (drop (a .to) (now (a .bytes))))) n))
 
-sub-i : tie.Need-sub-i Inv-loop μ-loop
-sub-i c = omega arith
-
 slice-read-bytes : tie.Need-slice-read-bytes Inv-loop μ-loop
 slice-read-bytes c = omega (arith, kept (c .before .before))
 
-add-bytes : tie.Need-add-bytes Inv-loop μ-loop
-add-bytes c = omega arith
-
 slice-write-bytes : tie.Need-slice-write-bytes Inv-loop μ-loop
 slice-write-bytes c = omega (arith, kept (c .before .before))
-
-loop-less : tie.Need-loop-less Inv-loop μ-loop
-loop-less c = omega arith
 
 loop-again : tie.Need-loop-again Inv-loop μ-loop
 loop-again c = let l = c .before .before in
@@ -60,6 +50,5 @@ returns c = let l = c .before in
     l .loop .inv .2 ∙ ap (λ (k : ℕ). sets (now (a .bytes)) (k + 28) (take (a .to - k) (drop k (now (a .bytes))))) i
 
 pub move-up-spec : {M : Type 1} → statement M
-move-up-spec =
-    tie.close
-    (tie.spec Inv-loop μ-loop loop-holds sub-i slice-read-bytes add-bytes slice-write-bytes loop-less loop-again same-length returns)
+move-up-spec = tie.close (tie.spec Inv-loop μ-loop loop-holds (λ c. omega arith) slice-read-bytes (λ c. omega arith) slice-write-bytes
+    (λ c. omega arith) loop-again same-length returns)

@@ -3,8 +3,7 @@
 use mathlib.Core.Path.{_≡_, sym, ap, _∙_}
 use Prim.Native.Nat.{ℕ, _≤_, _-_, _+_}
 use native.Mathlib.Omega.{arith}
-use lib.ListN.{length}
-use lib.ListN.{take, drop}
+use lib.ListN.{length, take, drop}
 use lib.Seq.{sets, length-sets}
 use denote.Ref.{now}
 use Rattle.catalog.proofs.MoveLaws.{down-more, down-closed}
@@ -28,23 +27,11 @@ loop-holds c = let a = c .args in
     let n : a .at - a .at ≡ 0 = omega arith in
     (omega arith, omega arith, sym (ap (λ (k : ℕ). sets (now (a .bytes)) (a .at) (take k (drop (a .at + 28) (now (a .bytes))))) n))
 
-sub-loop : tie.Need-sub-loop Inv-loop μ-loop
-sub-loop c = omega arith
-
-add-bytes : tie.Need-add-bytes Inv-loop μ-loop
-add-bytes c = omega arith
-
 slice-read-bytes : tie.Need-slice-read-bytes Inv-loop μ-loop
 slice-read-bytes c = omega (arith, kept (c .before .before))
 
 slice-write-bytes : tie.Need-slice-write-bytes Inv-loop μ-loop
 slice-write-bytes c = omega (arith, kept (c .before .before))
-
-add-i : tie.Need-add-i Inv-loop μ-loop
-add-i c = omega arith
-
-loop-less : tie.Need-loop-less Inv-loop μ-loop
-loop-less c = omega arith
 
 loop-again : tie.Need-loop-again Inv-loop μ-loop
 loop-again c = let l = c .before .before in
@@ -62,6 +49,5 @@ returns c = let l = c .before in
     (l .loop .inv .2 ∙ ap (λ (k : ℕ). sets (now (a .bytes)) (a .at) (take (k - a .at) (drop (a .at + 28) (now (a .bytes))))) i)
 
 pub remove-row-spec : {M : Type 1} → statement M
-remove-row-spec =
-    tie.close
-    (tie.spec Inv-loop μ-loop loop-holds sub-loop add-bytes slice-read-bytes slice-write-bytes add-i loop-less loop-again same-length returns)
+remove-row-spec = tie.close (tie.spec Inv-loop μ-loop loop-holds (λ c. omega arith) (λ c. omega arith) slice-read-bytes slice-write-bytes
+    (λ c. omega arith) (λ c. omega arith) loop-again same-length returns)

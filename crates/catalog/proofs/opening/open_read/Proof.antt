@@ -38,7 +38,5 @@ returns-3 c = let r = c .before .before in
     (h .put-head .ensures) (r .put-rows .ensures)
 
 pub open-read-spec : {M : Type 1} → statement M
-open-read-spec =
-    tie.close
-    (tie.spec (λ c κs. search needs) returns (λ c. search needs) (λ c. search needs) (λ c κs. search needs) returns-2 (λ c κs. search needs)
-    (λ c κs. search needs) put-rows-requires (λ c. search needs) returns-3)
+open-read-spec = tie.close (tie.spec (λ c κs. search needs) returns (λ c. search needs) (λ c. search needs) (λ c κs. search needs) returns-2
+    (λ c κs. search needs) (λ c κs. search needs) put-rows-requires (λ c. search needs) returns-3)

@@ -77,7 +77,5 @@ returns c = let p = c .before in
     λ j. record { entries = entries-are s j; volumes = volumes-are s j; at = at j; to = to j; present = here j }
 
 pub locate-spec : {M : Type 1} → statement M
-locate-spec =
-    tie.close
-    (tie.spec mul-start add-start mul-to add-to sub-place-of part-place-of-start (λ c. search needs) place-of-requires mul-at add-at (λ c κs. search needs)
-    returns)
+locate-spec = tie.close (tie.spec mul-start add-start mul-to add-to sub-place-of part-place-of-start (λ c. search needs) place-of-requires mul-at
+    add-at (λ c κs. search needs) returns)

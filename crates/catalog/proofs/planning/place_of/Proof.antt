@@ -3,10 +3,9 @@
 use mathlib.Core.Path.{_≡_, ap}
 use Prim.Native.Nat.{ℕ, _≤_, _-_, _+_, _*_}
 use native.Mathlib.Omega.{arith}
-use lib.ListN.{length}
+use lib.ListN.{length, drop}
 use borrow.Author.Needs.{needs}
 use borrow.Author.Tests.{lt-ltb, le-ltb}
-use lib.ListN.{drop}
 use denote.Ref.{now}
 use Rattle.catalog.specs.Catalog.{rowsIn}
 use Rattle.catalog.specs.Plan.{placeOf}
@@ -27,12 +26,6 @@ loop-holds c = let a = c .before .args in
     let all = ap (λ (k : ℕ). placeOf (a .number) (rowsIn k (now (a .rows)))) n in
     (omega arith, omega arith, omega (arith, all))
 
-read32-requires : tie.Need-read32-requires Inv-loop μ-loop
-read32-requires c κs = search needs
-
-cast-if1 : tie.Need-cast-if1 Inv-loop μ-loop
-cast-if1 c = omega arith
-
 returns : tie.Need-returns Inv-loop μ-loop
 returns c = let l = c .before .before .before in
     let a = l .before .before .args in
@@ -42,12 +35,6 @@ returns c = let l = c .before .before .before in
 
 add-at : tie.Need-add-at Inv-loop μ-loop
 add-at c = omega (arith, c .before .before .before .loop .inv .1)
-
-add-place : tie.Need-add-place Inv-loop μ-loop
-add-place c = omega arith
-
-loop-less : tie.Need-loop-less Inv-loop μ-loop
-loop-less c = omega arith
 
 loop-again : tie.Need-loop-again Inv-loop μ-loop
 loop-again c = let l = c .before .before .before in
@@ -67,6 +54,5 @@ returns-2 c = let l = c .before in
     omega (arith, zero, l .loop .inv .2)
 
 pub place-of-spec : {M : Type 1} → statement M
-place-of-spec =
-    tie.close
-    (tie.spec Inv-loop μ-loop loop-holds read32-requires cast-if1 returns add-at add-place loop-less loop-again returns-2)
+place-of-spec = tie.close (tie.spec Inv-loop μ-loop loop-holds (λ c κs. search needs) (λ c. omega arith) returns add-at (λ c. omega arith)
+    (λ c. omega arith) loop-again returns-2)

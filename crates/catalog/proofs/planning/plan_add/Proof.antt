@@ -5,10 +5,9 @@ use native.Mathlib.Omega.{arith}
 use borrow.Author.Needs.{needs}
 use denote.Ref.{now}
 use Rattle.catalog.specs.declared.checking.Counts.{Counts}
-use Rattle.catalog.proofs.CatalogLaws.{find-tells, find-other}
+use Rattle.catalog.proofs.CatalogLaws.{find-tells, find-other, is-catalog}
 use Rattle.catalog.proofs.CallLaws.{plan-add-other, plan-add-is}
 use Rattle.catalog.proofs.ReadLaws.{told}
-use Rattle.catalog.proofs.CatalogLaws.{is-catalog}
 use Rattle.catalog.proofs.planning.plan_add.Statement.{statement}
 use Rattle.catalog.proofs.planning.plan_add.Tie as tie
 
@@ -40,8 +39,6 @@ returns-2 c = let g = c .before .before .before .before in
     (c .before .before .in-range .ensures) (c .before .test4 .ensures) (c .plan-by .ensures)
 
 pub plan-add-spec : {M : Type 1} → statement M
-plan-add-spec =
-    tie.close
-    (tie.spec (λ c κs. search needs) (λ c. search needs) (λ c. search needs) returns locate-requires (λ c κs. search needs) mul-part (λ c κs. search needs)
-    (λ c κs. search needs) (λ c κs. search needs) (λ c κs. search needs) (λ c κs. search needs) (λ c κs. search needs) (λ c κs. search needs)
-    (λ c κs. search needs) returns-2)
+plan-add-spec = tie.close (tie.spec (λ c κs. search needs) (λ c. search needs) (λ c. search needs) returns locate-requires (λ c κs. search needs)
+    mul-part (λ c κs. search needs) (λ c κs. search needs) (λ c κs. search needs) (λ c κs. search needs) (λ c κs. search needs) (λ c κs. search needs)
+    (λ c κs. search needs) (λ c κs. search needs) returns-2)

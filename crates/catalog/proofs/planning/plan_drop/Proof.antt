@@ -24,7 +24,5 @@ returns-2 c = let l = c .before .before .before .before in
     (c .before .before .in-range .ensures) (c .before .test2 .ensures) (c .plan-by .ensures)
 
 pub plan-drop-spec : {M : Type 1} → statement M
-plan-drop-spec =
-    tie.close
-    (tie.spec (λ c κs. search needs) (λ c. search needs) (λ c. search needs) returns locate-requires (λ c κs. search needs) (λ c κs. search needs)
-    (λ c κs. search needs) (λ c κs. search needs) returns-2)
+plan-drop-spec = tie.close (tie.spec (λ c κs. search needs) (λ c. search needs) (λ c. search needs) returns locate-requires (λ c κs. search needs)
+    (λ c κs. search needs) (λ c κs. search needs) (λ c κs. search needs) returns-2)

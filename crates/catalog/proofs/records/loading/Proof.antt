@@ -24,6 +24,5 @@ returns-3 c = let k = c .before .before .before in
     loading-whole _ (f .before .before .args .room) (t .0) (t .1) (c .if1 .left)
 
 pub loading-spec : {M : Type 1} → statement M
-loading-spec =
-    tie.close
-    (tie.spec (λ c κs. search needs) (λ c. search needs) (λ c. search needs) (λ c κs. search needs) returns (λ c κs. search needs) returns-2 returns-3)
+loading-spec = tie.close (tie.spec (λ c κs. search needs) (λ c. search needs) (λ c. search needs) (λ c κs. search needs) returns
+    (λ c κs. search needs) returns-2 returns-3)

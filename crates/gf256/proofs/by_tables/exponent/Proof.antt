@@ -13,5 +13,4 @@ returns c =
     (c .place2 .ensures .0 ∙ ap (λ (i : ℕ). getD es i 0) (c .before .before .place .ensures .0), c .place2 .ensures .1)
 
 pub exponent-spec : {M : Type 1} → statement M
-exponent-spec =
-    tie.close (tie.spec (λ c κs. search needs) (λ c. search needs) (λ c κs. search needs) returns)
+exponent-spec = tie.close (tie.spec (λ c κs. search needs) (λ c. search needs) (λ c κs. search needs) returns)

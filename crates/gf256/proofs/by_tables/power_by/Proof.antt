@@ -38,6 +38,5 @@ mul-reduced c =
     record { fits = omega (arith, most) }
 
 pub power-by-spec : {M : Type 1} → statement M
-power-by-spec =
-    tie.close
-    (tie.spec returns returns-2 (λ c κs. search needs) (λ c κs. search needs) mul-reduced (λ c κs. search needs) (λ c. search needs) returns-3)
+power-by-spec = tie.close (tie.spec returns returns-2 (λ c κs. search needs) (λ c κs. search needs) mul-reduced (λ c κs. search needs)
+    (λ c. search needs) returns-3)

@@ -27,6 +27,5 @@ returns-3 c =
     (c .before .reduced .ensures .0 ∙ ap₂ (λ (m n : ℕ). (m + n) % 255) (x .before .exponent .ensures .0) (x .exponent2 .ensures .0)))
 
 pub product-by-spec : {M : Type 1} → statement M
-product-by-spec =
-    tie.close
-    (tie.spec returns returns-2 (λ c κs. search needs) (λ c κs. search needs) (λ c. search needs) (λ c κs. search needs) (λ c. search needs) returns-3)
+product-by-spec = tie.close (tie.spec returns returns-2 (λ c κs. search needs) (λ c κs. search needs) (λ c. search needs) (λ c κs. search needs)
+    (λ c. search needs) returns-3)

@@ -5,8 +5,5 @@ use native.Mathlib.Omega.{arith}
 use Rattle.gf256.proofs.by_tables.reduced.Statement.{statement}
 use Rattle.gf256.proofs.by_tables.reduced.Tie as tie
 
-returns : tie.Need-returns
-returns c = (refl, omega arith)
-
 pub reduced-spec : {M : Type 1} → statement M
-reduced-spec = tie.close (tie.spec returns)
+reduced-spec = tie.close (tie.spec (λ c. (refl, omega arith)))

@@ -17,6 +17,4 @@ returns c =
     c .before .write-numbers .ensures ∙ ap (λ (m : ℕ). numbers (job .weight ∷ job .position ∷ m ∷ [])) (marked .mark .ensures)
 
 pub bytes-of-spec : {M : Type 1} → statement M
-bytes-of-spec =
-    tie.close
-    (tie.spec (λ c. search needs) (λ c κs. search needs) (λ c. search needs) (λ c. search needs) (λ c κs. search needs) returns)
+bytes-of-spec = tie.close (tie.spec (λ c. search needs) (λ c κs. search needs) (λ c. search needs) (λ c. search needs) (λ c κs. search needs) returns)

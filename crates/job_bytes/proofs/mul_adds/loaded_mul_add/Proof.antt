@@ -32,7 +32,5 @@ returns-4 c =
     ap₂ mulAddFrom weight (c .read643 .ensures) ∙ sym (loaded-going b (is-mul-add b (tested .before .before .before .if1 .left) small none))
 
 pub loaded-mul-add-spec : {M : Type 1} → statement M
-loaded-mul-add-spec =
-    tie.close
-    (tie.spec (λ c κs. search needs) returns (λ c κs. search needs) (λ c κs. search needs) returns-2 (λ c κs. search needs) (λ c κs. search needs) returns-3
-    (λ c. search needs) (λ c κs. search needs) returns-4)
+loaded-mul-add-spec = tie.close (tie.spec (λ c κs. search needs) returns (λ c κs. search needs) (λ c κs. search needs) returns-2
+    (λ c κs. search needs) (λ c κs. search needs) returns-3 (λ c. search needs) (λ c κs. search needs) returns-4)

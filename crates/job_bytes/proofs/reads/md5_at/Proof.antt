@@ -24,6 +24,5 @@ returns c =
     md5-read (now (a .bytes)) (a .at) (c .before .words-at .ensures) tail (c .read64 .ensures)
 
 pub md5-at-spec : {M : Type 1} → statement M
-md5-at-spec =
-    tie.close
-    (tie.spec (λ c. search needs) add-part (λ c κs. search needs) (λ c κs. search needs) (λ c κs. search needs) add-read64 (λ c κs. search needs) returns)
+md5-at-spec = tie.close (tie.spec (λ c. search needs) add-part (λ c κs. search needs) (λ c κs. search needs) (λ c κs. search needs) add-read64
+    (λ c κs. search needs) returns)

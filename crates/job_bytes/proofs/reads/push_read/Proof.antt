@@ -12,5 +12,4 @@ returns c =
     pushed-by _ _ (pushed .before .loaded .ensures) (pushed .push .ensures) (stored .store .ensures)
 
 pub push-read-spec : {M : Type 1} → statement M
-push-read-spec =
-    tie.close (tie.spec (λ c κs. search needs) (λ c κs. search needs) (λ c κs. search needs) (λ c. search needs) returns)
+push-read-spec = tie.close (tie.spec (λ c κs. search needs) (λ c κs. search needs) (λ c κs. search needs) (λ c. search needs) returns)

@@ -26,6 +26,5 @@ returns c =
     md5-stored _ (start .args .at) (start .args .hash) (tail-length start) (first .put-words .ensures) (second .put .ensures) (last .write64 .ensures)
 
 pub put-md5-spec : {M : Type 1} → statement M
-put-md5-spec =
-    tie.close
-    (tie.spec (λ c κs. search needs) add-put (λ c. search needs) (λ c κs. search needs) add-write64 (λ c κs. search needs) (λ c. search needs) returns)
+put-md5-spec = tie.close (tie.spec (λ c κs. search needs) add-put (λ c. search needs) (λ c κs. search needs) add-write64 (λ c κs. search needs)
+    (λ c. search needs) returns)

@@ -24,7 +24,5 @@ returns c =
     (numbered .write-numbers .ensures) (hashed .put-md5 .ensures)
 
 pub put-scan-spec : {M : Type 1} → statement M
-put-scan-spec =
-    tie.close
-    (tie.spec (λ c. search needs) (λ c κs. search needs) (λ c. search needs) (λ c κs. search needs) (λ c. search needs) (λ c κs. search needs)
-    (λ c κs. search needs) (λ c. search needs) returns)
+put-scan-spec = tie.close (tie.spec (λ c. search needs) (λ c κs. search needs) (λ c. search needs) (λ c κs. search needs) (λ c. search needs)
+    (λ c κs. search needs) (λ c κs. search needs) (λ c. search needs) returns)

@@ -19,7 +19,5 @@ returns c =
     words-stored _ (a .at) (a .words) (first .write32 .ensures) (second .write322 .ensures) (third .write323 .ensures) (fourth .write324 .ensures)
 
 pub put-words-spec : {M : Type 1} → statement M
-put-words-spec =
-    tie.close
-    (tie.spec (λ c κs. search needs) (λ c. omega arith) (λ c κs. search needs) (λ c. omega arith) (λ c κs. search needs) add-write32-3 (λ c κs. search needs)
-    (λ c. search needs) returns)
+put-words-spec = tie.close (tie.spec (λ c κs. search needs) (λ c. omega arith) (λ c κs. search needs) (λ c. omega arith) (λ c κs. search needs)
+    add-write32-3 (λ c κs. search needs) (λ c. search needs) returns)

@@ -13,7 +13,5 @@ returns c =
     words-read (now (a .bytes)) (a .at) (first .read32 .ensures) (c .before .before .read322 .ensures) (c .before .read323 .ensures) (c .read324 .ensures)
 
 pub words-at-spec : {M : Type 1} → statement M
-words-at-spec =
-    tie.close
-    (tie.spec (λ c κs. search needs) (λ c. search needs) (λ c κs. search needs) (λ c. search needs) (λ c κs. search needs) (λ c. search needs)
-    (λ c κs. search needs) returns)
+words-at-spec = tie.close (tie.spec (λ c κs. search needs) (λ c. search needs) (λ c κs. search needs) (λ c. search needs) (λ c κs. search needs)
+    (λ c. search needs) (λ c κs. search needs) returns)

@@ -30,6 +30,4 @@ returns c =
     ∙ ap (λ (p : List ℕ). allBlocks (s .words) (waiting s ++ p)) (c .before .before .before .before .padding-of .ensures .1)
 
 pub end-spec : {M : Type 1} → statement M
-end-spec =
-    tie.close
-    (tie.spec (λ c κs. search needs) array-share-prefix-b slice-aggregate-push (λ c κs. search needs) returns)
+end-spec = tie.close (tie.spec (λ c κs. search needs) array-share-prefix-b slice-aggregate-push (λ c κs. search needs) returns)

@@ -51,8 +51,7 @@ returns-2 c =
     (part-to-end bs k) (part-to-end more m) (c .before .before .fill4 .ensures) (c .after-blocks .ensures)
 
 pub push-spec : {M : Type 1} → statement M
-push-spec =
-    tie.close
-    (tie.spec (λ c κs. search needs) array-share-prefix-t slice-aggregate-fill fill-requires (λ c. search needs) (λ c κs. search needs) returns
-    slice-aggregate-fill-2 fill-requires-3 (λ c. search needs) (λ c. search needs) (λ c. search needs) (λ c. search needs) (λ c. search needs)
-    (λ c. search needs) (λ c. search needs) (λ c κs. search needs) (λ c. search needs) (λ c κs. search needs) returns-2)
+push-spec = tie.close (tie.spec (λ c κs. search needs) array-share-prefix-t slice-aggregate-fill fill-requires (λ c. search needs)
+    (λ c κs. search needs) returns slice-aggregate-fill-2 fill-requires-3 (λ c. search needs) (λ c. search needs) (λ c. search needs)
+    (λ c. search needs) (λ c. search needs) (λ c. search needs) (λ c. search needs) (λ c κs. search needs) (λ c. search needs) (λ c κs. search needs)
+    returns-2)

@@ -44,7 +44,5 @@ returns c =
     sym (all-short (l .loop .v) (drop (l .loop .at) s) none) ∙ l .loop .inv .1
 
 pub blocks-spec : {M : Type 1} → statement M
-blocks-spec =
-    tie.close
-    (tie.spec Inv-loop μ-loop loop-holds (λ c. omega arith) (λ c. omega arith) (λ c. omega arith) (λ c. omega arith) (λ c. omega arith) (λ c κs. search needs)
-    (λ c. omega arith) (λ c. omega arith) loop-again returns)
+blocks-spec = tie.close (tie.spec Inv-loop μ-loop loop-holds (λ c. omega arith) (λ c. omega arith) (λ c. omega arith) (λ c. omega arith)
+    (λ c. omega arith) (λ c κs. search needs) (λ c. omega arith) (λ c. omega arith) loop-again returns)

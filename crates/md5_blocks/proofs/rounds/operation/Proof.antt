@@ -22,7 +22,6 @@ returns c =
     (summed .wrapping-add-u323 .ensures) (c .before .before .shift .ensures) (c .before .rotl .ensures) (c .wrapping-add-u324 .ensures)
 
 pub operation-spec : {M : Type 1} → statement M
-operation-spec =
-    tie.close
-    (tie.spec (λ c κs. search needs) (λ c κs. search needs) (λ c κs. search needs) (λ c. search needs) (λ c. search needs) (λ c. search needs)
-    (λ c. search needs) (λ c κs. search needs) (λ c κs. search needs) (λ c κs. search needs) rotl-requires (λ c κs. search needs) returns)
+operation-spec = tie.close (tie.spec (λ c κs. search needs) (λ c κs. search needs) (λ c κs. search needs) (λ c. search needs) (λ c. search needs)
+    (λ c. search needs) (λ c. search needs) (λ c κs. search needs) (λ c κs. search needs) (λ c κs. search needs) rotl-requires (λ c κs. search needs)
+    returns)

@@ -13,5 +13,4 @@ returns c =
     (c .before .round3 .ensures) (c .round4 .ensures)
 
 pub rounds-spec : {M : Type 1} → statement M
-rounds-spec =
-    tie.close (tie.spec (λ c κs. search needs) (λ c κs. search needs) (λ c κs. search needs) (λ c κs. search needs) returns)
+rounds-spec = tie.close (tie.spec (λ c κs. search needs) (λ c κs. search needs) (λ c κs. search needs) (λ c κs. search needs) returns)

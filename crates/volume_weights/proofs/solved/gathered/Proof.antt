@@ -43,7 +43,5 @@ returns c =
     l .inv .1 ∙ ap (gathered (replicate 4 0) (λ k. getD (a .files .now) k 0) (isSolvable (a .matrix .now) (a .owners .now))) e
 
 pub gathered-spec : {M : Type 1} → statement M
-gathered-spec =
-    tie.close
-    (tie.spec Inv-loop μ-loop loop-holds (λ c κs. search needs) (λ c κs. search needs) (λ c. omega arith) (λ c κs. search needs) (λ c κs. search needs)
-    (λ c. omega arith) (λ c. omega arith) loop-again returns)
+gathered-spec = tie.close (tie.spec Inv-loop μ-loop loop-holds (λ c κs. search needs) (λ c κs. search needs) (λ c. omega arith) (λ c κs. search needs)
+    (λ c κs. search needs) (λ c. omega arith) (λ c. omega arith) loop-again returns)

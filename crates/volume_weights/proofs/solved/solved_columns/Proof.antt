@@ -23,6 +23,4 @@ returns c =
     (a .rows) _ _ _ (d .set-diagonal .ensures) (added .add-volumes .ensures) _ (c .gathered .ensures)
 
 pub solved-columns-spec : {M : Type 1} → statement M
-solved-columns-spec =
-    tie.close
-    (tie.spec (λ c κs. search needs) (λ c κs. search needs) add-volumes-requires (λ c κs. search needs) returns)
+solved-columns-spec = tie.close (tie.spec (λ c κs. search needs) (λ c κs. search needs) add-volumes-requires (λ c κs. search needs) returns)
