@@ -121,8 +121,7 @@ module _ (c b : List ℕ) where
   head-number e i h = sym (number-take 4 i 16 c h) ∙ ap (λ (l : List ℕ). leAt 4 l i) e ∙ number-take 4 i 16 b h
 
   pub same-catalog : Catalog c → SameButHashes (entryCount c + volumeCount c) c b → catalogLength c ≤ length b → Catalog b
-  same-catalog k same long =
-      let number = head-number (same .head-same) in
+  same-catalog k same long = let number = head-number (same .head-same) in
       let count : entryCount c ≡ entryCount b = number 0 (omega arith) in
       let volumes : volumeCount c ≡ volumeCount b = number 4 (omega arith) in
       let es : Alike (entryRows c) (entryRows b) =
@@ -155,8 +154,7 @@ module _ (c b : List ℕ) where
           → (i : ℕ) → i < entryCount b + volumeCount b → Dec (i < entryCount b) → take 12 (drop (16 + 28 * i) c) ≡ take 12 (drop (16 + 28 * i) b)
       by x y i h (yes l) =
           sym (ap (take 12) (drop-drop (28 * i) 16 c)) ∙ alike-rows (entryCount b) (drop 16 c) (drop 16 b) x i l ∙ ap (take 12) (drop-drop (28 * i) 16 b)
-      by x y i h (no l) =
-          let at : ℕ = 16 + 28 * entryCount b in
+      by x y i h (no l) = let at : ℕ = 16 + 28 * entryCount b in
           let j : ℕ = i - entryCount b in
           let sum : entryCount b + j ≡ i = omega (arith, l) in
           subst (λ (n : ℕ). take 12 (drop (16 + 28 * n) c) ≡ take 12 (drop (16 + 28 * n) b)) sum

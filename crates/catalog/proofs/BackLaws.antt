@@ -62,8 +62,7 @@ module _ (es vs : List (List ℕ)) (t : List ℕ) where
 
   module _ (e : All Sized es) (v : All Sized vs) (few : length es ≤ maxEntries) (less : length vs ≤ 256) where
     pub catalog-back : Back es vs Whole
-    catalog-back =
-        let count : entryCount Whole ≡ length es = at-number 4 (length es) (omega arith) in-catalog in
+    catalog-back = let count : entryCount Whole ≡ length es = at-number 4 (length es) (omega arith) in-catalog in
         let volumes : volumeCount Whole ≡ length vs = at-number 4 (length vs) (omega arith) after-four in
         let past : drop (16 + 28 * length es) Whole ≡ flatten vs ++ t =
         sym (drop-drop (28 * length es) 16 Whole) ∙ ap (drop (28 * length es)) after-head

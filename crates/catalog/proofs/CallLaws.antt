@@ -110,8 +110,7 @@ catalog-by false rest e = absurd (omega arith)
 
 pub drop-passed : (b : List ℕ) (v : ℕ) → dropNumber b v ≡ 0 → Catalog b × (holds v (volumeRows b) ≡ true)
 unfolding dropNumber
-drop-passed b v e =
-    let first = catalog-by (isCatalog b) _ e in
+drop-passed b v e = let first = catalog-by (isCatalog b) _ e in
     (is-catalog b (first .0), by (volumeInRange v b) (holds v (volumeRows b)) (first .1))
   where
     by : (r h : Bool) → test 10 r (test 11 h 0) ≡ 0 → h ≡ true
@@ -137,8 +136,7 @@ held-within b c v h = by (ltb (placeOf v vs) (length vs)) refl (sym (holds-place
 -- so few are the volumes
 pub count-low : (n g u : ℕ) (rs : List (List ℕ)) → volumeRowsAllowed n g u rs ≡ true → u ≤ 255 → u + length rs ≤ 255
 count-low n g u [] e h = omega arith
-count-low n g u (r ∷ rs) e h =
-    let f = first-row n g u r rs e in
+count-low n g u (r ∷ rs) e h = let f = first-row n g u r rs e in
     let low = number-low (numberOf r) n (f .number-right) in
     omega (arith, count-low n g (numberOf r) rs (f .others) low, f .above)
 
@@ -161,8 +159,7 @@ module _ (b : List ℕ) (v : ℕ) where
 
   pub dropping : {p : Place} → planDrop b v ≡ Change p → Dropping p
   unfolding planDrop
-  dropping {p} e =
-      let t = plan-tells b (dropNumber b v) v e in
+  dropping {p} e = let t = plan-tells b (dropNumber b v) v e in
       let d = drop-passed b v (t .none) in
       let c = d .0 in
       let less = held-within b c v (d .1) in
@@ -185,8 +182,7 @@ module _ (b : List ℕ) (v : ℕ) where
   pub drop-over : {p : Place} {t u : List ℕ} → planDrop b v ≡ Change p → t ≡ closed (p .at) (p .to) b
       → u ≡ sets t 0 (catalogHead (p .entries) (p .volumes - 1)) → (writing.Written (p .to - 28), u) ≡ dropOf b v
   unfolding dropOf
-  drop-over {p} {t} {u} e down put =
-      let d = dropping e in
+  drop-over {p} {t} {u} e down put = let d = dropping e in
       let c = d .catalog-is in
       let less = held-within b c v (d .held) in
       let down′ : t ≡ closed (placeIn b v .at) (placeIn b v .to) b = down ∙ ap (λ (q : Place). closed (q .at) (q .to) b) (d .place-is) in
@@ -199,8 +195,7 @@ module _ (b : List ℕ) (v : ℕ) where
 
   pub drop-refuses : {n : ℕ} {r : Refusal} → planDrop b v ≡ Refused n → r ≡ bare n → (writing.Refused r, b) ≡ dropOf b v
   unfolding planDrop dropOf
-  drop-refuses {n} {r} e is =
-      let t = plan-refuses b (dropNumber b v) v e in
+  drop-refuses {n} {r} e is = let t = plan-refuses b (dropNumber b v) v e in
       unless-refused (droppedBytes b v) b (is ∙ ap bare (t .0)) (λ z. t .1 (sym (ap (λ (q : Refusal). q .number) (is ∙ ap bare (t .0))) ∙ z)) refl
 
 -- ---- adding
@@ -218,8 +213,7 @@ module _ (b vol : List ℕ) {parts : Parts} (read : readOf vol ≡ reading.Accep
 
   pub adding : {p : Place} → planAdd b vol ≡ Change p → Adding p
   unfolding planAdd
-  adding {p} e =
-      let t = plan-tells b (addNumber b vol) (volumeNumberOf vol) e in
+  adding {p} e = let t = plan-tells b (addNumber b vol) (volumeNumberOf vol) e in
       let c = add-catalog b vol (t .none) in
       let most = at-most b c (volumeNumberOf vol) in
       let at = ap (λ (q : Place). q .at) (t .place-is) in
@@ -246,8 +240,7 @@ module _ (b vol : List ℕ) {parts : Parts} (read : readOf vol ≡ reading.Accep
 
   pub add-short : {p : Place} {r : Refusal} → planAdd b vol ≡ Change p → r ≡ bare 14 → length b < p .to + 28 → (writing.Refused r, b) ≡ addOf b vol
   unfolding addOf
-  add-short {p} {r} e is short =
-      let d = adding e in
+  add-short {p} {r} e is short = let d = adding e in
       unless-none (addedBytes b vol) b refl (add-none (d .number-none))
       (ap (λ (q : Refusal). (writing.Refused q, b)) is
       ∙ written-short (addedBytes b vol) b (omega (arith, added-length (d .catalog-is), d .to-is)))
@@ -255,8 +248,7 @@ module _ (b vol : List ℕ) {parts : Parts} (read : readOf vol ≡ reading.Accep
   pub add-over : {p : Place} {r t u : List ℕ} → planAdd b vol ≡ Change p → p .to + 28 ≤ length b → r ≡ volumeRow vol
       → t ≡ spread (p .at) (p .to) r b → u ≡ sets t 0 (catalogHead (p .entries) (p .volumes + 1)) → (writing.Written (p .to + 28), u) ≡ addOf b vol
   unfolding addOf
-  add-over {p} {r} {t} {u} e fits is up put =
-      let d = adding e in
+  add-over {p} {r} {t} {u} e fits is up put = let d = adding e in
       let c = d .catalog-is in
       let i = told vol read in
       let n : numberOf (volumeRow vol) ≡ volumeNumberOf vol = volume-row-number vol i in
@@ -271,8 +263,7 @@ module _ (b vol : List ℕ) {parts : Parts} (read : readOf vol ≡ reading.Accep
 
   pub add-refuses : {n : ℕ} {r : Refusal} → planAdd b vol ≡ Refused n → r ≡ bare n → (writing.Refused r, b) ≡ addOf b vol
   unfolding planAdd addOf
-  add-refuses {n} {r} e is =
-      let t = plan-refuses b (addNumber b vol) (volumeNumberOf vol) e in
+  add-refuses {n} {r} e is = let t = plan-refuses b (addNumber b vol) (volumeNumberOf vol) e in
       let same : r ≡ addRefusal b vol (readOf vol) = is ∙ ap bare (t .0) ∙ sym (ap (λ (q : Reading). addRefusal b vol q) read) in
       unless-refused (addedBytes b vol) b same (λ z. t .1 (sym (ap (λ (q : Refusal). q .number) (is ∙ ap bare (t .0))) ∙ z)) refl
 
@@ -320,8 +311,7 @@ module _ (f out : List ℕ) where
         → t ≡ sets out 0 (catalogHead (parts .entries) 0) → u ≡ sets t 16 (flatten (rowsFor (entriesOf list .pieces)))
         → (writing.Written (16 + 28 * parts .entries), u) ≡ openOf f out
     unfolding openOf catalogBytes flatten
-    open-over {list} {t} {u} h fits list-is head rows =
-        let es : List (List ℕ) = rowsFor (entriesIn f) in
+    open-over {list} {t} {u} h fits list-is head rows = let es : List (List ℕ) = rowsFor (entriesIn f) in
         let n : length es ≡ parts .entries = length-rows-after 0 (entriesIn f) ∙ sym entries-are in
         let hd : List ℕ = catalogHead (parts .entries) 0 in
         let size : length hd ≡ 16 = length-head (parts .entries) 0 in

@@ -35,8 +35,7 @@ pub drop-rows : (k n : ℕ) (s : List ℕ) → drop k (rowsIn n s) ≡ rowsIn (n
 unfolding rowsIn
 drop-rows zero n s = let e : n ≡ n - 0 = omega arith in ap (λ (m : ℕ). rowsIn m s) e
 drop-rows (suc k) zero s = let e : 0 ≡ 0 - suc k = omega arith in ap (λ (m : ℕ). rowsIn m (drop (28 * suc k) s)) e
-drop-rows (suc k) (suc n) s =
-    let e : 28 + 28 * k ≡ 28 * suc k = omega arith in
+drop-rows (suc k) (suc n) s = let e : 28 + 28 * k ≡ 28 * suc k = omega arith in
     let m : n - k ≡ suc n - suc k = omega arith in
     drop-rows k n (drop 28 s) ∙ ap₂ (λ (a : ℕ) (q : List ℕ). rowsIn a q) m (drop-drop (28 * k) 28 s ∙ ap (λ (a : ℕ). drop a s) e)
 
@@ -44,8 +43,7 @@ row-at : (k n : ℕ) (s : List ℕ) → k < n → getD (rowsIn n s) k [] ≡ tak
 unfolding rowsIn
 row-at k zero s h = absurd (omega arith)
 row-at zero (suc n) s h = refl
-row-at (suc k) (suc n) s h =
-    let e : 28 + 28 * k ≡ 28 * suc k = omega arith in
+row-at (suc k) (suc n) s h = let e : 28 + 28 * k ≡ 28 * suc k = omega arith in
     row-at k n (drop 28 s) (omega arith) ∙ ap (take 28) (drop-drop (28 * k) 28 s ∙ ap (λ (a : ℕ). drop a s) e)
 
 drop-take : (i k : ℕ) (s : List ℕ) → i ≤ length s → drop i (take (i + k) s) ≡ take k (drop i s)
@@ -57,8 +55,7 @@ length-head n v = refl
 
 pub length-catalog : {es vs : List (List ℕ)} → All Sized es → All Sized vs → length (catalogBytes es vs) ≡ 16 + 28 * (length es + length vs)
 unfolding catalogBytes
-length-catalog {es} {vs} p q =
-    let head : List ℕ = catalogHead (length es) (length vs) in
+length-catalog {es} {vs} p q = let head : List ℕ = catalogHead (length es) (length vs) in
     omega (
       arith,
       length-append head (flatten es ++ flatten vs),
@@ -94,8 +91,7 @@ module _ (b : List ℕ) (c : Catalog b) where
 
   -- the rows before a place
   front : (p : ℕ) → p ≤ m → drop 16 (take (16 + 28 * (n + p)) b) ≡ flatten (entryRows b) ++ flatten (take p (volumeRows b))
-  front p h =
-      let e : 28 * (n + p) ≡ 28 * n + 28 * p = omega arith in
+  front p h = let e : 28 * (n + p) ≡ 28 * n + 28 * p = omega arith in
       let vs : List ℕ = drop (16 + 28 * n) b in
       drop-take 16 (28 * (n + p)) b (omega (arith, c .within)) ∙ ap (λ (k : ℕ). take k (drop 16 b)) e ∙ take-add (28 * n) (28 * p) (drop 16 b)
       ∙ ap₂ (λ (x y : List ℕ). x ++ y) (sym (flatten-rows n (drop 16 b)))
@@ -103,8 +99,7 @@ module _ (b : List ℕ) (c : Catalog b) where
 
   -- the rows from a place on
   back : (p : ℕ) → p ≤ m → take (28 * (m - p)) (drop (16 + 28 * (n + p)) b) ≡ flatten (drop p (volumeRows b))
-  back p h =
-      let vs : List ℕ = drop (16 + 28 * n) b in
+  back p h = let vs : List ℕ = drop (16 + 28 * n) b in
       let e : 16 + 28 * n + 28 * p ≡ 16 + 28 * (n + p) = omega arith in
       sym (ap flatten (drop-rows p m vs) ∙ flatten-rows (m - p) (drop (28 * p) vs)
       ∙ ap (take (28 * (m - p))) (drop-drop (28 * p) (16 + 28 * n) b ∙ ap (λ (k : ℕ). drop k b) e))
@@ -112,8 +107,7 @@ module _ (b : List ℕ) (c : Catalog b) where
   -- the head put over what stands there
   headed : (at v : ℕ) (rest : List ℕ) {t u : List ℕ} → 16 ≤ at → at ≤ length b → t ≡ take at b ++ rest → u ≡ sets t 0 (catalogHead n v)
       → u ≡ catalogHead n v ++ (drop 16 (take at b) ++ rest)
-  headed at v rest {t} {u} low fits e put =
-      let h : List ℕ = catalogHead n v in
+  headed at v rest {t} {u} low fits e put = let h : List ℕ = catalogHead n v in
       let size : length h ≡ 16 = length-head n v in
       let a : length (take at b) ≡ at = length-take-le at b fits in
       let after : drop (length h) t ≡ drop 16 (take at b) ++ rest =
@@ -132,8 +126,7 @@ module _ (b : List ℕ) (c : Catalog b) where
   -- ---- added
 
   pub length-inserted : (r : List ℕ) → length (insertRow r (volumeRows b)) ≡ m + 1
-  length-inserted r =
-      let p : ℕ = Place (numberOf r) in
+  length-inserted r = let p : ℕ = Place (numberOf r) in
       let vs : List (List ℕ) = volumeRows b in
       omega (
         arith,
@@ -153,8 +146,7 @@ module _ (b : List ℕ) (c : Catalog b) where
       → t ≡ spread (16 + 28 * (n + Place (numberOf r))) (catalogLength b) r b → u ≡ sets t 0 (catalogHead n (m + 1))
       → (Written (catalogLength b + 28), u) ≡ accepted (catalogBytes (entryRows b) (insertRow r (volumeRows b))) b
   unfolding catalogBytes flatten
-  inserted-over r {t} {u} size fits up put =
-      let vs : List (List ℕ) = volumeRows b in
+  inserted-over r {t} {u} size fits up put = let vs : List (List ℕ) = volumeRows b in
       let p : ℕ = Place (numberOf r) in
       let h : p ≤ m = at-most (numberOf r) in
       let at : ℕ = 16 + 28 * (n + p) in
@@ -181,8 +173,7 @@ module _ (b : List ℕ) (c : Catalog b) where
   -- ---- dropped
 
   pub length-removed : (v : ℕ) → holds v (volumeRows b) ≡ true → Place v < m → length (removeRow v (volumeRows b)) + 1 ≡ m
-  length-removed v held h =
-      let p : ℕ = Place v in
+  length-removed v held h = let p : ℕ = Place v in
       let vs : List (List ℕ) = volumeRows b in
       omega (
         arith,
@@ -206,8 +197,7 @@ module _ (b : List ℕ) (c : Catalog b) where
       → t ≡ closed (16 + 28 * (n + Place v)) (catalogLength b) b → u ≡ sets t 0 (catalogHead n (m - 1))
       → (Written (catalogLength b - 28), u) ≡ accepted (catalogBytes (entryRows b) (removeRow v (volumeRows b))) b
   unfolding catalogBytes
-  removed-over v {t} {u} held less down put =
-      let vs : List (List ℕ) = volumeRows b in
+  removed-over v {t} {u} held less down put = let vs : List (List ℕ) = volumeRows b in
       let p : ℕ = Place v in
       let at : ℕ = 16 + 28 * (n + p) in
       let to : ℕ = catalogLength b in
@@ -246,14 +236,12 @@ module _ (b : List ℕ) (c : Catalog b) where
       count = length-rows m (drop (16 + 28 * n) b)
 
       by : (t : Bool) → t ≡ ltb (Place v) m → (t && eqb (numberOf (getD (volumeRows b) (Place v) [])) v) ≡ (ltb at to && eqb (leAt 4 b at) v)
-      by true e =
-          let less = ltb-true (Place v) m (sym e) in
+      by true e = let less = ltb-true (Place v) m (sym e) in
           let sum : 16 + 28 * n + 28 * Place v ≡ at = omega arith in
           let there : getD (volumeRows b) (Place v) [] ≡ take 28 (drop at b) =
           row-at (Place v) m (drop (16 + 28 * n) b) less
           ∙ ap (take 28) (drop-drop (28 * Place v) (16 + 28 * n) b ∙ ap (λ (k : ℕ). drop k b) sum) in
           ap (λ (r : List ℕ). eqb (numberOf r) v) there ∙ ap (λ (k : ℕ). eqb k v) (sym (number-at b at))
           ∙ ap (λ (t : Bool). t && eqb (leAt 4 b at) v) (sym (lt-ltb at to (omega arith)))
-      by false e =
-          let past = ltb-false (Place v) m (sym e) in
+      by false e = let past = ltb-false (Place v) m (sym e) in
           ap (λ (t : Bool). t && eqb (leAt 4 b at) v) (sym (le-ltb at to (omega arith)))

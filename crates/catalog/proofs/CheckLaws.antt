@@ -28,16 +28,14 @@ enteredFrom k g rs = cond (entryRowsAllowed k rs) (entered.Rows (k + length (sav
 
 pub entered-start : (rs : List (List ℕ)) → enteredFrom 0 0 rs ≡ enteredOf rs
 unfolding enteredFrom enteredOf
-entered-start rs =
-    let n : 0 + length (savedRows rs) ≡ length (savedRows rs) = omega arith in
+entered-start rs = let n : 0 + length (savedRows rs) ≡ length (savedRows rs) = omega arith in
     let g : max 0 (greatestSize rs) ≡ greatestSize rs = omega arith in
     ap₂ (λ (a b : ℕ). cond (entryRowsAllowed 0 rs) (entered.Rows a b) entered.Other) n g
 
 module _ (k g : ℕ) where
   pub entered-end : {rs : List (List ℕ)} → rs ≡ [] → k ≤ maxFiles → enteredFrom k g rs ≡ entered.Rows k g
   unfolding enteredFrom entryRowsAllowed
-  entered-end e h =
-      let n : k + 0 ≡ k = omega arith in
+  entered-end e h = let n : k + 0 ≡ k = omega arith in
       let m : max g 0 ≡ g = omega arith in
       ap (enteredFrom k g) e ∙ simp (le-leb k maxFiles h) (ap₂ (λ (a b : ℕ). entered.Rows a b) n m)
 
@@ -47,16 +45,14 @@ module _ (k g : ℕ) where
 
   -- a row more in front, which passes the tests, saved or not
   with-row : List ℕ → List (List ℕ) → Bool → Bool → Entered
-  with-row r rs t b =
-      let saved : List (List ℕ) = cond (not b) (r ∷ savedRows rs) (savedRows rs) in
+  with-row r rs t b = let saved : List (List ℕ) = cond (not b) (r ∷ savedRows rs) (savedRows rs) in
       cond (t && entryRowsAllowed (cond (not b) (k + 1) k) rs)
       (entered.Rows (k + length saved) (max g (foldr max 0 (map (λ r. sizeOf r) saved)))) entered.Other
 
   with-is : (b : Bool) (r : List ℕ) (rs : List (List ℕ)) → with-row r rs true b ≡ enteredFrom (cond b k (k + 1)) (cond b g (max g (sizeOf r))) rs
   unfolding with-row enteredFrom
   with-is true r rs = refl
-  with-is false r rs =
-      let s : List (List ℕ) = savedRows rs in
+  with-is false r rs = let s : List (List ℕ) = savedRows rs in
       let n : k + suc (length s) ≡ k + 1 + length s = omega arith in
       let m : max g (max (sizeOf r) (greatestSize rs)) ≡ max (max g (sizeOf r)) (greatestSize rs) = omega arith in
       ap₂ (λ (a b : ℕ). cond (entryRowsAllowed (k + 1) rs) (entered.Rows a b) entered.Other) n m
@@ -89,8 +85,7 @@ module _ (k g : ℕ) where
     pub entered-more : {k′ g′ : ℕ} → (inTurn k number && fileSizeAllowed size) ≡ true → k′ ≡ cond (eqb number 0) k (k + 1)
         → g′ ≡ cond (eqb number 0) g (max g size)
         → enteredFrom k′ g′ (rowsIn (left - 1) (drop (at + 28) s)) ≡ enteredFrom k g (rowsIn left (drop at s))
-    entered-more {k′} {g′} h f e =
-        let rest : List (List ℕ) = rowsIn (left - 1) (drop (at + 28) s) in
+    entered-more {k′} {g′} h f e = let rest : List (List ℕ) = rowsIn (left - 1) (drop (at + 28) s) in
         let right = ap₂ (λ (a b : ℕ). inTurn k a && fileSizeAllowed b) first-number first-size ∙ h in
         sym (ap (enteredFrom k g) (rows-more s at left some)
         ∙ more-by (eqb number 0) (take 28 (drop at s)) rest (ap (λ (n : ℕ). eqb n 0) first-number) right

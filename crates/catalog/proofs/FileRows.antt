@@ -52,8 +52,7 @@ module _ (k : ℕ) (e : List ℕ) (es : List (List ℕ)) (size-right : fileSizeO
 
   saved-more : isSaved (statusOf e) ≡ true → RowsRight (k + 1) es → RowsRight k (e ∷ es)
   unfolding rowsAfter entryRowsAllowed isCounted
-  saved-more z m =
-      let low : k + 1 ≤ 255 = let n = simp z at few in omega arith in
+  saved-more z m = let low : k + 1 ≤ 255 = let n = simp z at few in omega arith in
       let number : numberOf (First (k + 1)) ≡ k + 1 = first-number (k + 1) low in
       let some : eqb (k + 1) 0 ≡ false = ne-eqb (k + 1) 0 (λ h. omega arith) in
       let next : eqb (k + 1) (k + 1) ≡ true = eq-eqb (k + 1) (k + 1) refl in
@@ -67,8 +66,7 @@ module _ (k : ℕ) (e : List ℕ) (es : List (List ℕ)) (size-right : fileSizeO
 
   other-more : isSaved (statusOf e) ≡ false → RowsRight k es → RowsRight k (e ∷ es)
   unfolding rowsAfter entryRowsAllowed isCounted
-  other-more z m =
-      let number : numberOf (First 0) ≡ 0 = first-number 0 (omega arith) in
+  other-more z m = let number : numberOf (First 0) ≡ 0 = first-number 0 (omega arith) in
       let size : sizeOf (First 0) ≡ fileSizeOf e = first-size 0 in
       let right : leb (fileSizeOf e) maxFileSize ≡ true = le-leb _ _ size-right in
       let same : k + 0 ≡ k = omega arith in
@@ -102,8 +100,7 @@ unfolding numberAllowed
 number-few v n e = leb-true _ _ (and-both (leb n maxFiles) _ e .0)
 
 pub file-rows : (f : List ℕ) {p : Parts} → readOf f ≡ reading.Accepted p → FileRows f
-file-rows f e =
-    let keeps = cut-all lengthOf Keeps keeps-first (listOf f) in
+file-rows f e = let keeps = cut-all lengthOf Keeps keeps-first (listOf f) in
     let few : length (savedOf (entriesIn f)) ≤ maxFiles = number-few _ _ (told f e .number-right) in
     record {
       keep-rules = keeps;
@@ -126,8 +123,7 @@ pub record VolumeRow (n g : ℕ) (vol : List ℕ) : Type 0 where
 pub volume-row : (es : List (List ℕ)) (vol : List ℕ) {p : Parts} → readOf vol ≡ reading.Accepted p → rowsFor (entriesIn vol) ≡ es
     → 0 < volumeNumberOf vol → VolumeRow (length (savedRows es)) (greatestSize es) vol
 unfolding dataAllowed
-volume-row es vol e same low =
-    let t = told vol e in
+volume-row es vol e same low = let t = told vol e in
     let r = file-rows vol e .rows in
     let n : length (savedOf (entriesIn vol)) ≡ length (savedRows es) = sym (r .saved) ∙ ap (λ (rs : List (List ℕ)). length (savedRows rs)) same in
     let g : greatestOf (entriesIn vol) ≡ greatestSize es = sym (r .greatest) ∙ ap (λ (rs : List (List ℕ)). greatestSize rs) same in

@@ -56,8 +56,7 @@ after-adds (v ∷ vs) {h} {room} i (all-more w ws) = by (addOf room v .0) refl w
     by : (a : Writing) → addOf room v .0 ≡ a → IsWritten a → Invariant (heldAfter (adding v) (addOf room v .0) h) (addOf room v .1)
         → ((k : Held) → Invariant k (addOf room v .1) → After k vs (roomAfter (addOf room v .1) (map adding vs)))
         → After h (v ∷ vs) (roomAfter (addOf room v .1) (map adding vs))
-    by (Written n) e (is-written _) j rest =
-        let with-volume : Held = record { file = h .file; volumes = v ∷ h .volumes } in
+    by (Written n) e (is-written _) j rest = let with-volume : Held = record { file = h .file; volumes = v ∷ h .volumes } in
         let m = rest with-volume (subst (λ (a : Writing). Invariant (heldAfter (adding v) a h) (addOf room v .1)) e j) in
         record { held = m .held; invariant = m .invariant; file-is = m .file-is; count-is = omega (arith, m .count-is) }
 
@@ -70,8 +69,7 @@ after-open f vs room (all-more w ws) = after-adds vs (by (openOf f room .0) (ope
     by (Written n) after e (is-written _) = open-next f room e .invariant
 
 given-catalog : (b : List ℕ) → Given b → isCatalog b ≡ true
-given-catalog b g =
-    let f : List ℕ = g .file in
+given-catalog b g = let f : List ℕ = g .file in
     let vs : List (List ℕ) = g .volumes in
     let c : List ℕ = roomAfter (g .room) (opening f ∷ map adding vs) in
     let a = after-open f vs (g .room) (g .all-written) in
@@ -101,8 +99,7 @@ all-images {P} g (all-more p ps) = all-more p (all-images g ps)
 -- the first 16 bytes are the four numbers
 catalog-head : (b : List ℕ) → Bytes b → Catalog b → take 16 b ≡ catalogHead (entryCount b) (volumeCount b)
 unfolding catalogHead flatten
-catalog-head b bytes c =
-    let e : ℕ = entryCount b in
+catalog-head b bytes c = let e : ℕ = entryCount b in
     let v : ℕ = volumeCount b in
     let split : b ≡ toLe 4 e ++ (toLe 4 v ++ (toLe 4 (leAt 4 b 8) ++ (toLe 4 (leAt 4 b 12) ++ drop 16 b))) =
     split-number 4 0 b bytes (omega (arith, c .within))
@@ -116,8 +113,7 @@ catalog-head b bytes c =
 
 bytes-head : (es vs : List (List ℕ)) (t : List ℕ) → take 16 (catalogBytes es vs ++ t) ≡ catalogHead (length es) (length vs)
 unfolding catalogBytes
-bytes-head es vs t =
-    let h : List ℕ = catalogHead (length es) (length vs) in
+bytes-head es vs t = let h : List ℕ = catalogHead (length es) (length vs) in
     ap (take 16) (append-assoc h (flatten es ++ flatten vs) t) ∙ take-at h ((flatten es ++ flatten vs) ++ t) 16 (length-head (length es) (length vs))
 
 module _ (b : List ℕ) (bytes : Bytes b) (c : Catalog b) where
@@ -186,8 +182,7 @@ module _ (b : List ℕ) (bytes : Bytes b) (c : Catalog b) where
   }
 
   catalog-given : Given b
-  catalog-given =
-      let room : List ℕ = replicate (heldLength holding) 0 in
+  catalog-given = let room : List ℕ = replicate (heldLength holding) 0 in
       let calls : List Call = opening index ∷ map adding volumes in
       let after : List ℕ = roomAfter room calls in
       let done = afresh inside volumes (Permᴰ·refl volumes) room (omega (arith, length-replicate {A = ℕ} (heldLength holding) 0)) in

@@ -92,8 +92,7 @@ pub record Rows (h : Held) : Type 0 where
   pub size : length (catalogOf h) ≡ heldLength h
 
 pub in-rows : (h : Held) → In h → Rows h
-in-rows h i =
-    let f = file-rows (h .file) (i .read) in
+in-rows h i = let f = file-rows (h .file) (i .read) in
     let es : List (List ℕ) = entriesOf h in
     let rows : All (VolumeRow (length (savedRows es)) (greatestSize es)) (h .volumes) = each-row es (i .each) in
     let sorted : List·Permᴰ (sortRows (rowsOf (h .volumes))) (rowsOf (h .volumes)) = sort-perm (rowsOf (h .volumes)) in
@@ -111,14 +110,12 @@ in-rows h i =
 
 -- read back from the room
 pub read-back : {h : Held} {room : List ℕ} → Invariant h room → Back (entriesOf h) (sortRows (rowsOf (h .volumes))) room
-read-back {h} {room} i =
-    let r = in-rows h (i .inside) in
+read-back {h} {room} i = let r = in-rows h (i .inside) in
     let few : length (entriesOf h) ≤ maxEntries = omega (arith, r .count, i .inside .few) in
     let less : length (sortRows (rowsOf (h .volumes))) ≤ 256 = omega (arith, count-low _ _ 0 (sortRows (rowsOf (h .volumes))) (r .volumes-right) (omega arith)) in
     subst (Back (entriesOf h) (sortRows (rowsOf (h .volumes)))) (sym (i .room-is))
     (catalog-back (entriesOf h) (sortRows (rowsOf (h .volumes))) (i .rest) (r .entries-sized) (r .volumes-sized) few less)
 
 pub stands-catalog : {h : Held} {room : List ℕ} → Invariant h room → isCatalog room ≡ true
-stands-catalog {h} i =
-    let r = in-rows h (i .inside) in
+stands-catalog {h} i = let r = in-rows h (i .inside) in
     back-catalog (read-back i) (omega (arith, r .count, i .inside .few)) (r .entries-right) (r .volumes-right)

@@ -50,8 +50,7 @@ use Rattle.catalog.proofs.RowLaws.{Sized, length-rows, flatten-rows, le
 module _ (n g : ℕ) where
   all-above : (v : ℕ) (rs : List (List ℕ)) → volumeRowsAllowed n g v rs ≡ true → All (λ x. v < numberOf x) rs
   all-above v [] e = all-none
-  all-above v (r ∷ rs) e =
-      let f = first-row n g v r rs e in
+  all-above v (r ∷ rs) e = let f = first-row n g v r rs e in
       let low : v < numberOf r = f .above in
       all-more low (all-map (λ x h. omega arith) (all-above (numberOf r) rs (f .others)))
 
@@ -103,8 +102,7 @@ module _ (b : List ℕ) (c : Catalog b) (ws : List (List ℕ)) (sized : All Size
         ∙ flatten-rows (entryCount b) (drop 16 b)
 
   changed : {m : Refusal} {n : ℕ} {room : List ℕ} → Accepted m (catalogBytes es ws) b n room → Changed b room n ws
-  changed {m} {n} {room} w =
-      let s : List ℕ = catalogBytes es ws in
+  changed {m} {n} {room} w = let s : List ℕ = catalogBytes es ws in
       let t : List ℕ = drop (length s) b in
       let k : Back es ws (s ++ t) = back t in
       let past = past-same w in
@@ -129,8 +127,7 @@ module _ (b : List ℕ) (c : Catalog b) (ws : List (List ℕ)) (sized : All Size
 
 pub open-kept : OpenKept
 unfolding openOf
-open-kept f out room n e =
-    let w = unless-tells (openRefusal f (readOf f)) (catalogBytes (rowsFor (entriesIn f)) []) out e in
+open-kept f out room n e = let w = unless-tells (openRefusal f (readOf f)) (catalogBytes (rowsFor (entriesIn f)) []) out e in
     let same = past-same w in
     (w .length-is ∙ length-opened f out, w .written-is, same .0, same .1)
 
@@ -144,8 +141,7 @@ module _ (b vol room : List ℕ) (n : ℕ) (bytes : Bytes b) where
       → Kept b room n × (n ≡ catalogLength b + 28) × (n ≡ catalogLength room) × (volumeCount room ≡ volumeCount b + 1)
       × Moved (volumeRow vol) (volumeRows b) (volumeRows room)
   by-reading w (reading.Refused r) is z = absurd (refused-some vol is z)
-  by-reading w (reading.Accepted p) is z =
-      let a = add-passed b vol z in
+  by-reading w (reading.Accepted p) is z = let a = add-passed b vol z in
       let c = is-catalog b (a .catalog) in
       let t = told vol is in
       let r : List ℕ = volumeRow vol in
@@ -178,8 +174,7 @@ add-kept b vol room n bytes e =
 
 pub drop-kept : DropKept
 unfolding dropOf
-drop-kept b v room n bytes e =
-    let w = unless-tells (bare (dropNumber b v)) (droppedBytes b v) b e in
+drop-kept b v room n bytes e = let w = unless-tells (bare (dropNumber b v)) (droppedBytes b v) b e in
     let passed = drop-passed b v (w .none) in
     let c = passed .0 in
     let vs : List (List ℕ) = volumeRows b in

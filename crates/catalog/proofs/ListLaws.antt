@@ -37,8 +37,7 @@ module _ (k : ℕ) (s : List ℕ) (from : ℕ) {n status size : ℕ} (i : EntryA
   pub rows-next : {number : ℕ} {hash : List ℕ} → number ≡ fileNumberAfter k status → hash ≡ take 16 (drop (from + 24) s)
       → restRows k s from ≡ row number size hash ∷ restRows (k + savedCount status) s (from + n)
   unfolding rowsAfter
-  rows-next {number} {hash} number-is hash-is =
-      let e : List ℕ = take n (drop from s) in
+  rows-next {number} {hash} number-is hash-is = let e : List ℕ = take n (drop from s) in
       let j = i .entry in
       let h : hash ≡ md5Of e = hash-is ∙ hash-part s from n (omega (arith, i .low)) in
       ap (λ c. rowsAfter k (c .pieces)) (entries-more j)
@@ -86,8 +85,7 @@ module _ {rs : List (List ℕ)} (r : List ℕ) (more : List (List ℕ)) (t : Lis
 
   -- so there was a whole row
   pub compare-within : b ≡ true → at + 28 ≤ length t
-  compare-within z =
-      let found : r ≡ part = equal-true r part (sym same ∙ z) in
+  compare-within z = let found : r ≡ part = equal-true r part (sym same ∙ z) in
       omega (arith, n, ap length found, ap length p, length-take 28 (drop at t), length-drop at t)
 
 pub compare-end : {rs : List (List ℕ)} (t : List ℕ) (at : ℕ) → rs ≡ [] → at ≤ length t → equal (flatten rs) (drop at t) ≡ eqb at (length t)

@@ -42,8 +42,7 @@ number-next false t m n e es h = refl
 row-at : (m : ℕ) (es : List (List ℕ)) (k : ℕ) → k < length es → getD (rowsAfter m es) k [] ≡ entryRow (numberAfter m es k) (getD es k [])
 unfolding rowsAfter
 row-at m [] k h = absurd (omega arith)
-row-at m (e ∷ es) zero h =
-    let n : m + 1 ≡ m + 0 + 1 = omega arith in
+row-at m (e ∷ es) zero h = let n : m + 1 ≡ m + 0 + 1 = omega arith in
     ap (λ (k : ℕ). entryRow (cond (isSaved (statusOf e)) k 0) e) n
 row-at m (e ∷ es) (suc k) h =
     row-at (m + savedCount (statusOf e)) es k (omega arith)
@@ -69,8 +68,7 @@ module _ (f : List ℕ) (r : FileRows f) where
       by false z = omega arith
 
   record-at : (k : ℕ) → k < length es → recordOf (getD (rowsFor es) k []) ≡ recordFor es k
-  record-at k h =
-      let e : List ℕ = getD es k [] in
+  record-at k h = let e : List ℕ = getD es k [] in
       let n : ℕ = fileNumber es k in
       let keeps : Keeps e = all-at [] (r .keep-rules) k h in
       let long : 58 ≤ length e = sized (length e) (length e) (keeps .size-right) .low in

@@ -58,8 +58,7 @@ bytes-entry m status name b =
 
 pub bytes-volume : (c : Code) (program number : ℕ) (list area : List ℕ) → Bytes list → Bytes area → Bytes (volumeBytes c program number list area)
 unfolding volumeBytes bodyBytes headBytes
-bytes-volume c program number list area b d =
-    let body : List ℕ = bodyBytes (length (entriesOf list .pieces)) number list area in
+bytes-volume c program number list area b d = let body : List ℕ = bodyBytes (length (entriesOf list .pieces)) number list area in
     bytes-append (headBytes c program body) body
     (bytes-flatten (all-more (bytes-toLe 8 signature) (all-more (bytes-toLe 4 (versionFor c)) (all-more (bytes-toLe 4 program) (all-more (bytes-md5 body) all-none)))))
     (bytes-flatten (all-more (bytes-set _) (all-more (bytes-numbers _) (all-more b (all-more d all-none)))))

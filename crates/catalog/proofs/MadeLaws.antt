@@ -97,8 +97,7 @@ SizeRight r = fileSizeAllowed (sizeOf r) ≡ true
 
 made : (r : List ℕ) → SizeRight r → Made r
 unfolding madeEntry nameAllowed eachUnit unitAllowed isDots equal unitsOf leAt fromLe
-made r h =
-    let m : List ℕ = replicate (sizeOf r) 0 in
+made r h = let m : List ℕ = replicate (sizeOf r) 0 in
     let back : EntryBack (entryBytes m (madeStatus r) oneName) m (madeStatus r) oneName =
     entry-back m (madeStatus r) oneName
     (ap (λ (k : ℕ). fileSizeAllowed k) (length-replicate (sizeOf r) 0) ∙ h) (low (isSavedRow r)) refl
@@ -171,8 +170,7 @@ record FirstEntry (k : ℕ) (r : List ℕ) (rs : List (List ℕ)) : Type 0 where
 
 first-entry : (k : ℕ) (r : List ℕ) (rs : List (List ℕ)) → entryRowsAllowed k (r ∷ rs) ≡ true → FirstEntry k r rs
 unfolding entryRowsAllowed
-first-entry k r rs e =
-    let t₂ = and-both _ (entryRowsAllowed (cond (isSavedRow r) (k + 1) k) rs) e in
+first-entry k r rs e = let t₂ = and-both _ (entryRowsAllowed (cond (isSavedRow r) (k + 1) k) rs) e in
     let t₁ = and-both (inTurn k (numberOf r)) (fileSizeAllowed (sizeOf r)) (t₂ .0) in
     record { turn = t₁ .0; size-right = t₁ .1; others = t₂ .1 }
 
@@ -204,8 +202,7 @@ one-more false k = omega arith
 pub rows-made : (k : ℕ) {rs : List (List ℕ)} → All Made rs → All Plain rs → entryRowsAllowed k rs ≡ true → Alike (rowsAfter k (madeEntries rs)) rs
 unfolding rowsAfter
 rows-made k all-none all-none e = alike-none
-rows-made k (all-more {x = r} {xs = rs} m ms) (all-more p ps) e =
-    let f = first-entry k r rs e in
+rows-made k (all-more {x = r} {xs = rs} m ms) (all-more p ps) e = let f = first-entry k r rs e in
     let number : fileNumberAfter k (statusOf (madeEntry r)) ≡ numberOf r =
     ap (λ (t : Bool). cond t (k + 1) 0) (m .saved-is) ∙ turn-number k (numberOf r) (f .turn) in
     let next : k + savedCount (statusOf (madeEntry r)) ≡ cond (isSavedRow r) (k + 1) k =
@@ -258,8 +255,7 @@ module _ (rs : List (List ℕ)) (allowed : entryRowsAllowed 0 rs ≡ true) (few 
   made-file : (number : ℕ) (area : List ℕ) → number < 2 ^ 64 → Bytes area → length area ≤ maxFileSize
       → numberAllowed number (length (savedRows rs)) ≡ true → dataAllowed number (greatestSize rs) (length area) ≡ true
       → MadeFile rs number (length area) (volumeBytes Powers 0 number (madeList rs) area)
-  made-file number area small b short number-right data-right =
-      let list : List ℕ = madeList rs in
+  made-file number area small b short number-right data-right = let list : List ℕ = madeList rs in
       let f : List ℕ = volumeBytes Powers 0 number list area in
       let saved : length (savedOf (madeEntries rs)) ≡ length (savedRows rs) = ap length (saved-made all-made) ∙ length-map (savedRows rs) (λ r. madeEntry r) in
       let back : ReadBack f Powers 0 number list area =
@@ -285,14 +281,12 @@ module _ (rs : List (List ℕ)) (allowed : entryRowsAllowed 0 rs ≡ true) (few 
 
   pub index-made : MadeFile rs 0 0 (madeIndex rs)
   unfolding dataAllowed numberAllowed
-  index-made =
-      let most : length (savedRows rs) ≤ maxFiles = omega (arith, saved-few 0 rs allowed) in
+  index-made = let most : length (savedRows rs) ≤ maxFiles = omega (arith, saved-few 0 rs allowed) in
       made-file 0 [] (omega arith) bytes-none (omega arith) (simp (le-leb (length (savedRows rs)) maxFiles most)) refl
 
   volume-made : (r : List ℕ) → 0 < numberOf r → numberAllowed (numberOf r) (length (savedRows rs)) ≡ true → sizeOf r ≡ greatestSize rs → VolumeMade rs r
   unfolding dataAllowed
-  volume-made r some right size =
-      let g : ℕ = greatestSize rs in
+  volume-made r some right size = let g : ℕ = greatestSize rs in
       let long : length (replicate {A = ℕ} g 0) ≡ g = length-replicate g 0 in
       let other : eqb (numberOf r) 0 ≡ false = ne-eqb (numberOf r) 0 (λ z. omega arith) in
       let data-right : dataAllowed (numberOf r) g (length (replicate {A = ℕ} g 0)) ≡ true = simp (other, eq-eqb _ _ long) in
@@ -301,6 +295,5 @@ module _ (rs : List (List ℕ)) (allowed : entryRowsAllowed 0 rs ≡ true) (few 
 
   pub volumes-made : (v : ℕ) (vs : List (List ℕ)) → volumeRowsAllowed (length (savedRows rs)) (greatestSize rs) v vs ≡ true → All (VolumeMade rs) vs
   volumes-made v [] e = all-none
-  volumes-made v (r ∷ vs) e =
-      let f = first-row (length (savedRows rs)) (greatestSize rs) v r vs e in
+  volumes-made v (r ∷ vs) e = let f = first-row (length (savedRows rs)) (greatestSize rs) v r vs e in
       all-more (volume-made r (omega (arith, f .above)) (f .number-right) (f .size-is)) (volumes-made (numberOf r) vs (f .others))

@@ -32,8 +32,7 @@ module _ (s : List ℕ) (to : ℕ) where
   -- a byte more
   pub up-more : (j : ℕ) {t : List ℕ} → j < to → to + 28 ≤ length s → t ≡ sets s (j + 1 + 28) (take (to - (j + 1)) (drop (j + 1) s))
       → set t (j + 28) (getD t j 0) ≡ sets s (j + 28) (take (to - j) (drop j s))
-  up-more j {t} h fits e =
-      let v : List ℕ = take (to - (j + 1)) (drop (j + 1) s) in
+  up-more j {t} h fits e = let v : List ℕ = take (to - (j + 1)) (drop (j + 1) s) in
       let k : to - j ≡ suc (to - (j + 1)) = omega arith in
       let same : getD t j 0 ≡ getD s j 0 = ap (λ (l : List ℕ). getD l j 0) e ∙ getD-below s v (j + 1 + 28) j (omega arith) in
       let up : j + 1 + 28 ≡ suc (j + 28) = omega arith in
@@ -47,8 +46,7 @@ module _ (s : List ℕ) (to : ℕ) where
   -- and the row between
   pub up-spread : (at : ℕ) (row : List ℕ) {t u : List ℕ} → at ≤ to → to + 28 ≤ length s → length row ≡ 28
       → t ≡ sets s (at + 28) (take (to - at) (drop at s)) → u ≡ sets t at row → u ≡ spread at to row s
-  up-spread at row {t} {u} low fits size up put =
-      let v : List ℕ = take (to - at) (drop at s) in
+  up-spread at row {t} {u} low fits size up put = let v : List ℕ = take (to - at) (drop at s) in
       let n : length v ≡ to - at = length-take-le (to - at) (drop at s) (omega (arith, length-drop at s)) in
       let front : List ℕ = take (at + 28) s in
       let end : at + 28 + length v ≡ to + 28 = omega arith in
@@ -69,8 +67,7 @@ module _ (s : List ℕ) (to : ℕ) where
 module _ (s : List ℕ) (at : ℕ) where
   pub down-more : (i : ℕ) {t : List ℕ} → at ≤ i → i + 28 < length s → t ≡ sets s at (take (i - at) (drop (at + 28) s))
       → set t i (getD t (i + 28) 0) ≡ sets s at (take (i + 1 - at) (drop (at + 28) s))
-  down-more i {t} low h e =
-      let b : List ℕ = drop (at + 28) s in
+  down-more i {t} low h e = let b : List ℕ = drop (at + 28) s in
       let k : ℕ = i - at in
       let within : length (take k b) ≡ k = length-take-le k b (omega (arith, length-drop (at + 28) s)) in
       let place : i ≡ at + k = omega arith in
@@ -84,8 +81,7 @@ module _ (s : List ℕ) (at : ℕ) where
 
   pub down-closed : (to : ℕ) {t : List ℕ} → at + 28 ≤ to → to ≤ length s → t ≡ sets s at (take (to - 28 - at) (drop (at + 28) s))
       → t ≡ closed at to s
-  down-closed to {t} low fits e =
-      let same : to - 28 - at ≡ to - (at + 28) = omega arith in
+  down-closed to {t} low fits e = let same : to - 28 - at ≡ to - (at + 28) = omega arith in
       let v : List ℕ = take (to - (at + 28)) (drop (at + 28) s) in
       let n : length v ≡ to - (at + 28) = length-take-le (to - (at + 28)) (drop (at + 28) s) (omega (arith, length-drop (at + 28) s)) in
       let end : at + length v ≡ to - 28 = omega arith in

@@ -80,8 +80,7 @@ insert-ascend r (ascend-more {r = x} {rs = xs} a d) (all-more n o) = by (ltb (nu
   where
     by : (t : Bool) → t ≡ ltb (numberOf x) (numberOf r) → Ascend (insertRow r xs) → Ascend (cond t (x ∷ insertRow r xs) (r ∷ x ∷ xs))
     by true e m = ascend-more (all-insert r (ltb-true _ _ (sym e)) a) m
-    by false e m =
-        let low : numberOf r ≤ numberOf x = ltb-false _ _ (sym e) in
+    by false e m = let low : numberOf r ≤ numberOf x = ltb-false _ _ (sym e) in
         let less : numberOf r < numberOf x = omega (arith, n) in
         ascend-more (all-more less (all-map (λ y h. omega arith) a)) (ascend-more a d)
 
@@ -112,12 +111,10 @@ insert-lower a b (x ∷ rs) h = by (ltb (numberOf x) (numberOf a)) refl (insert-
   where
     by : (t : Bool) → t ≡ ltb (numberOf x) (numberOf a) → insertRow a (insertRow b rs) ≡ insertRow b (insertRow a rs)
         → insertRow a (insertRow b (x ∷ rs)) ≡ insertRow b (insertRow a (x ∷ rs))
-    by true e m =
-        let low : numberOf x < numberOf a = ltb-true _ _ (sym e) in
+    by true e m = let low : numberOf x < numberOf a = ltb-true _ _ (sym e) in
         ap (insertRow a) (insert-past b x rs (omega arith)) ∙ insert-past a x (insertRow b rs) low ∙ ap (λ (l : List (List ℕ)). x ∷ l) m
         ∙ sym (ap (insertRow b) (insert-past a x rs low) ∙ insert-past b x (insertRow a rs) (omega arith))
-    by false e m =
-        let high : numberOf a ≤ numberOf x = ltb-false _ _ (sym e) in
+    by false e m = let high : numberOf a ≤ numberOf x = ltb-false _ _ (sym e) in
         front (ltb (numberOf x) (numberOf b)) high ∙ sym (ap (insertRow b) (insert-here a x rs high) ∙ insert-past b a (x ∷ rs) h)
       where
         front : (t : Bool) → numberOf a ≤ numberOf x
@@ -173,8 +170,7 @@ remove-insert v r (ascend-more {r = x} {rs = xs} a d) = by (ltb (numberOf x) (nu
         both true false = refl
         both false true = refl
         both false false = refl
-    by false e m =
-        let low : numberOf r ≤ numberOf x = ltb-false _ _ (sym e) in
+    by false e m = let low : numberOf r ≤ numberOf x = ltb-false _ _ (sym e) in
         let others : All (λ y. numberOf r ≤ numberOf y) (x ∷ xs) = all-more low (all-map (λ y h. omega arith) a) in
         here (not (eqb (numberOf r) v)) (all-keep (λ y. not (eqb (numberOf y) v)) others)
       where

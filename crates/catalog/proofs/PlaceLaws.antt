@@ -48,8 +48,7 @@ pub record FirstRow (n g v : ℕ) (r : List ℕ) (rs : List (List ℕ)) : Type 0
 module _ (n g : ℕ) where
   pub first-row : (v : ℕ) (r : List ℕ) (rs : List (List ℕ)) → volumeRowsAllowed n g v (r ∷ rs) ≡ true → FirstRow n g v r rs
   unfolding volumeRowsAllowed
-  first-row v r rs e =
-      let t₃ = and-both _ (volumeRowsAllowed n g (numberOf r) rs) e in
+  first-row v r rs e = let t₃ = and-both _ (volumeRowsAllowed n g (numberOf r) rs) e in
       let t₂ = and-both _ (eqb (sizeOf r) g) (t₃ .0) in
       let t₁ = and-both (ltb v (numberOf r)) (numberAllowed (numberOf r) n) (t₂ .0) in
       record { above = ltb-true _ _ (t₁ .0); number-right = t₁ .1; size-is = eqb-true _ _ (t₂ .1); others = t₃ .1 }
@@ -66,8 +65,7 @@ module _ (n g : ℕ) where
   pub none-below : (u : ℕ) (rs : List (List ℕ)) (v : ℕ) → volumeRowsAllowed n g u rs ≡ true → v ≤ u → holds v rs ≡ false
   unfolding holds
   none-below u [] v e h = refl
-  none-below u (r ∷ rs) v e h =
-      let f = first-row u r rs e in
+  none-below u (r ∷ rs) v e h = let f = first-row u r rs e in
       let other : numberOf r ≡ v → ⊥ = λ z. omega (arith, f .above) in
       simp (ne-eqb _ _ other) (none-below (numberOf r) rs v (f .others) (omega (arith, f .above)))
 
@@ -75,8 +73,7 @@ module _ (n g : ℕ) where
       → holds v rs ≡ (ltb (placeOf v rs) (length rs) && eqb (numberOf (getD rs (placeOf v rs) [])) v)
   unfolding holds placeOf
   holds-place u [] v e = refl
-  holds-place u (r ∷ rs) v e =
-      let f = first-row u r rs e in
+  holds-place u (r ∷ rs) v e = let f = first-row u r rs e in
       by (ltb (numberOf r) v) refl (holds-place (numberOf r) rs v (f .others)) (λ h. none-below (numberOf r) rs v (f .others) h)
     where
       or-false : (a b : Bool) → b ≡ false → (a || b) ≡ a
@@ -87,8 +84,7 @@ module _ (n g : ℕ) where
           → (v ≤ numberOf r → holds v rs ≡ false)
           → let p : ℕ = cond t (suc (placeOf v rs)) 0 in
           (eqb (numberOf r) v || holds v rs) ≡ (ltb p (suc (length rs)) && eqb (numberOf (getD (r ∷ rs) p [])) v)
-      by true z h g =
-          let less = ltb-true (numberOf r) v (sym z) in
+      by true z h g = let less = ltb-true (numberOf r) v (sym z) in
           let other : numberOf r ≡ v → ⊥ = λ y. omega arith in
           simp (ne-eqb _ _ other)
           (h ∙ ap (λ (t : Bool). t && eqb (numberOf (getD rs (placeOf v rs) [])) v) (sym (leb·suc-suc (suc (placeOf v rs)) (length rs))))
@@ -100,8 +96,7 @@ module _ (n g : ℕ) where
       → removeRow v rs ≡ take (placeOf v rs) rs ++ drop (placeOf v rs + 1) rs
   unfolding holds placeOf
   remove-at u [] v e h = absurd (true≢false (sym h))
-  remove-at u (r ∷ rs) v e h =
-      let f = first-row u r rs e in
+  remove-at u (r ∷ rs) v e h = let f = first-row u r rs e in
       by (ltb (numberOf r) v) refl (eqb (numberOf r) v) refl h (λ k. remove-at (numberOf r) rs v (f .others) k)
       (λ k. none-below (numberOf r) rs v (f .others) k)
     where
@@ -119,12 +114,10 @@ module _ (n g : ℕ) where
           → (holds v rs ≡ true → removeRow v rs ≡ take (placeOf v rs) rs ++ drop (placeOf v rs + 1) rs) → (v ≤ numberOf r → holds v rs ≡ false)
           → let p : ℕ = cond t (suc (placeOf v rs)) 0 in
           cond (not s) (r ∷ removeRow v rs) (removeRow v rs) ≡ take p (r ∷ rs) ++ drop (p + 1) (r ∷ rs)
-      by true z true y k m g =
-          let less = ltb-true (numberOf r) v (sym z) in
+      by true z true y k m g = let less = ltb-true (numberOf r) v (sym z) in
           let same = eqb-true (numberOf r) v (sym y) in
           absurd (omega arith)
-      by true z false y k m g =
-          let up : suc (placeOf v rs) + 1 ≡ suc (placeOf v rs + 1) = omega arith in
+      by true z false y k m g = let up : suc (placeOf v rs) + 1 ≡ suc (placeOf v rs + 1) = omega arith in
           ap (λ (l : List (List ℕ)). r ∷ l) (m k) ∙ ap (λ (q : ℕ). r ∷ (take (placeOf v rs) rs ++ drop q (r ∷ rs))) (sym up)
       by false z true y k m g = kept rs (g (ltb-false (numberOf r) v (sym z)))
       by false z false y k m g = absurd (true≢false (sym k ∙ g (ltb-false (numberOf r) v (sym z))))
@@ -134,8 +127,7 @@ module _ (n g : ℕ) where
       → numberAllowed (numberOf r) n ≡ true → sizeOf r ≡ g → holds (numberOf r) rs ≡ false → volumeRowsAllowed n g u (insertRow r rs) ≡ true
   unfolding insertRow holds
   insert-allowed u [] r e h k s z = row-first u r [] (record { above = h; number-right = k; size-is = s; others = no-rows (numberOf r) })
-  insert-allowed u (x ∷ rs) r e h k s z =
-      let f = first-row u x rs e in
+  insert-allowed u (x ∷ rs) r e h k s z = let f = first-row u x rs e in
       by (ltb (numberOf x) (numberOf r)) refl (eqb (numberOf x) (numberOf r)) refl z f
       (λ l y. insert-allowed (numberOf x) rs r (f .others) l k s y)
     where
@@ -146,8 +138,7 @@ module _ (n g : ℕ) where
       by true y false w z f m =
           row-first u x (insertRow r rs)
           (record { above = f .above; number-right = f .number-right; size-is = f .size-is; others = m (ltb-true _ _ (sym y)) z })
-      by false y false w z f m =
-          let low = ltb-false (numberOf x) (numberOf r) (sym y) in
+      by false y false w z f m = let low = ltb-false (numberOf x) (numberOf r) (sym y) in
           let other = eqb-false (numberOf x) (numberOf r) (sym w) in
           row-first u r (x ∷ rs) (record {
             above = h;

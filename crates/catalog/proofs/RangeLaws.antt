@@ -37,8 +37,7 @@ bare-low : (n k : ℕ) → k ≤ 30 → Low n (bare k)
 bare-low n k h = record { number-low = h; place-low = omega arith }
 
 read-low : (f : List ℕ) {r : Refusal} → readOf f ≡ reading.Refused r → Low (length f) r
-read-low f {r} e =
-    let w = refusal-within f in
+read-low f {r} e = let w = refusal-within f in
     let same = refused-is f e in
     let number = ap (λ (r : Refusal). r .number) same in
     let place = ap (λ (r : Refusal). r .place) same in
@@ -84,8 +83,7 @@ module _ (b vol : List ℕ) where
 
   pub add-length : (q : Reading) → readOf vol ≡ q → addRefusal b vol q .number ≡ 0 → length (addedBytes b vol) ≤ 65536
   add-length (reading.Refused r) e z = absurd (refused-some vol e z)
-  add-length (reading.Accepted p) e z =
-      let c = add-catalog b vol z in
+  add-length (reading.Accepted p) e z = let c = add-catalog b vol z in
       omega (arith, length-added b c (volumeRow vol) (length-volume-row vol (told vol e)), c .few, volumes-few b c)
 
 -- ---- dropping
@@ -102,8 +100,7 @@ module _ (b : List ℕ) (v : ℕ) where
       by true true true = omega arith
 
   pub drop-length : dropNumber b v ≡ 0 → length (droppedBytes b v) ≤ 65536
-  drop-length z =
-      let d = drop-passed b v z in
+  drop-length z = let d = drop-passed b v z in
       let c = d .0 in
       omega (arith, length-dropped b c v (d .1) (held-within b c v (d .1)), c .few, volumes-few b c)
 

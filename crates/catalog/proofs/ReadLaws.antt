@@ -47,8 +47,7 @@ number-low v n e = by (eqb v 0) refl (and-both (leb n maxFiles) (eqb v 0 || (leb
     by false z k = omega (arith, leb-true (v + n) 255 (and-both (leb 1 n) (leb (v + n) 255) k .1))
 
 pub told : (f : List ℕ) {p : Parts} → readOf f ≡ Accepted p → Told f p
-told f {p} e =
-    let r = read-tells f p e in
+told f {p} e = let r = read-tells f p e in
     let t = r .tests in
     let are = walk-totals (listOf f) (t .walk-is) in
     let right = ap (λ (u : Totals). numberAllowed (volumeNumberOf f) (u .saved)) (sym are) ∙ t .totals .number-right in

@@ -34,8 +34,7 @@ module _ (b : List ℕ) (i : ℕ) where
       → size ≡ leAt 8 b (at + 4) → part ≡ take 16 (drop (at + 12) b) → hash ≡ sets (replicate 16 0) 0 part
       → _≡_ {A = Row} (record { file = number; size = size; md5 = hash }) (rowAt b i)
   unfolding rowAt
-  row-some at {number} {size} {part} {hash} e h number-is size-is part-is hash-is =
-      let r : List ℕ = take 28 (drop at b) in
+  row-some at {number} {size} {part} {hash} e h number-is size-is part-is hash-is = let r : List ℕ = take 28 (drop at b) in
       let n : length part ≡ 16 = ap length part-is ∙ length-take-le 16 (drop (at + 12) b) (omega (arith, length-drop (at + 12) b)) in
       let same-hash : hash ≡ hashOf r = hash-is ∙ stored part n ∙ part-is ∙ hash-at b at in
       let same : recordOf r ≡ recordOf (take 28 (drop (16 + 28 * i) b)) = ap (λ (k : ℕ). recordOf (take 28 (drop k b))) e in
@@ -78,8 +77,7 @@ filled-more b i ys r e l =
 rows-last : (n : ℕ) (s : List ℕ) → rowsIn (suc n) s ≡ rowsIn n s ++ (take 28 (drop (28 * n) s) ∷ [])
 unfolding rowsIn
 rows-last zero s = refl
-rows-last (suc n) s =
-    let e : 28 + 28 * n ≡ 28 * suc n = omega arith in
+rows-last (suc n) s = let e : 28 + 28 * n ≡ 28 * suc n = omega arith in
     ap (λ (l : List (List ℕ)). take 28 s ∷ l) (rows-last n (drop 28 s))
     ∙ ap (λ (q : List ℕ). take 28 s ∷ (rowsIn n (drop 28 s) ++ (take 28 q ∷ []))) (drop-drop (28 * n) 28 s ∙ ap (λ (k : ℕ). drop k s) e)
 
@@ -91,8 +89,7 @@ map-append f (x ∷ xs) ys = ap (λ (l : List Row). f x ∷ l) (map-append f xs 
 pub records-are : (b : List ℕ) (n : ℕ) → 16 + 28 * n ≤ length b → recordsTo b n ≡ map (λ r. recordOf r) (rowsIn n (drop 16 b))
 unfolding recordsTo rowsIn
 records-are b zero h = refl
-records-are b (suc n) h =
-    let e : 28 * n + 16 ≡ 16 + 28 * n = omega arith in
+records-are b (suc n) h = let e : 28 * n + 16 ≡ 16 + 28 * n = omega arith in
     let here : rowAt b n ≡ recordOf (take 28 (drop (28 * n) (drop 16 b))) =
     whole b n (omega arith) ∙ ap (λ (q : List ℕ). recordOf (take 28 q)) (sym (drop-drop (28 * n) 16 b)) in
     ap₂ (λ (l : List Row) (r : Row). l ++ (r ∷ [])) (records-are b n (omega arith)) here
@@ -110,8 +107,7 @@ module _ (b : List ℕ) (ys : List Row) where
   filling n e = by (loadingOf b (length ys)) (loading-is b (length ys)) e refl
     where
       by : (w : Writing) → Loads b (length ys) w → w ≡ Written n → loadingOf b (length ys) ≡ w → Filling b ys n
-      by (Written k) (loads c few) z y =
-          let count : entryCount b ≡ n = cc in
+      by (Written k) (loads c few) z y = let count : entryCount b ≡ n = cc in
           let within = is-catalog b c .within in
           record {
             most = omega arith;

@@ -92,8 +92,7 @@ module _ (v : ℕ) where
     where
       by : (t : Bool) → t ≡ eqb (numberOf x) v → (t || holds v rs) ≡ true → (holds v rs ≡ true → HasRow v rs) → HasRow v (x ∷ rs)
       by true z f m = record { front = []; row = x; back = rs; rows-are = refl; number-is = eqb-true _ _ (sym z) }
-      by false z f m =
-          let k = m f in
+      by false z f m = let k = m f in
           record { front = x ∷ k .front; row = k .row; back = k .back; rows-are = ap (λ (l : List (List ℕ)). x ∷ l) (k .rows-are); number-is = k .number-is }
 
   not-held : (rs : List (List ℕ)) → (HasRow v rs → ⊥) → holds v rs ≡ false
@@ -251,8 +250,7 @@ drop-decided v room = by (isCatalog room) refl (volumeInRange v room) refl (hold
     by false is r range h has = refuses (claim.drop-other is)
     by true is false range h has = refuses (claim.drop-range is (range-told v (filesIn room) range))
     by true is true range false has = refuses (claim.drop-absent is (range-not v (filesIn room) range) (held-not v (volumeRows room) has))
-    by true is true range true has =
-        let c = is-catalog room is in
+    by true is true range true has = let c = is-catalog room is in
         let none : dropNumber room v ≡ 0 = simp (is, range, has) in
         accepts (unless-accepted (bare (dropNumber room v)) (droppedBytes room v) room none
         (omega (arith, c .within, length-dropped room c v has (held-within room c v has))))
@@ -268,8 +266,7 @@ refused-only c room r after e = (by (decided c), refused-same c room e)
     by : Decided c room → Refuses c room r
     by (refuses {r = q} h) =
         subst (Refuses c room) (ap (λ (p : Writing × List ℕ). writingRefusal (p .0)) (sym (call-refused c room q h) ∙ e)) h
-    by (accepts {n} a) =
-        let answer : Written n ≡ Refused r = ap (λ (p : Writing × List ℕ). p .0) (sym a ∙ e) in
+    by (accepts {n} a) = let answer : Written n ≡ Refused r = ap (λ (p : Writing × List ℕ). p .0) (sym a ∙ e) in
         absurd (let z : _≡_ {A = ℕ} 0 1 = cc in omega arith)
 
 -- ---- loading
@@ -302,6 +299,5 @@ load-refused-only b rows r after e = by (isCatalog b) refl (leb (entryCount b) (
           subst (LoadRefuses b (length rows)) (ap (λ (p : Writing × List Row). writingRefusal (p .0)) e) (claim.load-short is h),
           sym (ap (λ (p : Writing × List Row). p .1) e),
         )
-    by true is true short e =
-        let told : Written (entryCount b) ≡ Refused r = ap (λ (p : Writing × List Row). p .0) e in
+    by true is true short e = let told : Written (entryCount b) ≡ Refused r = ap (λ (p : Writing × List Row). p .0) e in
         absurd (let z : _≡_ {A = ℕ} 0 1 = cc in omega arith)

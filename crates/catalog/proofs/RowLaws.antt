@@ -33,8 +33,7 @@ module _ (s : List ℕ) (at : ℕ) where
   pub rows-more : (n : ℕ) → 0 < n → rowsIn n (drop at s) ≡ take 28 (drop at s) ∷ rowsIn (n - 1) (drop (at + 28) s)
   unfolding rowsIn
   rows-more zero h = absurd (omega arith)
-  rows-more (suc n) h =
-      let e : n ≡ suc n - 1 = omega arith in
+  rows-more (suc n) h = let e : n ≡ suc n - 1 = omega arith in
       ap₂ (λ (k : ℕ) (t : List ℕ). take 28 (drop at s) ∷ rowsIn k t) e (drop-drop 28 at s)
 
 -- ---- all rows
@@ -47,8 +46,7 @@ length-rows (suc n) s = ap suc (length-rows n (drop 28 s))
 pub flatten-rows : (n : ℕ) (s : List ℕ) → flatten (rowsIn n s) ≡ take (28 * n) s
 unfolding rowsIn flatten
 flatten-rows zero s = refl
-flatten-rows (suc n) s =
-    let e : 28 + 28 * n ≡ 28 * suc n = omega arith in
+flatten-rows (suc n) s = let e : 28 + 28 * n ≡ 28 * suc n = omega arith in
     ap (λ (t : List ℕ). take 28 s ++ t) (flatten-rows n (drop 28 s)) ∙ sym (take-add 28 (28 * n) s) ∙ ap (λ (k : ℕ). take k s) e
 
 abbrev pub Sized : List ℕ → Type 0
@@ -62,8 +60,7 @@ rows-sized (suc n) s h = all-more (length-take-le 28 s (omega arith)) (rows-size
 pub rows-back : {rs : List (List ℕ)} → All Sized rs → (t : List ℕ) → rowsIn (length rs) (flatten rs ++ t) ≡ rs
 unfolding rowsIn flatten
 rows-back all-none t = refl
-rows-back (all-more {x} {xs} p ps) t =
-    let joined = append-assoc x (flatten xs) t in
+rows-back (all-more {x} {xs} p ps) t = let joined = append-assoc x (flatten xs) t in
     ap₂ (λ (a : List ℕ) (b : List (List ℕ)). a ∷ b)
     (ap (take 28) joined ∙ take-at x (flatten xs ++ t) 28 p)
     (ap (λ (q : List ℕ). rowsIn (length xs) q) (ap (drop 28) joined ∙ drop-at x (flatten xs ++ t) 28 p) ∙ rows-back ps t)
@@ -104,8 +101,7 @@ module _ (number size : ℕ) (hash : List ℕ) where
   pub row-over : {s u : List ℕ} {low : ℕ} → low ≡ number % 2 ^ 32 → length hash ≡ 16 → length s ≡ 28
       → Stores s 0 (toLe 4 low ∷ toLe 8 size ∷ hash ∷ []) u → u ≡ row number size hash
   unfolding row flatten
-  row-over {s} {u} {low} e h k stores =
-      let r : List ℕ = row number size hash in
+  row-over {s} {u} {low} e h k stores = let r : List ℕ = row number size hash in
       let same : toLe 4 low ≡ toLe 4 number = ap (toLe 4) e ∙ to-mod 4 number in
       let n : length r ≡ 28 = length-row h in
       stores-flatten stores ∙ ap (λ (l : List ℕ). sets s 0 (l ++ (toLe 8 size ++ (hash ++ [])))) same

@@ -64,8 +64,7 @@ adds (v ∷ vs) {h} {room} i (all-more a more) d fits = by (last-distinct vs (v 
     by : Distinct (rowsOf (v ∷ h .volumes))
         → (Invariant (with-volumes h (v ∷ h .volumes)) (addOf room v .1) → heldLength (with-volumes h (v ∷ h .volumes)) + 28 * length vs ≤ length (addOf room v .1)
         → Added (with-volumes h (v ∷ h .volumes)) (addOf room v .1) vs) → Added h room (v ∷ vs)
-    by (distinct-more o e) rest =
-        let done = add-accepted i v a o (omega arith) in
+    by (distinct-more o e) rest = let done = add-accepted i v a o (omega arith) in
         let first = gives (addedBytes room v) room done (add-next i v done) (omega arith) in
         let m = rest (first .invariant) (omega (arith, first .length-kept)) in
         record { all-written = all-more (first .answer) (m .all-written); invariant = m .invariant }
@@ -79,8 +78,7 @@ pub afresh : {h : Held} → In h → (vs : List (List ℕ)) → List·Permᴰ vs
     → let cs : List Call = opening (h .file) ∷ map adding vs in
     All IsWritten (answers other cs) × (take (heldLength h) (roomAfter other cs) ≡ catalogOf h)
 unfolding answers roomAfter
-afresh {h} i vs p other fits =
-    let opened : List ℕ = openOf (h .file) other .1 in
+afresh {h} i vs p other fits = let opened : List ℕ = openOf (h .file) other .1 in
     let start = open-accepted i other (omega arith) in
     let first = gives (catalogBytes (entriesOf h) []) other start (open-next (h .file) other start) (omega arith) in
     let back : List·Permᴰ (reverse vs) (h .volumes) = List·Permᴰ·trans (Permᴰ·reverse vs) p in
@@ -95,8 +93,7 @@ afresh {h} i vs p other fits =
     )
 
 stands : {h : Held} {room : List ℕ} → Invariant h room → Stands h room
-stands {h} {room} i =
-    let bytes = first-bytes i in
+stands {h} {room} i = let bytes = first-bytes i in
     let back = read-back i in
     let file = file-rows (h .file) (i .inside .read) in
     record {

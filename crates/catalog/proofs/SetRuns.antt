@@ -79,13 +79,11 @@ module _ (codeAt : ℕ → Code) (program : ℕ) (small : program < 2 ^ 32) (fs 
       fewer false k h = h
 
   length-entries : (v : ℕ) → VolumeRight v fs → length (entriesIn (volume v)) ≡ length fs
-  length-entries v first =
-      let listed = set-listed fs (first .files-right) (omega (arith, first .length-right)) in
+  length-entries v first = let listed = set-listed fs (first .files-right) (omega (arith, first .length-right)) in
       ap length (entries-are v first ∙ ap (λ c. c .pieces) (listed .entries-are)) ∙ length-map fs (λ x. entryFor x)
 
 pub set-added : SetAdded
-set-added codeAt program v fs ws out small first rights once few fits =
-    let n = length-entries codeAt program small fs v first in
+set-added codeAt program v fs ws out small first rights once few fits = let n = length-entries codeAt program small fs v first in
     let vs : List (List ℕ) = map (volume codeAt program small fs) ws in
     let inside : In (record { file = volume codeAt program small fs v; volumes = vs }) = record {
       parts = _;

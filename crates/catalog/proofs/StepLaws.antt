@@ -66,8 +66,7 @@ open-next f out {n} {room} e =
     let w = unless-tells (openRefusal f (readOf f)) (catalogBytes (rowsFor (entriesIn f)) []) out e in made (newlyOpened f) (by (readOf f) refl (w .none)) w refl
   where
     by : (k : Reading) → readOf f ≡ k → openRefusal f k .number ≡ 0 → In (newlyOpened f)
-    by (reading.Accepted p) is z =
-        let passed = test-passed 26 (leb (length (entriesIn f)) maxEntries) 0 (omega arith) z in
+    by (reading.Accepted p) is z = let passed = test-passed 26 (leb (length (entriesIn f)) maxEntries) 0 (omega arith) z in
         record { parts = p; read = is; few = leb-true _ _ (passed .0); each = all-none; once = distinct-none }
     by (reading.Refused r) is z = absurd (refused-some f is z)
 
@@ -75,8 +74,7 @@ open-next f out {n} {room} e =
 pub open-accepted : {h : Held} → In h → (out : List ℕ) → heldLength (newlyOpened (h .file)) ≤ length out
     → openOf (h .file) out ≡ accepted (catalogBytes (entriesOf h) []) out
 unfolding openOf
-open-accepted {h} i out fits =
-    let f : List ℕ = h .file in
+open-accepted {h} i out fits = let f : List ℕ = h .file in
     let r = file-rows f (i .read) in
     let none : openRefusal f (readOf f) .number ≡ 0 =
     ap (λ (k : Reading). openRefusal f k .number) (i .read) ∙ simp (le-leb (length (entriesIn f)) maxEntries (i .few)) in
@@ -95,8 +93,7 @@ pub record AddPassed (b vol : List ℕ) : Type 0 where
 module _ (b vol : List ℕ) where
   pub add-passed : addNumber b vol ≡ 0 → AddPassed b vol
   unfolding addNumber
-  add-passed z =
-      let t₃₀ = test-passed 30 (isCatalog b) _ (omega arith) z in
+  add-passed z = let t₃₀ = test-passed 30 (isCatalog b) _ (omega arith) z in
       let t₁₀ = test-passed 10 (volumeInRange (volumeNumberOf vol) b) _ (omega arith) (t₃₀ .1) in
       let t₂₅ = test-passed 25 (equal (flatten (rowsFor (entriesIn vol))) (flatten (entryRows b))) _ (omega arith) (t₁₀ .1) in
       let t₂₆ = test-passed 26 (leb (length (entriesIn vol)) maxEntries) _ (omega arith) (t₂₅ .1) in
@@ -108,8 +105,7 @@ module _ (b vol : List ℕ) where
   passed-none a = simp (a .catalog, a .range, a .rows, a .few, a .new)
 
 pub rows-equal : {xs ys : List (List ℕ)} → All Sized xs → All Sized ys → flatten xs ≡ flatten ys → xs ≡ ys
-rows-equal {xs} {ys} a b e =
-    let n : length xs ≡ length ys = omega (arith, length-flatten a, length-flatten b, ap length e) in
+rows-equal {xs} {ys} a b e = let n : length xs ≡ length ys = omega (arith, length-flatten a, length-flatten b, ap length e) in
     sym (rows-back a []) ∙ ap₂ (λ (k : ℕ) (l : List ℕ). rowsIn k (l ++ [])) n e ∙ rows-back b []
 
 module _ {h : Held} {room : List ℕ} (i : Invariant h room) (vol : List ℕ) where
@@ -123,8 +119,7 @@ module _ {h : Held} {room : List ℕ} (i : Invariant h room) (vol : List ℕ) wh
   with-bytes = ap₂ (λ (x y : List (List ℕ)). catalogBytes x (insertRow (volumeRow vol) y)) (back .entries-are) (back .volumes-are)
 
   with-in : VolumeIn (entriesOf h) vol → holds (volumeNumberOf vol) (volumeRows room) ≡ false → In With
-  with-in v none =
-      let r = volume-row (entriesOf h) vol (v .read) (v .same) (v .low) in
+  with-in v none = let r = volume-row (entriesOf h) vol (v .read) (v .same) (v .low) in
       let rows : List (List ℕ) = rowsOf (h .volumes) in
       let new : holds (numberOf (volumeRow vol)) (sortRows rows) ≡ false =
       ap₂ (λ (k : ℕ) (l : List (List ℕ)). holds k l) (r .number-is) (sym (back .volumes-are)) ∙ none in
@@ -133,8 +128,7 @@ module _ {h : Held} {room : List ℕ} (i : Invariant h room) (vol : List ℕ) wh
       record { parts = j .parts; read = j .read; few = j .few; each = all-more v (j .each); once = distinct-more others (j .once) }
 
   volume-in : {p : Parts} → readOf vol ≡ reading.Accepted p → AddPassed room vol → VolumeIn (entriesOf h) vol
-  volume-in {p} read a =
-      let f = file-rows vol read in
+  volume-in {p} read a = let f = file-rows vol read in
       let r = in-rows h (i .inside) in
       let same : flatten (rowsFor (entriesIn vol)) ≡ flatten (entriesOf h) = equal-true _ _ (a .rows) ∙ ap flatten (back .entries-are) in
       let low = oneTo-inside (255 - length (savedRows (entryRows room))) (volumeNumberOf vol) (a .range) .0 in
@@ -142,8 +136,7 @@ module _ {h : Held} {room : List ℕ} (i : Invariant h room) (vol : List ℕ) wh
 
   pub add-next : {n : ℕ} {after : List ℕ} → addOf room vol ≡ (Written n, after) → Next With n after
   unfolding addOf
-  add-next {n} {after} e =
-      let w = unless-tells (addRefusal room vol (readOf vol)) (addedBytes room vol) room e in
+  add-next {n} {after} e = let w = unless-tells (addRefusal room vol (readOf vol)) (addedBytes room vol) room e in
       made With (by (readOf vol) refl (w .none)) w with-bytes
     where
       by : (k : Reading) → readOf vol ≡ k → addRefusal room vol k .number ≡ 0 → In With
@@ -154,8 +147,7 @@ module _ {h : Held} {room : List ℕ} (i : Invariant h room) (vol : List ℕ) wh
   pub add-accepted : VolumeIn (entriesOf h) vol → All (Other (numberOf (volumeRow vol))) (rowsOf (h .volumes)) → heldLength h + 28 ≤ length room
       → addOf room vol ≡ accepted (addedBytes room vol) room
   unfolding addOf
-  add-accepted v o fits =
-      let r = volume-row (entriesOf h) vol (v .read) (v .same) (v .low) in
+  add-accepted v o fits = let r = volume-row (entriesOf h) vol (v .read) (v .same) (v .low) in
       let rows : List (List ℕ) = rowsOf (h .volumes) in
       let f = file-rows vol (v .read) in
       let g = in-rows h (i .inside) in
@@ -183,20 +175,17 @@ module _ {h : Held} {room : List ℕ} (i : Invariant h room) (v : ℕ) where
   Without = record { file = h .file; volumes = keep (λ vol. not (eqb (volumeNumberOf vol) v)) (h .volumes) }
 
   remaining : removeRow v (rowsOf (h .volumes)) ≡ rowsOf (Without .volumes)
-  remaining =
-      let rows = each-row (entriesOf h) (i .inside .each) in
+  remaining = let rows = each-row (entriesOf h) (i .inside .each) in
       keep-map (λ r. not (eqb (numberOf r) v)) (λ vol. volumeRow vol) (h .volumes)
       ∙ ap rowsOf (keep-same (all-map (λ vol r. ap (λ (k : ℕ). not (eqb k v)) (r .number-is)) rows))
 
   without-bytes : droppedBytes room v ≡ catalogOf Without
-  without-bytes =
-      let b = read-back i in
+  without-bytes = let b = read-back i in
       ap₂ (λ (x y : List (List ℕ)). catalogBytes x (removeRow v y)) (b .entries-are) (b .volumes-are)
       ∙ ap (catalogBytes (entriesOf h)) (sort-remove v (i .inside .once) ∙ ap sortRows remaining)
 
   without-in : In Without
-  without-in =
-      let j = i .inside in
+  without-in = let j = i .inside in
       record {
         parts = j .parts;
         read = j .read;

@@ -40,8 +40,7 @@ module _ (f v : ℕ) (h : InRange f v) where
 
 pub cauchy-rule : CauchyRule
 unfolding cauchy
-cauchy-rule f v h =
-    let one = one-inverse (bitXor f (256 - v)) (sum-byte f v h) (sum-positive f v h) in
+cauchy-rule f v h = let one = one-inverse (bitXor f (256 - v)) (sum-byte f v h) (sum-positive f v h) in
     let is : cauchy f v ≡ inverse (bitXor f (256 - v)) = ap (λ (x : ℕ). inverse (bitXor f x)) (row-point f v h) in
     (ap (product (bitXor f (256 - v))) is ∙ one .1, λ c l e. one .2 c l e ∙ sym is)
 
@@ -75,6 +74,5 @@ inverse-by-power a h = elim (ℕ-discrete a 0) [
 
 pub cauchy-by-tables : (ps es : List ℕ) → ps ≡ powersOf2 → IsExponents es → (f v : ℕ) → f < 256 → cauchyBy ps es f v ≡ cauchy f v
 unfolding cauchyBy cauchy
-cauchy-by-tables ps es p t f v h =
-    let byte = xor-byte h (mod-lt (256 - v) (omega arith)) in
+cauchy-by-tables ps es p t f v h = let byte = xor-byte h (mod-lt (256 - v) (omega arith)) in
     power-by-tables ps es p t (bitXor f (rowPoint v)) 254 byte ∙ inverse-by-power (bitXor f (rowPoint v)) byte

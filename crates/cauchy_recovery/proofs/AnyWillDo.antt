@@ -42,8 +42,7 @@ module _ (t : State) (fits : t .n ≤ 254) (f : ℕ) (is-file : isFile (t .n) f 
   ]
 
   unrecovered : volumesPresent t < nonemptyMissing t → 1 ≤ t .size f → ¬ Recoverable cauchy t f
-  unrecovered few l r =
-      let k = kernel t fits few (f - 1) (in-column l) in
+  unrecovered few l r = let k = kernel t fits few (f - 1) (in-column l) in
       kernel-unrecoverable cauchy cauchy-byte t fits (f - 1) below (is-column l) (k .0) (k .1) (subst (Recoverable cauchy t) as-suc r)
 
 pub any-will-do : AnyWillDo

@@ -183,8 +183,7 @@ module _ {F : Type 0} (K : Field F) where
 
               go : ((k : ℕ) × (k < n) × (b k ≡ true)) ⊎ ((k : ℕ) → k < n → ¬ (b k ≡ true)) → x i ≡ 𝟘
               go (inr none) = off i (not-eq-not .0 (none i l))
-              go (inl (a, k, in-a)) =
-                  let same = counts-one (r m) e in
+              go (inl (a, k, in-a)) = let same = counts-one (r m) e in
                   let less = size-remove n b a k in-a in
                   all b h x off m e zero-m a k in-a
                   (earlier (remove a b) (apart-fewer X Y b r a h) (omega arith) (without b h x off m e zero-m a k in-a)

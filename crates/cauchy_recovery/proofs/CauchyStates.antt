@@ -109,8 +109,7 @@ module _ (t : State) (fits : t .n ≤ 254) where
 
   entry-coef : (s i : ℕ) → inColumn i ≡ true → entry s i ≡ R.coef cauchy cauchy-byte t fits i s
   unfolding cauchy rowByte toByte
-  entry-coef s i e =
-      let l = column-inside i e in
+  entry-coef s i e = let l = column-inside i e in
       byte-eq (entry s i) (R.coef cauchy cauchy-byte t fits i s)
       (ap (λ (x : ℕ). inverse (bitXor x (rowPoint (suc s)))) (column-value i e)
       ∙ sym (R.coef-value cauchy cauchy-byte t fits i s (omega arith)))
@@ -123,8 +122,7 @@ module _ (t : State) (fits : t .n ≤ 254) where
   module _ (enough : nonemptyMissing t ≤ volumesPresent t) (f : ℕ) (in-f : inColumn f ≡ true) where
     no-kernel-vector : (x : ℕ → Byte) → IsKernelVector K matrix 256 (255 - t .n) f x → ⊥
     unfolding mask
-    no-kernel-vector x k =
-        let l = column-inside f in-f in
+    no-kernel-vector x k = let l = column-inside f in-f in
         k .asked
         (sym (ap (λ (b : Bool). mask b (x f)) in-f)
         ∙ no-kernel K columnByte rowByte 256 isRow 256 inColumn points-apart (omega (arith, columns-size, rows-size)) masked
@@ -180,8 +178,7 @@ module _ (t : State) (fits : t .n ≤ 254) where
             (sym (ap (λ (b : Bool). b && t .volumes (suc s)) (oneTo-in (255 - t .n) (suc s) (omega arith) l)) ∙ e)))
 
         at-column : (g : ℕ) → inColumn g ≡ true → sum K 256 (λ s. masked s ⊗ turned g s) ≡ δ K f g
-        at-column g q =
-            let l = column-inside g q in
+        at-column g q = let l = column-inside g q in
             S.sum-first K (255 - t .n) 256 (λ s. masked s ⊗ turned g s) (omega arith)
             (λ s m _.
             ap (λ (y : Byte). y ⊗ turned g s)
@@ -195,8 +192,7 @@ module _ (t : State) (fits : t .n ≤ 254) where
         other g e z = true≢false (sym e ∙ ap (remove f inColumn) (sym z) ∙ remove-here inColumn f)
 
         none : (s : ℕ) → s < 256 → masked s ≡ 𝟘
-        none =
-            let l = column-inside f in-f in
+        none = let l = column-inside f in-f in
             no-kernel K rowByte columnByte 256 (remove f inColumn) 256 isRow
             (apart-turned K columnByte rowByte (remove f inColumn) isRow (apart-fewer K columnByte rowByte inColumn isRow f points-apart))
             (omega (arith, columns-size, rows-size, size-remove 256 inColumn f (omega arith) in-f)) masked off

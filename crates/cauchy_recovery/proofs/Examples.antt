@@ -77,8 +77,7 @@ beside-p10 = record {
 
 some-run : (cs : List Call) → (s : Inventory) × Reached 1 (1 ∷ []) cs s
 unfolding openStep
-some-run cs =
-    let (rs, s, run) = answered (openStep Cauchy 1 (1 ∷ []) .next) cs in
+some-run cs = let (rs, s, run) = answered (openStep Cauchy 1 (1 ∷ []) .next) cs in
     (s, record { accepted = refl; replies = rs; run = run })
 
 few-volumes : volumesPresent (stateAfter 1 (1 ∷ []) []) < nonemptyMissing (stateAfter 1 (1 ∷ []) [])

@@ -87,8 +87,7 @@ module _ (n : ℕ) (fits : n ≤ 254) (files volumes : ℕ → Bool)
 
   each : (w : ℕ → Byte) (s g : ℕ) → inColumn g ≡ true → (b : Bool) → volumes (suc s) ≡ b
       → (w s ⊗ matrix t fits s g) .0 ≡ cond b (product (w s .0) (cauchy (suc g) (suc s))) 0
-  each w s g h true e =
-      let l = oneTo-inside n (suc g) (and-both (isFile n (suc g)) (column t (suc g)) h .0) in
+  each w s g h true e = let l = oneTo-inside n (suc g) (and-both (isFile n (suc g)) (column t (suc g)) h .0) in
       ap (λ (x : Byte). (w s ⊗ x) .0) (R.matrix-present cauchy cauchy-byte t fits s g e h)
       ∙ ap (product (w s .0)) (R.coef-value cauchy cauchy-byte t fits g s (omega arith))
   each w s g h false e = ap (λ (x : Byte). (w s ⊗ x) .0) (R.matrix-absent cauchy cauchy-byte t fits s g e) ∙ product-zero-r (w s .0)
@@ -98,8 +97,7 @@ module _ (n : ℕ) (fits : n ≤ 254) (files volumes : ℕ → Bool)
   unfolding left byVolume
   left-sums zero g p q a b = absurd (false≢true p)
   left-sums (suc f) zero p q a b = absurd (false≢true a)
-  left-sums (suc f) (suc g) p q a b =
-      let l = oneTo-inside n (suc g) a in
+  left-sums (suc f) (suc g) p q a b = let l = oneTo-inside n (suc g) a in
       sumBelow-same (255 - n) (λ s. cond (volumes (suc s)) (product (left (suc f) (suc s)) (cauchy (suc g) (suc s))) 0)
       (λ s. (w s ⊗ matrix t fits s g) .0) (λ s _. sym (each w s g (in-columns g a b) (volumes (suc s)) refl))
       ∙ sym (sum-value (255 - n) (λ s. w s ⊗ matrix t fits s g))

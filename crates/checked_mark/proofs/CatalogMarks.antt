@@ -100,8 +100,7 @@ hash-parts x y h front r e = rw e (simp append-assoc)
 
 added-parts : (b : List ℕ) (n m : ℕ) (h k : List ℕ)
     → Parts (catalogBytes (entryRows b) (insertRow (row n m h) (volumeRows b))) (catalogBytes (entryRows b) (insertRow (row n m k) (volumeRows b))) h k
-added-parts b n m h k =
-    let i = inserted (row n m h) (row n m k) (volumeRows b) (row-number n m h ∙ sym (row-number n m k)) in
+added-parts b n m h k = let i = inserted (row n m h) (row n m k) (volumeRows b) (row-number n m h ∙ sym (row-number n m k)) in
     let es : List (List ℕ) = entryRows b in
     let x : List ℕ = catalogHead (length es) (length (i .earlier) + suc (length (i .later))) ++ (flatten es ++ flatten (i .earlier)) in
     record {
@@ -199,8 +198,7 @@ module _ {f g : List ℕ} (a : AlikeButMarks f g) where
             ⊎ ((writtenUnless (addRefusal b g (readOf g)) (addedBytes b f) b .1 ≡ addedBytes b f ++ past) × (addOf b g .1 ≡ addedBytes b g ++ past))
             → Alike
         by (inl e) = inl (ap (λ w. w .1) one-is ∙ e)
-        by (inr e) =
-            let one : addOf b f .1 ≡ addedBytes b f ++ past = ap (λ w. w .1) one-is ∙ e .0 in
+        by (inr e) = let one : addOf b f .1 ≡ addedBytes b f ++ past = ap (λ w. w .1) one-is ∙ e .0 in
             inr (rw (one, e .1) (parts-room bytes-alike past h k))
 
     refused-alike : {r : Refusal} → readOf f ≡ reading.Refused r → Alike
@@ -217,7 +215,6 @@ module _ {f g : List ℕ} (a : AlikeButMarks f g) where
     rooms-alike = by (readOf f) refl
       where
         by : (r : Reading) → readOf f ≡ r → Alike
-        by (reading.Accepted p) e =
-            let low = read-tells f p e .tests .header .size .low in
+        by (reading.Accepted p) e = let low = read-tells f p e .tests .header .size .low in
             accepted-alike (simp (length-take, length-drop) (omega arith)) (simp (length-take, length-drop) (omega (arith, a .length-same)))
         by (reading.Refused r) e = refused-alike e

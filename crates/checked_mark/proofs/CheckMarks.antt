@@ -51,8 +51,7 @@ module _ (e : List ℕ) (fills : entrySize e ≡ length e) where
       by false b c p q r = simp p (item-broken e (breaks-size (size-is p)))
       by true false c p q r = simp (p, q) (item-broken e (breaks-file-size (size-is p) (file-size-is q)))
       by true true false p q r = simp (p, q, r) (item-broken e (breaks-name (size-is p) (file-size-is q) (name-is r)))
-      by true true true p q r =
-          let low = sized (length e) (length e) p .low in
+      by true true true p q r = let low = sized (length e) (length e) p .low in
           simp (p, q, r)
           (ap (λ (i : Item). itemNumber i) (first-entry e (omega arith) refl (size-is p) (file-size-is q) (name-is r)))
 
@@ -66,8 +65,7 @@ module _ {e g : List ℕ} (a : EntryAlike e g) where
     where
       by : (b : Bool) → eqb (entrySize g) (length g) ≡ b → test 16 b (itemNumber (firstOf e)) ≡ test 16 b (itemNumber (firstOf g))
       by false p = refl
-      by true p =
-          let fills : entrySize g ≡ length g = eqb-true (entrySize g) (length g) p in
+      by true p = let fills : entrySize g ≡ length g = eqb-true (entrySize g) (length g) p in
           lone-number e (entry-size a ∙ fills ∙ sym (a .length-same)) ∙ number-same ∙ sym (lone-number g fills)
 
   described-same : (m : List ℕ) → isDescribed e m ≡ isDescribed g m

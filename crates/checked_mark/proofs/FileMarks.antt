@@ -92,8 +92,7 @@ module _ {f g : List ℕ} (a : AlikeButMarks f g) where
   list-same set (walked.Refused r) = refl
 
   parts-same : (saved : ℕ) → partsFrom f saved ≡ partsFrom g saved
-  parts-same saved =
-      let list-size : listSizeOf f ≡ listSizeOf g = later 8 40 (omega arith) in
+  parts-same saved = let list-size : listSizeOf f ≡ listSizeOf g = later 8 40 (omega arith) in
       let data-start : dataStartOf f ≡ dataStartOf g = later 8 48 (omega arith) in
       simp (first 4 8 (omega arith), first 4 12 (omega arith), later 8 16 (omega arith), later 8 24 (omega arith), list-size, data-start, data-size)
 

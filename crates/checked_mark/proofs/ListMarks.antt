@@ -40,8 +40,7 @@ module _ {e : List ℕ} (z : SizeRight e) (s : List ℕ) where
   own-size = leAt-append 8 e s 0 (omega (arith, low)) ∙ z .fills
 
   size-allowed : entrySizeAllowed (length e) (length (e ++ s)) ≡ true
-  size-allowed =
-      let n = sized (length e) (length e) (z .size-right) in
+  size-allowed = let n = sized (length e) (length e) (z .size-right) in
       let total : length (e ++ s) ≡ length e + length s = length-append e s in
       sized-right (length e) (length (e ++ s)) (n .even) (n .low) (omega arith)
 
@@ -61,8 +60,7 @@ module _ {e : List ℕ} (z : SizeRight e) (s : List ℕ) where
   front-item = first-some (e ++ s) front-some ∙ simp (front-fault, own-size, size-allowed, take-append-seam e s)
 
   front-taken : bodyAllowed e ≡ true → entriesOf (e ++ s) ≡ before e (entriesOf s)
-  front-taken right =
-      let n : lengthOf (e ++ s) ≡ length e = front-length ∙ simp right in
+  front-taken right = let n : lengthOf (e ++ s) ≡ length e = front-length ∙ simp right in
       cut-more lengthOf (e ++ s) front-some (omega (arith, low))
       ∙ ap (λ (k : ℕ). before (take k (e ++ s)) (entriesOf (drop k (e ++ s)))) n
       ∙ ap₂ (λ (p q : List ℕ). before p (entriesOf q)) (take-append-seam e s) (drop-append-seam e s)
@@ -96,15 +94,13 @@ module _ {e g s t : List ℕ} (z : SizeRight e) (a : EntryAlike e g) (others : W
       ∙ sym (stopped n (g ++ t) (front-some other t))
 
   more-alike : (b : Bool) → bodyAllowed e ≡ b → bodyAllowed g ≡ b → WalkedAlike (e ++ s) (g ++ t)
-  more-alike true p q =
-      let one = front-taken z s p in
+  more-alike true p q = let one = front-taken z s p in
       let two = front-taken other t q in
       record {
         entries-alike = rw (one, two) (pairs-more a (others .entries-alike));
         stopped-same = λ n. rw (one, two) (others .stopped-same n);
       }
-  more-alike false p q =
-      let one = front-left z s p in
+  more-alike false p q = let one = front-left z s p in
       let two = front-left other t q in
       record { entries-alike = rw (one, two) pairs-none; stopped-same = λ n. rw (one, two) (left-same n) }
 
@@ -114,8 +110,7 @@ walked-alike (entry-more {e} z a l) = more-alike z a (walked-alike l) (bodyAllow
 
 pub walk-same : {s t : List ℕ} → ListsAlike s t → walkOf s ≡ walkOf t
 unfolding walkOf
-walk-same {s} {t} l =
-    let w = walked-alike l in
+walk-same {s} {t} l = let w = walked-alike l in
     ap (λ (n : Totals). walkedTo n (entriesOf s .rest)) (totals-same (w .entries-alike)) ∙ w .stopped-same (totalsOf (entriesOf t .pieces))
 
 pub first-alike : FirstAlike

@@ -44,8 +44,7 @@ use Rattle.checked_mark.proofs.VolumeMarks.{volume-alike}
 -- ---- an entry
 
 entry-sized : {x : File} → FileBack x → SizeRight (entryFor x)
-entry-sized {x} b =
-    let e : List ℕ = entryFor x in
+entry-sized {x} b = let e : List ℕ = entryFor x in
     let i = is-entry (sym (b .first-is [])) in
     record {
       fills = lone-tells e (b .lone-is) .fills;

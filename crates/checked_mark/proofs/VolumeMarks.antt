@@ -72,8 +72,7 @@ module _ (code : Code) (program number : ℕ) (list area : List ℕ) where
 
 module _ (code : Code) (program number : ℕ) (area : List ℕ) {s t : List ℕ} (l : ListsAlike s t) where
   header-same : header code program number s area ≡ header code program number t area
-  header-same =
-      let es = walked-alike l .entries-alike in
+  header-same = let es = walked-alike l .entries-alike in
       ap₂ (λ (n k : ℕ). setHash (entriesOf s .pieces) ++ numberBytes number n k (length area)) (count-same es) (lists-length l)
       ∙ ap (λ (h : List ℕ). h ++ numberBytes number (length (entriesOf t .pieces)) (length t) (length area)) (set-hash-same es)
 
@@ -86,8 +85,7 @@ module _ (code : Code) (program number : ℕ) (area : List ℕ) {s t : List ℕ}
 
   pub volume-alike : program < 2 ^ 32 → number < 2 ^ 64 → ListPassed number s (length area)
       → AlikeButMarks (volumeBytes code program number s area) (volumeBytes code program number t area)
-  volume-alike p v passed =
-      let one = volume-back code program number s area p v passed in
+  volume-alike p v passed = let one = volume-back code program number s area p v passed in
       let two = volume-back code program number t area p v (passed-alike passed) in
       let right = read-tells (volumeBytes code program number s area) _ (one .read-is) .tests .control-is in
       let other = read-tells (volumeBytes code program number t area) _ (two .read-is) .tests .control-is in
@@ -114,8 +112,7 @@ module _ (code : Code) (program number : ℕ) (area out : List ℕ) {s t : List 
 
   answers-same : one .0 ≡ two .0
   unfolding writeVolumeOf
-  answers-same =
-      let n = lists-length l in
+  answers-same = let n = lists-length l in
       let sizes : length (volumeBytes code program number s area) ≡ length (volumeBytes code program number t area) =
       length-volume code program number s area ∙ ap (λ (n : ℕ). 96 + n + length area) n ∙ sym (length-volume code program number t area) in
       answer-same (walkRefusal number (walkOf s) (length s) (length area)) (volumeBytes code program number s area) (volumeBytes code program number t area) out sizes
@@ -123,8 +120,7 @@ module _ (code : Code) (program number : ℕ) (area out : List ℕ) {s t : List 
 
   files-alike : program < 2 ^ 32 → number < 2 ^ 64 → (n : ℕ) → one .0 ≡ Written n → AlikeButMarks (take n (one .1)) (take n (two .1))
   unfolding writeVolumeOf
-  files-alike p v n e =
-      let told : one ≡ (Written n, one .1) = ap (λ (w : Writing). (w, one .1)) e in
+  files-alike p v n e = let told : one ≡ (Written n, one .1) = ap (λ (w : Writing). (w, one .1)) e in
       let other : two ≡ (Written n, two .1) = ap (λ (w : Writing). (w, two .1)) (sym answers-same ∙ e) in
       let none = unless-tells (walkRefusal number (walkOf s) (length s) (length area)) (volumeBytes code program number s area) out told .none in
       rw (volume-written code program number s area out n (one .1) told, volume-written code program number t area out n (two .1) other)

@@ -39,8 +39,7 @@ pub oneTo-in : (m k : ℕ) → 1 ≤ k → k ≤ m → oneTo m k ≡ true
 oneTo-in m k h l = ap₂ (λ (a b : Bool). a && b) (le-leb 1 k h) (le-leb k m l)
 
 pub oneTo-inside : (m k : ℕ) → oneTo m k ≡ true → (1 ≤ k) × (k ≤ m)
-oneTo-inside m k e =
-    let both = and-both (leb 1 k) (leb k m) e in
+oneTo-inside m k e = let both = and-both (leb 1 k) (leb k m) e in
     (leb-true 1 k (both .0), leb-true k m (both .1))
 
 pub oneTo-outside : (m k : ℕ) → (1 ≤ k → k ≤ m → ⊥) → oneTo m k ≡ false

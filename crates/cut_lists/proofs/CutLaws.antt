@@ -54,8 +54,7 @@ cut-stop f (b ∷ s) e = simp e
 pub cut-more : (f : List ℕ → ℕ) (s : List ℕ) → 0 < length s → 0 < f s → cut f s ≡ before (take (f s) s) (cut f (drop (f s) s))
 unfolding cut cutIn
 cut-more f [] h k = absurd (omega arith)
-cut-more f (b ∷ s) h k =
-    let t : List ℕ = drop (f (b ∷ s)) (b ∷ s) in
+cut-more f (b ∷ s) h k = let t : List ℕ = drop (f (b ∷ s)) (b ∷ s) in
     let h : length t ≤ length s = omega (arith, length-drop (f (b ∷ s)) (b ∷ s)) in
     ifZero-pos (f (b ∷ s)) _ _ k
     ∙ ap (before (take (f (b ∷ s)) (b ∷ s))) (enough f (length s) (length t) t h (le-refl (length t)))
@@ -79,8 +78,7 @@ module _ (f : List ℕ → ℕ) (P : List ℕ → Cut → Type 0)
     where
       by : (f (b ∷ s) ≡ 0) ⊎ (0 < f (b ∷ s)) → ((t : List ℕ) → length t ≤ n → P t (cut f t)) → P (b ∷ s) (cut f (b ∷ s))
       by (inl e) r = subst (P (b ∷ s)) (sym (cut-stop f (b ∷ s) e)) (at-stop (b ∷ s) e)
-      by (inr k) r =
-          let t : List ℕ = drop (f (b ∷ s)) (b ∷ s) in
+      by (inr k) r = let t : List ℕ = drop (f (b ∷ s)) (b ∷ s) in
           subst (P (b ∷ s)) (sym (cut-more f (b ∷ s) (omega arith) k))
           (at-more (b ∷ s) (omega arith) k (r t (omega (arith, length-drop (f (b ∷ s)) (b ∷ s)))))
 

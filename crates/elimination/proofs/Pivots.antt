@@ -27,8 +27,7 @@ pub record IsPivot (w : ℕ) (y : ℕ → ℕ) (owners : List ℕ) (k : ℕ) : T
 
 -- the test of a column without an owner in which a row is not 0
 passed : (o x : ℕ) → (eqb o 0 && not (eqb x 0)) ≡ true → (o ≡ 0) × (x ≢ 0)
-passed o x e =
-    let both = and-both (eqb o 0) (not (eqb x 0)) e in
+passed o x e = let both = and-both (eqb o 0) (not (eqb x 0)) e in
     (eqb-true o 0 (both .0), eqb-false x 0 (not-true (eqb x 0) (both .1)))
 
 failed : (o x : ℕ) → (eqb o 0 && not (eqb x 0)) ≡ false → o ≡ 0 → x ≡ 0
@@ -49,8 +48,7 @@ module _ (w : ℕ) (y : ℕ → ℕ) (owners : List ℕ) where
       }
 
   not-before : (k l : ℕ) → IsPivot w y owners k → IsPivot w y owners l → k < l → ⊥
-  not-before k l P Q b =
-      let h = Q .within in
+  not-before k l P Q b = let h = Q .within in
       let found = P .found (omega arith) in
       found .1 (Q .before k b (found .0))
 
@@ -77,7 +75,6 @@ module _ (m owners : List ℕ) (f : ℕ) where
 
   pub pivot-some : isSolvable m owners f ≡ false → (k : ℕ) × (k < 256) × IsPivot 256 (entry m f) owners k
   unfolding isSolvable
-  pivot-some e =
-      let b = P .within in
+  pivot-some e = let b = P .within in
       let q : pivotOf (entry m f) owners ≢ 256 = eqb-false _ 256 e in
       (pivotOf (entry m f) owners, omega arith, P)

@@ -71,8 +71,7 @@ withDiagonal-off (suc n) m i j hn hj h =
     ∙ withDiagonal-off n m i j (omega arith) hj (λ e. let b : suc n ≤ i = h e in omega arith)
   where
     other : i * 256 + j ≢ n * 256 + n
-    other e =
-        let p : i ≡ n = omega arith in
+    other e = let p : i ≡ n = omega arith in
         let q : i ≡ j = omega arith in
         let b : suc n ≤ i = h q in
         omega arith
@@ -159,8 +158,7 @@ module _ (A : ℕ → ℕ → Byte) (m owners : List ℕ) (t : ℕ) (R : Reduced
 
       swept-value : (i j : ℕ) → i < 256 → j < 256 → entry (taken .0) i j ≡ sweptByte i j .0
       unfolding columnTaken swept sweptEntry sweptByte
-      swept-value i j li lj =
-          let row : (i * 256 + j) / 256 ≡ i = omega arith in
+      swept-value i j li lj = let row : (i * 256 + j) / 256 ≡ i = omega arith in
           let column : (i * 256 + j) % 256 ≡ j = omega arith in
           listBelow-at 65536 _ (i * 256 + j) (omega arith)
           ∙ ap₂ (sweptEntry (λ j. bitXor (rowProduct u m j) (cond (eqb k j) 1 0)) k (inverse (rowProduct u m k)) m) row column

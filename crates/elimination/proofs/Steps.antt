@@ -78,8 +78,7 @@ module _ (a b : ℕ) (xs ys : List ℕ) (ha : a ≤ b) (hb : b ≤ length xs) (h
       ∙ ap (λ (zs : List ℕ). getD zs p 0) (take-put a (b - a) xs ys (omega arith)) ∙ getD-take a xs p 0 l
 
   put-after : (p : ℕ) → b ≤ p → getD (putMid a (b - a) xs ys) p 0 ≡ getD xs p 0
-  put-after p l =
-      let e : p ≡ b + (p - b) = omega arith in
+  put-after p l = let e : p ≡ b + (p - b) = omega arith in
       ap (λ (i : ℕ). getD (putMid a (b - a) xs ys) i 0) e ∙ sym (getD-drop b (putMid a (b - a) xs ys) (p - b) 0)
       ∙ ap (λ (zs : List ℕ). getD zs (p - b) 0) (drop-put a b xs ys ha hb hy)
       ∙ getD-drop b xs (p - b) 0 ∙ ap (λ (i : ℕ). getD xs i 0) (sym e)

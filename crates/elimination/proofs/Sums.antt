@@ -125,8 +125,7 @@ module _ {F : Type 0} (K : Field F) where
 
   -- terms past n that are 0 may be left out
   pub sum-first : (n m : ℕ) (g : ℕ → F) → n ≤ m → ((i : ℕ) → n ≤ i → i < m → g i ≡ 𝟘) → sum K m g ≡ sum K n g
-  sum-first n m g l h =
-      let e : m ≡ n + (m - n) = omega arith in
+  sum-first n m g l h = let e : m ≡ n + (m - n) = omega arith in
       ap (λ (k : ℕ). sum K k g) e ∙ sum-split n (m - n) g
       ∙ ap (λ (x : F). sum K n g ⊕ x) (sum-none (m - n) (λ j. g (n + j)) (λ j b. h (n + j) (omega arith) (omega arith)))
       ∙ add-zero (sum K n g)

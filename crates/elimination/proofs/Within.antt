@@ -52,8 +52,7 @@ sum-first w (suc n) f l h =
 module _ (w : ℕ) (hw : w ≤ 256) (u m : List ℕ) (A : Apart w m) (Z : KeepsTo w u) where
   product-within : (j : ℕ) → rowProduct u m j ≡ rowProductWithin w u m j
   unfolding rowProduct rowProductWithin
-  product-within j =
-      let term : ℕ → ℕ = λ (i : ℕ). product (getD u i 0) (entry m i j) in
+  product-within j = let term : ℕ → ℕ = λ (i : ℕ). product (getD u i 0) (entry m i j) in
       sum-first w 256 term hw (λ i l b. ap (λ (x : ℕ). product x (entry m i j)) (Z i l b) ∙ product-zero-l (entry m i j))
 
   product-past : (j : ℕ) → w ≤ j → j < 256 → rowProduct u m j ≡ 0
@@ -141,8 +140,7 @@ module _ (w : ℕ) (hw : w ≤ 256) (u m : List ℕ) (A : Apart w m) (Z : KeepsT
       }
         where
           at : (i j : ℕ) → i < 256 → j < 256 → (i < w → j < w → ⊥) → entry (swept y k scale m) i j ≡ entry m i j
-          at i j li lj q =
-              let row : (i * 256 + j) / 256 ≡ i = omega arith in
+          at i j li lj q = let row : (i * 256 + j) / 256 ≡ i = omega arith in
               let column : (i * 256 + j) % 256 ≡ j = omega arith in
               listBelow-at 65536 _ (i * 256 + j) (omega arith) ∙ ap₂ (sweptEntry y k scale m) row column ∙ stays scale i j li lj q
 

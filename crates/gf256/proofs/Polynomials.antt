@@ -43,8 +43,7 @@ coeff-at c k h = ap (λ (x : ℕ). x % 2) (shl-shr c k) ∙ mod-eq-of-lt h
 
 coeff-under : (c k i : ℕ) → i < k → coeff (c * 2 ^ k) i ≡ 0
 unfolding coeff
-coeff-under c k i h =
-    let d = k - suc i in
+coeff-under c k i h = let d = k - suc i in
     let e : k ≡ suc d + i = omega arith in
     ap (λ (n : ℕ). c * 2 ^ n / 2 ^ i % 2) e
     ∙ ap (λ (x : ℕ). x / 2 ^ i % 2) (ap (λ (x : ℕ). c * x) (pow-add 2 (suc d) i) ∙ sym (mul-assoc c (2 ^ suc d) (2 ^ i)))

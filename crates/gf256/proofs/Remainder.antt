@@ -34,8 +34,7 @@ of-multiple c k h = record {
 }
 
 of-sum : {p q r s : ℕ} → IsRemainder p r → IsRemainder q s → IsRemainder (bitXor p q) (bitXor r s)
-of-sum {p} {q} {r} {s} x y =
-    let n = x .width + y .width in
+of-sum {p} {q} {r} {s} x y = let n = x .width + y .width in
     let left : x .width ≤ n = le-add-right (x .width) (y .width) in
     let right : y .width ≤ n = le-add-left (y .width) (x .width) in
     record {
@@ -66,23 +65,20 @@ multiple-top c k h =
 -- one step of the division takes off the coefficient of X^(k + 8), and so lowers the degree
 taken-off : (k p : ℕ) → p < 2 ^ (suc k + 8) → bitXor p (coeff p (k + 8) * (285 * 2 ^ k)) / 2 ^ (k + 8) ≡ 0
 unfolding coeff
-taken-off k p h =
-    let c = coeff p (k + 8) in
+taken-off k p h = let c = coeff p (k + 8) in
     let bit : p / 2 ^ (k + 8) < 2 = shr-lt 1 (k + 8) (subst (λ (n : ℕ). p < 2 ^ n) (omega arith) h) in
     xor-shr p (c * (285 * 2 ^ k)) (k + 8)
     ∙ ap₂ bitXor (sym (mod-eq-of-lt bit)) (multiple-top c k (coeff-bit p (k + 8))) ∙ xor-self c
 
 lowered : (k p : ℕ) → p < 2 ^ (suc k + 8) → bitXor p (coeff p (k + 8) * (285 * 2 ^ k)) < 2 ^ (k + 8)
-lowered k p h =
-    let lower = bitXor p (coeff p (k + 8) * (285 * 2 ^ k)) in
+lowered k p h = let lower = bitXor p (coeff p (k + 8) * (285 * 2 ^ k)) in
     subst (λ (n : ℕ). lower < n) (one-mul (2 ^ (k + 8)))
     (div-lt-iff-lt-mul (pow-pos (k + 8)) .0 (subst (λ (x : ℕ). x < 1) (sym (taken-off k p h)) (zero-lt-suc 0)))
 
 remainder-is : (n p : ℕ) → p < 2 ^ (n + 8) → IsRemainder p (remainder n p)
 unfolding remainder
 remainder-is zero p h = of-byte p h
-remainder-is (suc k) p h =
-    let c = coeff p (k + 8) in
+remainder-is (suc k) p h = let c = coeff p (k + 8) in
     let m = c * (285 * 2 ^ k) in
     let r = remainder k (bitXor p m) in
     subst (λ (x : ℕ). IsRemainder x r) (ap (bitXor m) (xor-comm p m) ∙ xor-twice m p)
@@ -93,8 +89,7 @@ remainder-is (suc k) p h =
 -- a multiple of 285 of degree below 8 is 0: the highest term of the quotient would show at X^8 or above
 no-term : (k q : ℕ) → polyProduct (suc k) 285 q < 256 → coeff q k ≡ 0
 unfolding polyProduct sumBelow
-no-term k q h =
-    let p = polyProduct k 285 q in
+no-term k q h = let p = polyProduct k 285 q in
     let c = coeff q k in
     let room : 256 ≤ 2 ^ (k + 8) = pow-mono (le-add-left 8 k) in
     sym (ap₂ bitXor (div-eq-of-lt (polyProduct-lt k 8 285 q (lit< tt))) (multiple-top c k (coeff-bit q k)))
@@ -103,16 +98,14 @@ no-term k q h =
 small-multiple : (n q : ℕ) → polyProduct n 285 q < 256 → polyProduct n 285 q ≡ 0
 unfolding polyProduct sumBelow
 small-multiple zero q h = refl
-small-multiple (suc k) q h =
-    let p = polyProduct k 285 q in
+small-multiple (suc k) q h = let p = polyProduct k 285 q in
     let m = 285 * 2 ^ k in
     let none : coeff q k * m ≡ 0 = ap (λ (c : ℕ). c * m) (no-term k q h) ∙ zero-mul m in
     let same : bitXor p (coeff q k * m) ≡ p = ap (bitXor p) none ∙ xor-zero-r p in
     same ∙ small-multiple k q (subst (λ (x : ℕ). x < 256) same h)
 
 of-zero : (r : ℕ) → IsRemainder 0 r → r ≡ 0
-of-zero r x =
-    let multiple = polyProduct (x .width) 285 (x .quotient) in
+of-zero r x = let multiple = polyProduct (x .width) 285 (x .quotient) in
     let e : multiple ≡ r = xor-equal multiple r (sym (x .divided)) in
     sym e ∙ small-multiple (x .width) (x .quotient) (subst (λ (y : ℕ). y < 256) (sym e) (x .byte))
 
@@ -123,6 +116,5 @@ remainder-only p r s x y = xor-equal r s (of-zero (bitXor r s) (subst (λ (z : �
 
 pub product-is-remainder : ProductIsRemainder
 unfolding product
-product-is-remainder a b ha hb =
-    let is = remainder-is 7 (polyProduct 8 a b) (polyProduct-lt 8 7 a b ha) in
+product-is-remainder a b ha hb = let is = remainder-is 7 (polyProduct 8 a b) (polyProduct-lt 8 7 a b ha) in
     (is, λ r x. remainder-only (polyProduct 8 a b) r (product a b) x is)

@@ -26,8 +26,7 @@ use Rattle.gf256.proofs.Powers.{power-byte, power-one, power-two, power
 -- ---- squares
 
 square-xor : (a b : ℕ) → a < 256 → b < 256 → product (bitXor a b) (bitXor a b) ≡ bitXor (product a a) (product b b)
-square-xor a b ha hb =
-    let s = product a a in
+square-xor a b ha hb = let s = product a a in
     let m = product a b in
     let t = product b b in
     product-xor-l a b (bitXor a b)

@@ -44,8 +44,7 @@ doubles ps = eqb (getD ps 0 0) 1 && allBelow 262 (doublesAt ps)
 powers-at : (ps : List ℕ) → doubles ps ≡ true → (i : ℕ) → i < 263 → getD ps i 0 ≡ power 2 i
 unfolding power doublesAt
 powers-at ps t zero h = eqb-true (getD ps 0 0) 1 (and-both (eqb (getD ps 0 0) 1) (allBelow 262 (doublesAt ps)) t .0)
-powers-at ps t (suc i) h =
-    let all = and-both (eqb (getD ps 0 0) 1) (allBelow 262 (doublesAt ps)) t .1 in
+powers-at ps t (suc i) h = let all = and-both (eqb (getD ps 0 0) 1) (allBelow 262 (doublesAt ps)) t .1 in
     eqb-true (getD ps (suc i) 0) (product 2 (getD ps i 0)) (all-at 262 (doublesAt ps) all i (omega arith))
     ∙ ap (product 2) (powers-at ps t i (omega arith))
 
@@ -75,8 +74,7 @@ record Entry (es : List ℕ) (x : ℕ) : Type 0 where
 
 entry-of : (es : List ℕ) (x : ℕ) → countsAt es x ≡ true → Entry es x
 unfolding countsAt
-entry-of es x t =
-    let e = getD es x 0 in
+entry-of es x t = let e = getD es x 0 in
     let first = and-both (ltb e 255) (leb x (1 + 255 * e) && eqb (getD es (product 2 x) 0) ((e + 1) % 255)) t in
     let second = and-both (leb x (1 + 255 * e)) (eqb (getD es (product 2 x) 0) ((e + 1) % 255)) (first .1) in
     record {
@@ -87,8 +85,7 @@ entry-of es x t =
 
 module _ (es : List ℕ) (t : counts es ≡ true) where
   parts : (getD es 0 0 ≡ 255) × (allBelow 255 (λ x. countsAt es (suc x)) ≡ true)
-  parts =
-      let both = and-both (eqb (getD es 0 0) 255) (allBelow 255 (λ x. countsAt es (suc x))) t in
+  parts = let both = and-both (eqb (getD es 0 0) 255) (allBelow 255 (λ x. countsAt es (suc x))) t in
       (eqb-true (getD es 0 0) 255 (both .0), both .1)
 
   entry-at : (x : ℕ) → 0 < x → x < 256 → Entry es x
@@ -99,8 +96,7 @@ module _ (es : List ℕ) (t : counts es ≡ true) where
   raised : (k x : ℕ) → 0 < x → x < 256 → getD es (product (power 2 k) x) 0 ≡ (getD es x 0 + k) % 255
   unfolding power
   raised zero x pos h = let e = entry-at x pos h .below in ap (λ (y : ℕ). getD es y 0) (product-one-l x h) ∙ omega arith
-  raised (suc k) x pos h =
-      let p = power 2 k in
+  raised (suc k) x pos h = let p = power 2 k in
       let hp : p < 256 = power-byte 2 k (lit< tt) in
       let next = product p x in
       let up = entry-at next (product-positive p x hp h (power-positive 2 k (lit< tt) (lit< tt)) pos) (product-byte p x hp h) .doubled in
@@ -108,8 +104,7 @@ module _ (es : List ℕ) (t : counts es ≡ true) where
 
   -- the exponent gives its byte: with as many more as there are up to 255 it comes to 1
   gives : (x : ℕ) → 0 < x → x < 256 → power 2 (getD es x 0) ≡ x
-  gives x pos h =
-      let e = getD es x 0 in
+  gives x pos h = let e = getD es x 0 in
       let l : e < 255 = entry-at x pos h .below in
       let k = 255 - e in
       let pe : power 2 e < 256 = power-byte 2 e (lit< tt) in
@@ -143,8 +138,7 @@ unfolding noneOne power
 none-one zero x k h t l e = not-suc-le-zero l
 none-one (suc n) x zero h t l e =
     eqb-false x 1 (not-true (eqb x 1) (and-both (not (eqb x 1)) (noneOne n (product 2 x)) t .0)) (sym (product-one-l x h) ∙ e)
-none-one (suc n) x (suc k) h t l e =
-    let two : 2 < 256 = lit< tt in
+none-one (suc n) x (suc k) h t l e = let two : 2 < 256 = lit< tt in
     let p : power 2 k < 256 = power-byte 2 k two in
     none-one n (product 2 x) k (product-byte 2 x two h) (and-both (not (eqb x 1)) (noneOne n (product 2 x)) t .1) (omega arith)
     (sym (product-assoc (power 2 k) 2 x p two h) ∙ ap (λ (y : ℕ). product y x) (product-comm (power 2 k) 2 p two) ∙ e)
@@ -160,8 +154,7 @@ twice d = refl
 
 -- below 255 a power of 2 has one exponent
 not-before : (i j : ℕ) → i < j → j < 255 → power 2 i ≢ power 2 j
-not-before i j l h e =
-    let two : 2 < 256 = lit< tt in
+not-before i j l h e = let two : 2 < 256 = lit< tt in
     let d = j - i - 1 in
     let split : i + suc d ≡ j = omega arith in
     let x = power 2 i in
@@ -175,8 +168,7 @@ not-before i j l h e =
     none-one 254 2 d two powers-not-one (omega arith) (product-comm (power 2 d) 2 (power-byte 2 d two) two ∙ twice d ∙ one)
 
 one-exponent : (i j : ℕ) → i < 255 → j < 255 → power 2 i ≡ power 2 j → i ≡ j
-one-exponent i j hi hj e =
-    let up : i < j → ⊥ = λ l. not-before i j l hj e in
+one-exponent i j hi hj e = let up : i < j → ⊥ = λ l. not-before i j l hj e in
     let down : j < i → ⊥ = λ l. not-before j i l hi (sym e) in
     omega (arith, up, down)
 
@@ -185,16 +177,14 @@ one-table es es′ t t′ = ext-getD 0 es es′ (t .full ∙ sym (t′ .full)) (
   where
     at : (x : ℕ) → x < 256 → getD es x 0 ≡ getD es′ x 0
     at zero l = t .of-zero ∙ sym (t′ .of-zero)
-    at (suc x) l =
-        let pos : 0 < suc x = omega arith in
+    at (suc x) l = let pos : 0 < suc x = omega arith in
         one-exponent (getD es (suc x) 0) (getD es′ (suc x) 0) (t .below (suc x) pos l) (t′ .below (suc x) pos l)
         (t .gives (suc x) pos l ∙ sym (t′ .gives (suc x) pos l))
 
 -- ---- products and powers
 
 power-reduced : (n : ℕ) → power 2 (n % 255) ≡ power 2 n
-power-reduced n =
-    let two : 2 < 256 = lit< tt in
+power-reduced n = let two : 2 < 256 = lit< tt in
     let rest : power 2 (n % 255) < 256 = power-byte 2 (n % 255) two in
     sym
     (ap (power 2) (sym (div-add-mod' n 255) ∙ ap (λ (m : ℕ). m + n % 255) (mul-comm (n / 255) 255)) ∙ power-add 2 (255 * (n / 255)) (n % 255) two
@@ -238,8 +228,7 @@ module _ (ps es : List ℕ) (p : ps ≡ powersOf2) (t : IsExponents es) where
 
   pub eight-by-tables : (a : ℕ) → 0 < a → a < 256 → (i : ℕ) → i < 8 → getD (eightFrom ps (getD es a 0)) i 0 ≡ product a (2 ^ i)
   unfolding eightFrom
-  eight-by-tables a pos h i l =
-      let e = getD es a 0 in
+  eight-by-tables a pos h i l = let e = getD es a 0 in
       let below = t .below a pos h in
       listBelow-at 8 _ i l ∙ power-at (e + i) (omega arith) ∙ power-add 2 e i (lit< tt) ∙ ap₂ product (t .gives a pos h) (low-powers i l)
 

@@ -87,8 +87,7 @@ same-parts p q r t u v = cc
 
 pub loaded-back : LoadedBack
 unfolding inventoryBytes numbersAt
-loaded-back s h =
-    let n : List ℕ = s .n ∷ [] in
+loaded-back s h = let n : List ℕ = s .n ∷ [] in
     let k : List ℕ = codeNumber (s .code) ∷ [] in
     let ns = part-back 0 1 [] n (s .files ++ s .volumes ++ s .nonempty ++ s .quarantined ++ k) refl refl refl (one-number (s .n) (h .small)) in
     let fs =

@@ -14,8 +14,7 @@ use Rattle.little_endian.proofs.NumberLists.{length-numbers, numbers-append}
 
 -- one list of numbers over all of some bytes
 numbers-whole : (s ns : List ℕ) {t : List ℕ} → length s ≡ 8 * length ns → t ≡ sets s 0 (numbers ns) → t ≡ numbers ns
-numbers-whole s ns size e =
-    let all : length (numbers ns) ≡ length s = omega (arith, length-numbers ns) in
+numbers-whole s ns size e = let all : length (numbers ns) ≡ length s = omega (arith, length-numbers ns) in
     e ∙ sets-over s (numbers ns) (omega arith)
     ∙ ap (λ (l : List ℕ). numbers ns ++ l) (drop-of-length-le s {i = length (numbers ns)} (omega arith)) ∙ append-nil (numbers ns)
 
@@ -24,8 +23,7 @@ pub inventory-whole : (s : List ℕ) (n : ℕ) (a b c d : List ℕ) (o : ℕ) {t
     → t ≡ sets s 0 (numbers (n ∷ [])) → u ≡ sets t 8 (numbers a) → v ≡ sets u 40 (numbers b) → w ≡ sets v 72 (numbers c)
     → x ≡ sets w 104 (numbers d) → y ≡ sets x 136 (numbers (o ∷ [])) → y ≡ numbers (n ∷ a ++ b ++ c ++ d ++ (o ∷ []))
 unfolding flatten
-inventory-whole s n a b c d o {y = y} size i j k l e f g h m p =
-    let one : List ℕ = n ∷ [] in
+inventory-whole s n a b c d o {y = y} size i j k l e f g h m p = let one : List ℕ = n ∷ [] in
     let last : List ℕ = o ∷ [] in
     let all : length s ≡ 8 * length (one ++ a ++ b ++ c ++ d ++ last) = simp length-append (omega arith) in
     let parts : Stores s 0 (numbers one ∷ numbers a ∷ numbers b ∷ numbers c ∷ numbers d ∷ numbers last ∷ []) y =

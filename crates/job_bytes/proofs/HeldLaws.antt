@@ -54,8 +54,7 @@ unfolding start
 start-fits = record { a-fits = omega arith; b-fits = omega arith; c-fits = omega arith; d-fits = omega arith }
 
 state-held : (w : Words) (m : List ℕ) (n : ℕ) → WordsFit w → HeldMd5 (stateAfter w m n)
-state-held w m n h =
-    let k = blocks-fit (length m / 64) w m h in
+state-held w m n h = let k = blocks-fit (length m / 64) w m h in
     let zeros : length (replicate {A = ℕ} (64 - length (rest m)) 0) ≡ 64 - length (rest m) = length-replicate {A = ℕ} (64 - length (rest m)) 0 in
     record {
       a-fits = k .a-fits;
@@ -100,8 +99,7 @@ entry-greatest false g n h k = h
 -- an entry that ends has a size that is allowed
 whole-size : (head : List ℕ) (at : ℕ) (named : NameSoFar) → isWhole head at named ≡ true → fileSizeOf head ≤ 16777216
 unfolding isWhole
-whole-size head at named e =
-    let one = and-both (eqb (entrySize head) at) _ e in
+whole-size head at named e = let one = and-both (eqb (entrySize head) at) _ e in
     let two = and-both (entrySizeAllowed at at) _ (one .1) in
     leb-true _ _ (and-both (fileSizeAllowed (fileSizeOf head)) _ (two .1) .0)
 
@@ -141,8 +139,7 @@ kept-scan [] sc h k = k
 kept-scan (b ∷ l) sc h k = kept-scan l (stepOf sc b) (λ p. h (suc p)) (kept-step sc b (h 0) k)
 
 scan-held : (l : List ℕ) → Bytes l → length l < 2 ^ 58 → HeldScan (scanned scanStart l)
-scan-held l h few =
-    let k = kept-scan l scanStart h kept-start in
+scan-held l h few = let k = kept-scan l scanStart h kept-start in
     let c = counted l few in
     record {
       head-size = k .head-size;
@@ -158,8 +155,7 @@ scan-held l h few =
 
 pub held-after : (m : List ℕ) → Bytes m → length m ≤ cap → HeldRead (jobAfter m)
 unfolding jobAfter
-held-after m h few =
-    let small = cap-small in
+held-after m h few = let small = cap-small in
     let listed = length-list m in
     record {
       total-fits = omega arith;

@@ -57,15 +57,13 @@ Goes a m b = b ≡ mulAddBytes (mulAddFrom (a .weight) (positionOf (length m)))
 
 -- the bytes of a job that goes on are that job
 going : (a : MulAddStart) (m b : List ℕ) → Goes a m b → (isMulAdd b ≡ true) × (mulAddOf b ≡ mulAddFrom (a .weight) (positionOf (length m)))
-going a m b g =
-    let back = loaded-back (a .weight) (positionOf (length m)) (a .byte) (omega arith) in
+going a m b g = let back = loaded-back (a .weight) (positionOf (length m)) (a .byte) (omega arith) in
     (ap isMulAdd g ∙ back .0, ap mulAddOf g ∙ back .1)
 
 pushed-going : (a : MulAddStart) (m b fragment buffer : List ℕ) → length buffer < lendLimit → Goes a m b
     → mulAddPushed b fragment buffer
     ≡ (0, mulAddBytes (mulAddFrom (a .weight) (positionOf (length (m ++ fragment)))), mulAddAt (a .weight) (length m) fragment buffer)
-pushed-going a m b fragment buffer h g =
-    let job = going a m b g in
+pushed-going a m b fragment buffer h g = let job = going a m b g in
     pushed-on-job b (job .0) (job .1) fragment buffer (sym (goes-on (a .weight) m fragment buffer h refl))
 
 ended-going : (a : MulAddStart) (m b : List ℕ) → Goes a m b
@@ -78,15 +76,13 @@ started-whole a = stored-accepted (startMulAdd (a .weight)) (a .room) (a .whole)
 -- ---- 20 where bytes are no job, and nowhere else
 
 push-taken : (b : List ℕ) (p : Push) → isMulAdd b ≡ true → mulAddByteSteps .pushes b p .0 .0 ≡ 20 → ⊥
-push-taken b p is e =
-    let s = mulAddFrom (leAt 8 b 0) (leAt 8 b 8) in
+push-taken b p is e = let s = mulAddFrom (leAt 8 b 0) (leAt 8 b 8) in
     let taken = ap (λ (r : ℕ × List ℕ × List ℕ). r .0)
     (pushed-on-job b is (loaded-going b is) (p .fragment) (p .buffer) (push-going s (p .fragment) (p .buffer) refl refl refl)) in
     omega arith
 
 end-taken : (b : List ℕ) (u : Unit {0}) → isMulAdd b ≡ true → mulAddEnded b .0 ≡ 20 → ⊥
-end-taken b u is e =
-    let s = mulAddFrom (leAt 8 b 0) (leAt 8 b 8) in
+end-taken b u is e = let s = mulAddFrom (leAt 8 b 0) (leAt 8 b 8) in
     let taken = ap (λ (r : ℕ × List ℕ). r .0) (ended-on-job b is (loaded-going b is) (end-going s refl)) in
     omega arith
 
@@ -122,8 +118,7 @@ after-pushes : (a : MulAddStart) (ps : List Push)
 after-pushes a ps = pushes-follow mulAddByteSteps mulAddByteWhole Goes isMulAdd follows a [] (mulAddByteSteps .starts a .1) ps (follows .started a .1)
 
 given : (b : List ℕ) → Bytes b → isMulAdd b ≡ true → Given mulAddByteSteps mulAddByteWhole (λ b. b) b
-given b h is =
-    let t = tests b is in
+given b h is = let t = tests b is in
     let n : ℕ = leAt 8 b 8 in
     let a : MulAddStart = record { weight = leAt 8 b 0; byte = omega (arith, t .light); room = b; whole = t .size } in
     let at : positionOf (length (flatten (map (mulAddByteWhole .chunk) (replicate n one)))) ≡ n =
@@ -147,8 +142,7 @@ mul-add-bytes-20 = exactly-20 mulAddByteSteps mulAddByteWhole Goes isMulAdd foll
 same-pushes : (w p : ℕ) → w < 256 → p < 2 ^ 64 → (cs : List (List ℕ)) (buffer : List ℕ)
     → mulAddPushedInto (mulAddBytes (mulAddFrom w p)) cs buffer ≡ pushedInto (mulAddFrom w p) cs buffer
 same-pushes w p hw hp [] buffer = refl
-same-pushes w p hw hp (c ∷ cs) buffer =
-    let back = loaded-back w p hw hp in
+same-pushes w p hw hp (c ∷ cs) buffer = let back = loaded-back w p hw hp in
     let pushed = push-going (mulAddFrom w p) c buffer refl refl refl in
     ap (λ (r : ℕ × List ℕ × List ℕ). mulAddPushedInto (r .1) cs (r .2))
     (pushed-on-job (mulAddBytes (mulAddFrom w p)) (back .0) (back .1) c buffer pushed)

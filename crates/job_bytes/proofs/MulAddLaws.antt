@@ -40,8 +40,7 @@ module _ (b : List ℕ) where
 
   pub tests : isMulAdd b ≡ true → Tests b
   unfolding isMulAdd
-  tests e =
-      let both = and-both (eqb (length b) 24 && leb (leAt 8 b 0) 255) (eqb (leAt 8 b 16) 0) e in
+  tests e = let both = and-both (eqb (length b) 24 && leb (leAt 8 b 0) 255) (eqb (leAt 8 b 16) 0) e in
       let first = and-both (eqb (length b) 24) (leb (leAt 8 b 0) 255) (both .0) in
       record {
         size = eqb-true (length b) 24 (first .0);
@@ -90,8 +89,7 @@ numbers-of w p k hw hp hk =
 module _ (w p : ℕ) (hw : w < 256) (hp : p < 2 ^ 64) where
   pub loaded-back : (isMulAdd (mulAddBytes (mulAddFrom w p)) ≡ true) × (mulAddOf (mulAddBytes (mulAddFrom w p)) ≡ mulAddFrom w p)
   unfolding mulAddBytes numbersAt
-  loaded-back =
-      let b : List ℕ = numbers (w ∷ p ∷ 0 ∷ []) in
+  loaded-back = let b : List ℕ = numbers (w ∷ p ∷ 0 ∷ []) in
       let three = numbers-of w p 0 (omega arith) hp (omega arith) in
       let first : leAt 8 b 0 ≡ w = ap (λ (l : List ℕ). getD l 0 0) three in
       let second : leAt 8 b 8 ≡ p = ap (λ (l : List ℕ). getD l 1 0) three in
@@ -101,15 +99,13 @@ module _ (w p : ℕ) (hw : w < 256) (hp : p < 2 ^ 64) where
 
   pub loaded-ended : isMulAdd (mulAddBytes (record { weight = w; position = p; ended = true })) ≡ false
   unfolding mulAddBytes numbersAt
-  loaded-ended =
-      let b : List ℕ = numbers (w ∷ p ∷ 1 ∷ []) in
+  loaded-ended = let b : List ℕ = numbers (w ∷ p ∷ 1 ∷ []) in
       let third : leAt 8 b 16 ≡ 1 = ap (λ (l : List ℕ). getD l 2 0) (numbers-of w p 1 (omega arith) hp (omega arith)) in
       marked b (λ e. omega arith)
 
 pub stored-back : (b : List ℕ) → Bytes b → isMulAdd b ≡ true → mulAddBytes (mulAddFrom (leAt 8 b 0) (leAt 8 b 8)) ≡ b
 unfolding mulAddBytes numbersAt
-stored-back b h is =
-    let t = tests b is in
+stored-back b h is = let t = tests b is in
     ap (λ (k : ℕ). numbers (leAt 8 b 0 ∷ leAt 8 b 8 ∷ k ∷ [])) (sym (t .unmarked))
     ∙ numbers-read 3 b 0 h (omega (arith, t .size)) ∙ take-all 24 b (omega (arith, t .size))
 
@@ -117,8 +113,7 @@ stored-back b h is =
 
 pub stored-accepted : (s : RunningMulAdd) (b : List ℕ) → length b ≡ 24 → mulAddStored (accepted s) b ≡ (0, mulAddBytes s)
 unfolding mulAddStored
-stored-accepted s b size =
-    let t : List ℕ = mulAddBytes s in
+stored-accepted s b size = let t : List ℕ = mulAddBytes s in
     let whole = length-mul-add s in
     let all : t ++ drop (length t) b ≡ t = ap (λ (l : List ℕ). t ++ l) (drop-of-length-le b {i = length t} (omega arith)) ∙ append-nil t in
     sym (numbered-as refl (unless-none t b {n = bare 0} refl refl (written-fits t b (omega arith) refl (sym all))))

@@ -75,8 +75,7 @@ module _ {f : List ℕ} {i : ℕ} {ps : List (List ℕ)} where
 module _ (f : List ℕ) (i : ℕ) where
   words-back : {ps : List (List ℕ)} (w : Words) → w .a < 2 ^ 32 → w .b < 2 ^ 32 → w .c < 2 ^ 32 → w .d < 2 ^ 32 → At f i (wordsBytes w ∷ ps) → wordsAt f i ≡ w
   unfolding wordsBytes
-  words-back w a b c d at =
-      let one = at-open (toLe 4 (w .a) ∷ toLe 4 (w .b) ∷ toLe 4 (w .c) ∷ toLe 4 (w .d) ∷ []) at in
+  words-back w a b c d at = let one = at-open (toLe 4 (w .a) ∷ toLe 4 (w .b) ∷ toLe 4 (w .c) ∷ toLe 4 (w .d) ∷ []) at in
       let two = past 4 (w .a) (i + 4) refl one in
       let three = past 4 (w .b) (i + 8) (omega arith) two in
       let four = past 4 (w .c) (i + 12) (omega arith) three in
@@ -86,8 +85,7 @@ module _ (f : List ℕ) (i : ℕ) where
 
   md5-back : {ps : List (List ℕ)} (h : Md5) → HeldMd5 h → At f i (md5Bytes h ∷ ps) → md5At f i ≡ h
   unfolding md5Bytes
-  md5-back h k at =
-      let one = at-open (wordsBytes (h .words) ∷ h .tail ∷ toLe 8 (h .total) ∷ []) at in
+  md5-back h k at = let one = at-open (wordsBytes (h .words) ∷ h .tail ∷ toLe 8 (h .total) ∷ []) at in
       let two = at-on 16 (i + 16) (length-words (h .words)) refl one in
       let three = at-on 64 (i + 80) (k .tail-size) (omega arith) two in
       sym
@@ -98,8 +96,7 @@ module _ (f : List ℕ) (i : ℕ) where
 
 scan-back : (f : List ℕ) {ps : List (List ℕ)} (sc : Scan) → HeldScan sc → At f 192 (scanBytes sc ∷ ps) → scanIn f ≡ sc
 unfolding scanBytes numbers flatten
-scan-back f sc k at =
-    let t : Totals = sc .totals in
+scan-back f sc k at = let t : Totals = sc .totals in
     let six : List (List ℕ) =
     toLe 8 (sc .at) ∷ toLe 8 (sc .low) ∷ toLe 8 (nameMark (sc .named)) ∷ toLe 8 (t .entries) ∷ toLe 8 (t .saved) ∷ toLe 8 (t .greatest) ∷ [] in
     let first = at-open (sc .head ∷ flatten six ∷ md5Bytes (sc .hash) ∷ []) at in
@@ -119,8 +116,7 @@ scan-back f sc k at =
 
 read-back : (f : List ℕ) (j : RunningRead) → HeldRead j → f ≡ readJobBytes j → readJobIn f ≡ j
 unfolding readJobBytes
-read-back f j h e =
-    let z = sized j h in
+read-back f j h e = let z = sized j h in
     let parts : List (List ℕ) = toLe 8 (j .total) ∷ j .header ∷ md5Bytes (j .control) ∷ scanBytes (j .list) ∷ toLe 8 (markOf (j .ended)) ∷ [] in
     let one : At f 0 parts = record { joined = e } in
     let two = past 8 (j .total) 8 refl one in

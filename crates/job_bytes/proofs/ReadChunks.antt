@@ -97,8 +97,7 @@ pub ended-within : (b out : List ℕ) → (readEnded b out .0 .number < 32) × (
 ended-within b out = by (opened b) refl
   where
     by : (t : Bool) → opened b ≡ t → (readEnded b out .0 .number < 32) × (readEnded b out .0 .place < 2 ^ 59)
-    by true o =
-        let j : RunningRead = readJobOf b in
+    by true o = let j : RunningRead = readJobOf b in
         let few : j .list .totals .entries ≤ cap = open-few j o in
         let w = reading-within j out in
         rw (ap (λ (q : Ended). readInto (q .reading) out .0) (end-open j o))
@@ -126,14 +125,12 @@ module _ (m : List ℕ) (are : Bytes m) where
   -- it may be over
   over-held : HeldRead (overOf (jobAfter (take cap m)))
   unfolding overOf
-  over-held =
-      let h = held in
+  over-held = let h = held in
       record { total-fits = h .total-fits; header-size = h .header-size; control-held = h .control-held; list-held = h .list-held }
 
   ended-after : (out : List ℕ) → readEnded (bytesAfter m) out
       ≡ (readInto (readOf m) out .0, readJobBytes (overOf (jobAfter (take cap m))), readInto (readOf m) out .1)
-  ended-after out =
-      let j : RunningRead = jobAfter (take cap m) in
+  ended-after out = let j : RunningRead = jobAfter (take cap m) in
       let r : Refusal = readInto (readOf m) out .0 in
       let same : readingOf j ≡ readOf m = after-end (take cap m) (take-most cap m) ∙ read-cap m in
       let most : r .number ≤ 19 = subst (λ (q : Reading). readInto q out .0 .number ≤ 19) same (reading-within j out .number-most) in
@@ -146,8 +143,7 @@ module _ (m : List ℕ) (are : Bytes m) where
 
   -- and then is refused
   over-after : opened (readJobBytes (overOf (jobAfter (take cap m)))) ≡ false
-  over-after =
-      let j : RunningRead = jobAfter (take cap m) in
+  over-after = let j : RunningRead = jobAfter (take cap m) in
       ap (λ (k : RunningRead). isOpen (countsOf k)) (read-loaded-back (overOf j) over-held) ∙ over-shut j
 
 pushed-after : (m bs : List ℕ) → Bytes m → Bytes bs → readPushed (bytesAfter m) bs ≡ (0, bytesAfter (m ++ bs))
@@ -203,8 +199,7 @@ after-pushes a ps =
 
 given : (b : List ℕ) → opened b ≡ true → Given readByteSteps readByteWhole (λ b. counts (readJobOf b)) b
 unfolding flatten
-given b o =
-    let g = open-reached (readJobOf b) o in
+given b o = let g = open-reached (readJobOf b) o in
     let m : List ℕ = g .0 in
     let few : length m < lendLimit = omega (arith, g .1 .short, cap-small) in
     let a : ReadStart = record { room = replicate 392 0; whole = length-replicate {A = ℕ} 392 0 } in

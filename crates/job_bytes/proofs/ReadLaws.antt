@@ -44,8 +44,7 @@ sets-whole s p h =
     sets-over s p (omega arith) ∙ ap (λ (l : List ℕ). p ++ l) (drop-of-length-le s {i = length p} (omega arith)) ∙ append-nil p
 
 pub copied : (n i : ℕ) (b : List ℕ) {p t : List ℕ} → i + n ≤ length b → p ≡ take n (drop i b) → t ≡ sets (replicate n 0) 0 p → t ≡ take n (drop i b)
-copied n i b {p} {t} h e f =
-    let part : List ℕ = take n (drop i b) in
+copied n i b {p} {t} h e f = let part : List ℕ = take n (drop i b) in
     let size : length part ≡ n = length-take-le n (drop i b) (omega (arith, length-drop i b)) in
     f ∙ ap (sets (replicate n 0) 0) e ∙ sets-whole (replicate n 0) part (size ∙ sym (length-replicate {A = ℕ} n 0))
 
@@ -137,8 +136,7 @@ read-none b h = simp (ne-eqb (length b) 392 h)
 
 pub stored-accepted : (j : RunningRead) (b : List ℕ) → Sized j → length b ≡ 392 → readStored 0 j b ≡ (0, readJobBytes j)
 unfolding readStored
-stored-accepted j b z size =
-    let t : List ℕ = readJobBytes j in
+stored-accepted j b z size = let t : List ℕ = readJobBytes j in
     let whole = length-read j z in
     let all : t ++ drop (length t) b ≡ t = ap (λ (l : List ℕ). t ++ l) (drop-of-length-le b {i = length t} (omega arith)) ∙ append-nil t in
     sym (numbered-as refl (unless-none t b {n = bare 0} refl refl (written-fits t b (omega arith) refl (sym all))))
@@ -195,8 +193,7 @@ module _ (b : List ℕ) {j : RunningRead} where
 
   pub ended-by : (out : List ℕ) {q : Ended} {n m : ℕ} {r : Refusal} {room after : List ℕ} → j ≡ readJobOf b → q ≡ endAnswer j
       → (r, room) ≡ readInto (q .reading) out → n ≡ jobNumber (r .number) → (m, after) ≡ readStored n (q .next) b → (r, after, room) ≡ readEnded b out
-  ended-by out {q} e f g h i =
-      let refusal = ap (λ (p : Refusal × List ℕ). p .0) g in
+  ended-by out {q} e f g h i = let refusal = ap (λ (p : Refusal × List ℕ). p .0) g in
       let room = ap (λ (p : Refusal × List ℕ). p .1) g in
       let number = h ∙ ap (λ (r : Refusal). jobNumber (r .number)) refusal in
       let after = ap (λ (p : ℕ × List ℕ). p .1) i ∙ ap (λ (k : ℕ). readStored k (q .next) b .1) number in

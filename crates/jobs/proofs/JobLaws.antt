@@ -53,14 +53,12 @@ module _ {S A P E R : Type 0} (k : Steps S A P E R) (w : Whole A P E R) (Goes : 
   answers-follow x s at [] = refl
   answers-follow x s at (start a ∷ cs) =
       ap₂ (λ (r : R) (rs : List R). r ∷ rs) (f .started a .0) (answers-follow (going a []) (k .starts a .1) (f .started a .1) cs)
-  answers-follow (going a m) s at (push p ∷ cs) =
-      let q = f .pushed a m s p at in
+  answers-follow (going a m) s at (push p ∷ cs) = let q = f .pushed a m s p at in
       ap₂ (λ (r : R) (rs : List R). r ∷ rs) (q .0) (answers-follow (going a (m ++ w .chunk p)) (k .pushes s p .1) (q .1) cs)
   answers-follow over s at (push p ∷ cs) =
       ap (λ (q : R × S). q .0 ∷ answers k (q .1) cs) (f .push-refused s p at)
       ∙ ap (λ (rs : List R). w .refused-push p ∷ rs) (answers-follow over s at cs)
-  answers-follow (going a m) s at (end e ∷ cs) =
-      let q = f .ended a m s e at in
+  answers-follow (going a m) s at (end e ∷ cs) = let q = f .ended a m s e at in
       ap₂ (λ (r : R) (rs : List R). r ∷ rs) (q .0) (answers-follow over (k .ends s e .1) (q .1) cs)
   answers-follow over s at (end e ∷ cs) =
       ap (λ (q : R × S). q .0 ∷ answers k (q .1) cs) (f .end-refused s e at)

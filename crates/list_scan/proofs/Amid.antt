@@ -97,8 +97,7 @@ test-is {hd} {p} h = by (entrySizeAllowed (length p) (length p)) refl
   where
     by : (t : Bool) → entrySizeAllowed (length p) (length p) ≡ t → isWhole hd (length p) (soFar (nameOf p)) ≡ whole p
     by false t = simp (t, and-false)
-    by true t =
-        let z = sized (length p) (length p) t in
+    by true t = let z = sized (length p) (length p) t in
         let past : 56 ≤ length p = omega (arith, z .low) in
         let size : leAt 8 hd 0 ≡ leAt 8 p 0 = number-at 0 h past (omega arith) in
         let file-size : leAt 8 hd 16 ≡ leAt 8 p 16 = number-at 16 h past (omega arith) in
@@ -160,8 +159,7 @@ module _ {t : Totals} {h : Md5} {p : List ℕ} {sc : Scan} (m : Amid t h p sc) (
   pub step-whole : whole (snoc p b) ≡ true
       → Amid (addEntry t (statusOf (snoc p b)) (fileSizeOf (snoc p b))) (hashEntry h (statusOf (snoc p b)) (md5Of (snoc p b))) [] (stepOf sc b)
   unfolding entryEnded eachUnit unitsOf
-  step-whole e =
-      let q : List ℕ = snoc p b in
+  step-whole e = let q : List ℕ = snoc p b in
       let past : 56 ≤ length q = omega (arith, sized (length q) (length q) (whole-keeps e .size-right) .low) in
       let status : statusOf after ≡ statusOf q = number-at 8 next-head past (omega arith) in
       let size : fileSizeOf after ≡ fileSizeOf q = number-at 16 next-head past (omega arith) in
@@ -190,8 +188,7 @@ fault-long p h = rw (number-take 8 0 56 p (omega arith)) (by (entrySizeAllowed (
         → cond t (cond (fileSizeAllowed (fileSizeOf (take 56 p))) Name FileSize) Size
         ≡ cond t (cond (fileSizeAllowed (fileSizeOf (take (entrySize p) p))) Name FileSize) Size
     by false t = refl
-    by true t =
-        let low = sized (entrySize p) (length p) t .low in
+    by true t = let low = sized (entrySize p) (length p) t .low in
         let e : fileSizeOf (take 56 p) ≡ fileSizeOf (take (entrySize p) p) =
         number-take 8 16 56 p (omega arith) ∙ sym (number-take 8 16 (entrySize p) p (omega (arith, low))) in
         ap (λ (k : ℕ). cond (fileSizeAllowed k) Name FileSize) e

@@ -38,8 +38,7 @@ saved-more false saved entries h = omega arith
 
 counted-step : (sc : Scan) (b n : ℕ) → Counted sc n → n < 2 ^ 58 → Counted (stepOf sc b) (n + 1)
 unfolding stepOf entryEnded addEntry
-counted-step sc b n k small =
-    let head : List ℕ = set (sc .head) (sc .at) b in
+counted-step sc b n k small = let head : List ℕ = set (sc .head) (sc .at) b in
     let saved : Bool = isSaved (statusOf head) in
     let size : length head ≡ 56 = length-set (sc .head) (sc .at) b ∙ k .head-size in
     let md5-size : length (md5Of head) ≡ 16 = length-take-le 16 (drop 24 head) (omega (arith, length-drop 24 head)) in
@@ -56,8 +55,7 @@ counted-step sc b n k small =
 counted-scan : (l : List ℕ) (sc : Scan) (n : ℕ) → Counted sc n → n + length l < 2 ^ 58 → Counted (scanned sc l) (n + length l)
 unfolding scanned
 counted-scan [] sc n k small = subst (Counted sc) (let e : n ≡ n + 0 = omega arith in e) k
-counted-scan (b ∷ l) sc n k small =
-    let e : n + 1 + length l ≡ n + suc (length l) = omega arith in
+counted-scan (b ∷ l) sc n k small = let e : n + 1 + length l ≡ n + suc (length l) = omega arith in
     subst (Counted _) e (counted-scan l (stepOf sc b) (n + 1) (counted-step sc b n k (omega arith)) (omega arith))
 
 counted-start : Counted scanStart 0
@@ -66,6 +64,5 @@ counted-start = record { head-size = refl; saved-most = omega arith; hash-total 
 
 -- a list of 2^58 bytes or more may have so many saved entries that the count of the bytes hashed begins again
 pub counted : (l : List ℕ) → length l < 2 ^ 58 → Counted (scanned scanStart l) (length l)
-counted l small =
-    let e : 0 + length l ≡ length l = omega arith in
+counted l small = let e : 0 + length l ≡ length l = omega arith in
     subst (Counted _) e (counted-scan l scanStart 0 counted-start (omega arith))

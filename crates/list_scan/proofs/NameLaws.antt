@@ -44,8 +44,7 @@ last-drop (suc k) d e (a ∷ s) h = last-drop k d a s (omega arith)
 pub last-at : (d : ℕ) (s : List ℕ) → 0 < length s → getD s (length s - 1) 0 ≡ lastOr d s
 last-at d [] h = absurd (omega arith)
 last-at d (a ∷ []) h = refl
-last-at d (a ∷ b ∷ s) h =
-    let n : length (a ∷ b ∷ s) - 1 ≡ suc (length (b ∷ s) - 1) = omega arith in
+last-at d (a ∷ b ∷ s) h = let n : length (a ∷ b ∷ s) - 1 ≡ suc (length (b ∷ s) - 1) = omega arith in
     ap (λ (k : ℕ). getD (a ∷ b ∷ s) k 0) n ∙ last-at a (b ∷ s) (omega arith)
 
 -- ---- a byte
@@ -87,8 +86,7 @@ module _ (f : ℕ → Bool) where
   unfolding eachUnit unitsOf leAt fromLe
   units-high [] d b h = absurd (omega arith)
   units-high (a ∷ []) d b h = let e : a + 256 * (b + 256 * 0) ≡ a + 256 * b = omega arith in and-true _ ∙ ap f e
-  units-high (a ∷ c ∷ n) d b h =
-      let u : Bool = f (leAt 2 (a ∷ c ∷ n) 0) in
+  units-high (a ∷ c ∷ n) d b h = let u : Bool = f (leAt 2 (a ∷ c ∷ n) 0) in
       ap (λ (r : Bool). u && r) (units-high n c b (omega arith)) ∙ sym (and-assoc u (each n) (f (lastOr c n + 256 * b)))
 
 pub name-step : (p : List ℕ) (b : ℕ) → nameByte (soFar (nameOf p)) (length p) (lastOr 0 p) b ≡ soFar (nameOf (p ++ (b ∷ [])))
@@ -140,8 +138,7 @@ pub named-units : (named : NameSoFar) (at low : ℕ) (l : List ℕ) → 56 ≤ a
 unfolding namedAfter eachUnit unitsOf leAt fromLe
 named-units named at low [] h even whole = sym (same-name (and-true (named .allowed)) (and-true (named .dots)))
 named-units named at low (a ∷ []) h even whole = absurd (omega arith)
-named-units named at low (a ∷ b ∷ l) h even whole =
-    let u : ℕ = a + 256 * (b + 256 * 0) in
+named-units named at low (a ∷ b ∷ l) h even whole = let u : ℕ = a + 256 * (b + 256 * 0) in
     let unit : a + 256 * b ≡ u = omega arith in
     let first : nameByte named at low a ≡ named = byte-low named at low a (λ odd. omega arith) in
     let now : NameSoFar = nameByte (nameByte named at low a) (at + 1) a b in

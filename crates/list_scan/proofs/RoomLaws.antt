@@ -37,8 +37,7 @@ pub record Room (sc : Scan) (n : ℕ) : Type 0 where
 
 pub room : (sc : Scan) (n : ℕ) → hasRoom sc n ≡ true → Room sc n
 unfolding hasRoom sumFits
-room sc n e =
-    let first = and-both (sumFits (sc .at) n) (sumFits (sc .totals .entries) n && sumFits (sc .totals .saved) n) e in
+room sc n e = let first = and-both (sumFits (sc .at) n) (sumFits (sc .totals .entries) n && sumFits (sc .totals .saved) n) e in
     let rest = and-both (sumFits (sc .totals .entries) n) (sumFits (sc .totals .saved) n) (first .1) in
     record { at-fits = ltb-true _ _ (first .0); entries-fit = ltb-true _ _ (rest .0); saved-fit = ltb-true _ _ (rest .1) }
 
@@ -48,8 +47,7 @@ pushed-room sc l e = simp e
 
 room-step : (sc : Scan) (b n : ℕ) → Room sc (n + 1) → Room (stepOf sc b) n
 unfolding stepOf entryEnded
-room-step sc b n r =
-    let head : List ℕ = set (sc .head) (sc .at) b in
+room-step sc b n r = let head : List ℕ = set (sc .head) (sc .at) b in
     let more = add-added (sc .totals) (statusOf head) (fileSizeOf head) in
     settled-either (λ sd. Room sd n) head (sc .at + 1) b (nameByte (sc .named) (sc .at) (sc .low) b) (sc .totals) (sc .hash)
     (λ low.
@@ -63,6 +61,5 @@ room-step sc b n r =
 pub room-run : (sc : Scan) (l : List ℕ) (n : ℕ) → Room sc (length l + n) → Room (scanned sc l) n
 unfolding scanned
 room-run sc [] n r = subst (Room sc) (let e : 0 + n ≡ n = omega arith in e) r
-room-run sc (b ∷ l) n r =
-    let e : length (b ∷ l) + n ≡ length l + n + 1 = omega arith in
+room-run sc (b ∷ l) n r = let e : length (b ∷ l) + n ≡ length l + n + 1 = omega arith in
     room-run (stepOf sc b) l n (room-step sc b (length l + n) (subst (Room sc) e r))

@@ -44,8 +44,7 @@ module _ (t : Totals) (h : Md5) where
   unfolding scanned stepOf namedAfter
   scan-run hd at low named [] some none = absurd (omega arith)
   scan-run hd at low named (b ∷ []) some none = refl
-  scan-run hd at low named (b ∷ c ∷ l) some none =
-      let now : NameSoFar = nameByte named at low b in
+  scan-run hd at low named (b ∷ c ∷ l) some none = let now : NameSoFar = nameByte named at low b in
       let place : at + 1 + length (c ∷ l) ≡ at + length (b ∷ c ∷ l) = omega arith in
       let last : ℕ = lastOr low (b ∷ c ∷ l) in
       let all : NameSoFar = namedAfter named at low (b ∷ c ∷ l) in
@@ -55,8 +54,7 @@ module _ (t : Totals) (h : Md5) where
       ∙ ap₂ (λ (p n : ℕ). settled (sets (set hd at b) p (c ∷ l)) n last all t h) (add-one at) place
     where
       later : NoneEnds (set hd at b) (at + 1) (c ∷ l)
-      later k pos less w =
-          let place : at + 1 + k ≡ at + suc k = omega arith in
+      later k pos less w = let place : at + 1 + k ≡ at + suc k = omega arith in
           ap₂ (λ (p n : ℕ). isWhole (sets (set hd at b) p (take k (c ∷ l))) n w) (add-one at) place
           ∙ none (suc k) (omega arith) (omega arith) w
 
@@ -71,8 +69,7 @@ module _ (hd : List ℕ) (at low : ℕ) (named : NameSoFar) (l : List ℕ) (some
   IsRunOf n w = IsRun hd at low named l (record { length = n; named = w })
 
   pub run-head : {n : ℕ} → at < 56 → n ≡ min (56 - at) (length l) → IsRunOf n named
-  run-head {n} h e =
-      let size : length (take n l) ≡ n = length-take-le n l (omega arith) in
+  run-head {n} h e = let size : length (take n l) ≡ n = length-take-le n l (omega arith) in
       record {
         some = omega arith;
         within = omega arith;
@@ -98,8 +95,7 @@ module _ (hd : List ℕ) (at low : ℕ) (named : NameSoFar) (l : List ℕ) (some
 
   pub run-units : {n size : ℕ} {w : NameSoFar} → length hd ≡ 56 → 56 ≤ at → (at % 2 ≡ 1 → ⊥) → 0 < n → n ≤ length l → n % 2 ≡ 0
       → size ≡ entrySize hd → (size ≤ at) ⊎ (at + n ≤ size + 1) → w ≡ nameUnits named (unitsOf (take n l)) → IsRunOf n w
-  run-units {n} {size} full h o pos fits whole size-is ends e =
-      let length-is : length (take n l) ≡ n = length-take-le n l fits in
+  run-units {n} {size} full h o pos fits whole size-is ends e = let length-is : length (take n l) ≡ n = length-take-le n l fits in
       record {
         some = pos;
         within = fits;
@@ -122,8 +118,7 @@ pub record Kept (sc sd : Scan) (s : List ℕ) (i : ℕ) : Type 0 where
   pub rest : scanned sd (drop i s) ≡ scanned sc s
 
 pub kept-start : (sc : Scan) (s : List ℕ) → length (sc .head) ≡ 56 → hasRoom sc (length s) ≡ true → Kept sc sc s 0
-kept-start sc s h e =
-    let n : length s ≡ length s - 0 = omega arith in
+kept-start sc s h e = let n : length s ≡ length s - 0 = omega arith in
     record { within = omega arith; head-size = h; room = subst (Room sc) n (room sc (length s) e); rest = refl }
 
 pub kept-done : (sc sd : Scan) (s : List ℕ) (i : ℕ) → length s ≤ i → Kept sc sd s i → sd ≡ scanned sc s
@@ -133,8 +128,7 @@ kept-done sc sd s i h k = sym (ap (scanned sd) (drop-of-length-le s h)) ∙ k .r
 -- n bytes on
 kept-on : (sc sd se : Scan) (s : List ℕ) (i n : ℕ) → i + n ≤ length s → length (se .head) ≡ 56 → Kept sc sd s i
     → se ≡ scanned sd (take n (drop i s)) → Kept sc se s (i + n)
-kept-on sc sd se s i n fits full k e =
-    let l : List ℕ = take n (drop i s) in
+kept-on sc sd se s i n fits full k e = let l : List ℕ = take n (drop i s) in
     let size : length l ≡ n = length-take-le n (drop i s) (omega (arith, length-drop i s)) in
     let left : length s - i ≡ length l + (length s - (i + n)) = omega arith in
     record {
@@ -162,8 +156,7 @@ module _ (sc : Scan) (s : List ℕ) (i : ℕ) {hd : List ℕ} {at low : ℕ} {na
     ended x = cond x (entryEnded head t h) (scanWith head (at + r .length) (lastOr low taken) (r .named) t h)
 
     run-is : scanned (scanWith hd at low named t h) taken ≡ ended w
-    run-is =
-        let last : ℕ = lastOr low taken in
+    run-is = let last : ℕ = lastOr low taken in
         scan-run t h hd at low named taken (omega (arith, run-length, run .some)) (run .none-ends)
         ∙ ap₂ (λ (q : List ℕ) (n : ℕ). settled q (at + n) last (namedAfter named at low taken) t h) (sym head-is) run-length
         ∙ ap (λ (m : NameSoFar). settled head (at + r .length) last m t h) (sym (run .named-is)) ∙ ap ended (sym test)

@@ -28,8 +28,7 @@ pub record Whole (hd : List ℕ) (at : ℕ) : Type 0 where
 module _ (hd : List ℕ) (at : ℕ) (named : NameSoFar) where
   whole-at : isWhole hd at named ≡ true → Whole hd at
   unfolding isWhole
-  whole-at e =
-      let body : Bool = fileSizeAllowed (fileSizeOf hd) && nameEnded named at in
+  whole-at e = let body : Bool = fileSizeAllowed (fileSizeOf hd) && nameEnded named at in
       let first = and-both (eqb (entrySize hd) at) (entrySizeAllowed at at && body) e in
       let z = sized at at (and-both (entrySizeAllowed at at) body (first .1) .0) in
       record { size-is = eqb-true _ _ (first .0); even = z .even; low = z .low }

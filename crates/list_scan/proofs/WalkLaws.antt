@@ -58,8 +58,7 @@ module _ {t : Totals} {h : Md5} (s : List ℕ) where
       → Amid t h p sc → Amid t h (p ++ q) (scanned sc q)
   unfolding scanned
   runs p [] r {sc} e later m = subst (λ (l : List ℕ). Amid t h l sc) (sym (append-nil p)) m
-  runs p (b ∷ q) r {sc} e later m =
-      let l : List ℕ = p ++ (b ∷ []) in
+  runs p (b ∷ q) r {sc} e later m = let l : List ℕ = p ++ (b ∷ []) in
       let size : length l ≡ length p + 1 = length-append p (b ∷ []) in
       let cut : s ≡ l ++ (q ++ r) = e ∙ sym (append-assoc p (b ∷ []) (q ++ r)) in
       let w : whole l ≡ false = not-whole s l (q ++ r) cut (later (length l) (omega arith) (omega arith)) in
@@ -69,16 +68,14 @@ module _ {t : Totals} {h : Md5} (s : List ℕ) where
 -- ---- the bytes of an entry
 
 entry-whole : {s : List ℕ} {n status size : ℕ} → IsEntry s n status size → whole (take n s) ≡ true
-entry-whole {s} i =
-    let k = keeps-first s (omega (arith, i .low, i .high)) (omega (arith, i .low, i .length-is)) in
+entry-whole {s} i = let k = keeps-first s (omega (arith, i .low, i .high)) (omega (arith, i .low, i .length-is)) in
     ap (λ (n : ℕ). whole (take n s)) (sym (i .length-is)) ∙ keeps-whole k
 
 pub entry-scan : {t : Totals} {h : Md5} {sc : Scan} {s : List ℕ} (n : ℕ) {status size : ℕ} → IsEntry s n status size → Amid t h [] sc
     → Amid (addEntry t status size) (hashEntry h status (md5Of (take n s))) [] (scanned sc (take n s))
 unfolding scanned
 entry-scan {t} {h} {sc} {s} zero i m = absurd (omega (arith, i .low))
-entry-scan {t} {h} {sc} {s} (suc j) {status} {size} i m =
-    let b : ℕ = getD s j 0 in
+entry-scan {t} {h} {sc} {s} (suc j) {status} {size} i m = let b : ℕ = getD s j 0 in
     let p : List ℕ = take j s in
     let e : take (suc j) s ≡ p ++ (b ∷ []) = take-suc s j 0 (omega (arith, i .high)) in
     let short : length p ≡ j = length-take-le j s (omega (arith, i .high)) in
@@ -139,8 +136,7 @@ module _ {t : Totals} {h : Md5} {sc : Scan} (m : Amid t h [] sc) {s : List ℕ} 
 
   ended-more : {n status size : ℕ} → IsEntry s n status size
       → ((u : Totals) (g : Md5) (sd : Scan) → Amid u g [] sd → Ended u g (drop n s) sd) → Ended t h s sc
-  ended-more {n} {status} {size} i rest =
-      let r = rest _ _ (scanned sc (take n s)) (entry-scan n i m) in
+  ended-more {n} {status} {size} i rest = let r = rest _ _ (scanned sc (take n s)) (entry-scan n i m) in
       record {
         walk-is = λ fits.
             let less : addEntry t status size .entries + length (drop n s) < 2 ^ 64 =

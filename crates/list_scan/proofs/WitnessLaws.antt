@@ -50,8 +50,7 @@ grown-as {sc} {sd} {n} {m} {s} {r} e f h g =
 module _ {status : ℕ} (entry : IsEntry (plainEntry status) 58 status 0) where
   one-more : {sc : Scan} {n s : ℕ} → Grown sc n s → Grown (scanned sc (plainEntry status)) (n + 1) (s + savedCount status)
   unfolding addEntry plainEntry
-  one-more g =
-      let m = entry-scan 58 entry (g .again) in
+  one-more g = let m = entry-scan 58 entry (g .again) in
       record {
         again = record {
           at-is = m .at-is;
@@ -117,8 +116,7 @@ start-grown = record { again = start-amid; entries-is = refl; saved-is = refl }
 
 pub list-counts : (a n s : ℕ) → s ≤ n → ListCounts (scanned scanStart (listWith a n s)) a n s
 unfolding listWith
-list-counts a n s h =
-    let sc : Scan = scanned scanStart (many s 1 ++ many (n - s) 0) in
+list-counts a n s h = let sc : Scan = scanned scanStart (many s 1 ++ many (n - s) 0) in
     let g : Grown sc n s =
     grown-as (scanned-append scanStart (many s 1) (many (n - s) 0)) (omega arith) (omega arith)
     (all-more entry-unsaved (n - s) (all-more entry-saved s start-grown)) in

@@ -28,8 +28,7 @@ use Rattle.md5.proofs.Tail.{tail-fill, tail-first, tail-full, take-tail
 
 waiting-state : (m : List ℕ) → waiting (stateOf m) ≡ rest m
 unfolding stateOf
-waiting-state m =
-    let e : length m % 2 ^ 64 % 64 ≡ length (rest m) = omega (arith, length-rest m) in
+waiting-state m = let e : length m % 2 ^ 64 % 64 ≡ length (rest m) = omega (arith, length-rest m) in
     ap (λ (k : ℕ). take k (tailOf (rest m))) e ∙ take-tail (rest m)
 
 pub push-state : (m bs : List ℕ) → pushed (stateOf m) bs ≡ stateOf (m ++ bs)
@@ -69,8 +68,7 @@ module _ (h : Md5) (bs : List ℕ) (tailed : length (h .tail) ≡ 64) {clean : L
   pub push-short : {tail : List ℕ} → length bs < 64 - h .total % 64 → tail ≡ paste clean (h .total % 64) bs (length bs)
       → record { words = h .words; tail = tail; total = n } ≡ pushed h bs
   unfolding pushed
-  push-short {tail} few filled =
-      let m : List ℕ = waiting h ++ bs in
+  push-short {tail} few filled = let m : List ℕ = waiting h ++ bs in
       let small : length m < 64 = omega (arith, length-append (waiting h) bs, length-waiting) in
       let words : h .words ≡ allBlocks (h .words) m = sym (all-short (h .words) m small) in
       let kept : tail ≡ tailOf m = tail-fill (waiting h) bs length-waiting (tail-first (waiting h) cleaned) filled in
@@ -82,8 +80,7 @@ module _ (h : Md5) (bs : List ℕ) (tailed : length (h .tail) ≡ 64) {clean : L
       → more ≡ drop (64 - h .total % 64) bs → last ≡ drop (length more / 64 * 64) more → tail ≡ paste (replicate 64 0) 0 last (length last)
       → words ≡ allBlocks (allBlocks (h .words) first) more → record { words = words; tail = tail; total = n } ≡ pushed h bs
   unfolding pushed
-  push-long {first} {tail} {words} more last many filled cut ended kept after =
-      let m : List ℕ = waiting h ++ bs in
+  push-long {first} {tail} {words} more last many filled cut ended kept after = let m : List ℕ = waiting h ++ bs in
       let k : ℕ = 64 - h .total % 64 in
       let block : List ℕ = waiting h ++ take k bs in
       let full : length block ≡ 64 = omega (arith, length-append (waiting h) (take k bs), length-waiting, length-take-le k bs many) in

@@ -34,8 +34,7 @@ all-cons w p q h =
     ∙ ap₂ (λ (a b : List ℕ). allBlocks (compress w a) b) (take-at p q 64 h) (drop-at p q 64 h)
 
 pub all-one : (w : Words) (p : List ℕ) → length p ≡ 64 → allBlocks w p ≡ compress w p
-all-one w p h =
-    let none : length (drop 64 p) < 64 = simp length-drop (omega arith) in
+all-one w p h = let none : length (drop 64 p) < 64 = simp length-drop (omega arith) in
     all-more w p (omega arith) ∙ all-short (compress w (take 64 p)) (drop 64 p) none ∙ ap (compress w) (take-all 64 p (omega arith))
 
 -- ---- what is left
@@ -47,8 +46,7 @@ pub rest-short : (m : List ℕ) → length m < 64 → rest m ≡ m
 rest-short m h = ap (λ (k : ℕ). drop (64 * k) m) (div-eq-of-lt h)
 
 pub rest-more : (m : List ℕ) → 64 ≤ length m → rest m ≡ rest (drop 64 m)
-rest-more m h =
-    let e : 64 * (length m / 64) ≡ 64 + 64 * (length (drop 64 m) / 64) = omega (arith, count-more m h) in
+rest-more m h = let e : 64 * (length m / 64) ≡ 64 + 64 * (length (drop 64 m) / 64) = omega (arith, count-more m h) in
     ap (λ (k : ℕ). drop k m) e ∙ sym (drop-drop (64 * (length (drop 64 m) / 64)) 64 m)
 
 pub rest-cons : (p q : List ℕ) → length p ≡ 64 → rest (p ++ q) ≡ rest q
@@ -67,8 +65,7 @@ module _ (b : List ℕ) where
         ap₂ (λ (v : Words) (l : List ℕ). allBlocks v (l ++ b)) (sym (all-short w m s)) (sym (rest-short m s)),
         ap (λ (l : List ℕ). rest (l ++ b)) (sym (rest-short m s)),
       )
-  joins (suc n) w m e =
-      let h : 64 ≤ length m = omega arith in
+  joins (suc n) w m e = let h : 64 ≤ length m = omega arith in
       let p : List ℕ = take 64 m in
       let q : List ℕ = drop 64 m in
       let hp : length p ≡ 64 = length-take-le 64 m h in

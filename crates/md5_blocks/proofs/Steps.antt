@@ -28,8 +28,7 @@ module _ (t x : List ℕ) (w : Words) where
 
   pub four-times : (j n : ℕ) {r₁ r₂ r₃ r₄ : Words} → r₁ ≡ steps t x j n w → r₂ ≡ steps t x (j + n) n r₁ → r₃ ≡ steps t x (j + 2 * n) n r₂
       → r₄ ≡ steps t x (j + 3 * n) n r₃ → r₄ ≡ steps t x j (4 * n) w
-  four-times j n e₁ e₂ e₃ e₄ =
-      let two = then j n n refl e₁ e₂ in
+  four-times j n e₁ e₂ e₃ e₄ = let two = then j n n refl e₁ e₂ in
       let three = then j (n + n) n (omega arith) two e₃ in
       then j (n + n + n) n (omega arith) three e₄ ∙ ap (λ (k : ℕ). steps t x j k w) (omega arith)
 

@@ -27,8 +27,7 @@ module _ (weight : ℕ → ℕ) (fragment : ℕ → List ℕ) where
       ≡ bitXor (getD bs p 0) (sumOver (λ k. product (weight k) (getD (fragment k) p 0)) ks)
   unfolding mulAddAll sumOver
   mulAddAll-at [] bs p h = sym (xor-zero-r (getD bs p 0))
-  mulAddAll-at (k ∷ ks) bs p h =
-      let x = product (weight k) (getD (fragment k) p 0) in
+  mulAddAll-at (k ∷ ks) bs p h = let x = product (weight k) (getD (fragment k) p 0) in
       let rest = sumOver (λ k. product (weight k) (getD (fragment k) p 0)) ks in
       let l = length-mulAdd (weight k) (fragment k) bs in
       mulAddAll-at ks (mulAdd (weight k) (fragment k) bs) p (omega arith)
@@ -44,8 +43,7 @@ module _ (weight : ℕ → ℕ) (fragment : ℕ → List ℕ) where
       ∙ ap (bitXor (getD bs p 0)) (sumOver-once (λ k. product (weight k) (getD (fragment k) p 0)) n chosen ks once inside)
 
 pub any-order : AnyOrder
-any-order weight fragment n chosen ks ls bs inside once once′ =
-    let size = length-mulAddAll weight fragment ks bs in
+any-order weight fragment n chosen ks ls bs inside once once′ = let size = length-mulAddAll weight fragment ks bs in
     ext-getD 0 (mulAddAll weight fragment ks bs) (mulAddAll weight fragment ls bs) (size ∙ sym (length-mulAddAll weight fragment ls bs))
     (λ p h.
     mulAddAll-once weight fragment n chosen ks bs once inside p (omega arith)

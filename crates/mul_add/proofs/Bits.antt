@@ -17,14 +17,12 @@ use Rattle.gf256.specs.Polynomial.{coeff, sumBelow}
 
 pub high-clear : (x c : ℕ) → x < 128 → 0 ≡ coeff x 7 * c
 unfolding coeff
-high-clear x c h =
-    let e : x / 128 % 2 ≡ 0 = omega arith in
+high-clear x c h = let e : x / 128 % 2 ≡ 0 = omega arith in
     sym (ap (λ (d : ℕ). d * c) e ∙ zero-mul c)
 
 pub high-set : (x c : ℕ) → 128 ≤ x → x < 256 → c ≡ coeff x 7 * c
 unfolding coeff
-high-set x c l h =
-    let e : x / 128 % 2 ≡ 1 = omega arith in
+high-set x c l h = let e : x / 128 % 2 ≡ 1 = omega arith in
     sym (ap (λ (d : ℕ). d * c) e ∙ one-mul c)
 
 shifted-down : (x d i : ℕ) → x * 2 ^ d / 2 ^ (d + i) ≡ x / 2 ^ i
@@ -32,8 +30,7 @@ shifted-down x d i = sym (shr-shr (x * 2 ^ d) d i) ∙ ap (λ (y : ℕ). y / 2 ^
 
 pub coeff-shifted : (x i : ℕ) → i < 8 → coeff (x * 2 ^ (7 - i) % 2 ^ 8) 7 ≡ coeff x i
 unfolding coeff
-coeff-shifted x i h =
-    let d = 7 - i in
+coeff-shifted x i h = let d = 7 - i in
     let e : 7 ≡ d + i = omega arith in
     let down = ap (λ (n : ℕ). x * 2 ^ d / 2 ^ n) e ∙ shifted-down x d i in
     let high = field (x * 2 ^ d) 1 7 in

@@ -132,8 +132,7 @@ sumBytes-zeros (suc m) [] e = absurd (omega arith)
 sumBytes-zeros (suc m) (c ∷ cs) e = cons (xor-zero-r c) (sumBytes-zeros m cs (omega arith))
 
 pub mulAddAll-shares : TwoShares
-mulAddAll-shares weight fragment ks ls m =
-    let share = mulAddAll weight fragment ks (replicate m 0) in
+mulAddAll-shares weight fragment ks ls m = let share = mulAddAll weight fragment ks (replicate m 0) in
     mulAddAll-sum weight fragment ls share (replicate m 0)
     ∙ ap (mulAddAll weight fragment ls)
     (sumBytes-zeros m share (length-mulAddAll weight fragment ks (replicate m 0) ∙ length-replicate m 0))

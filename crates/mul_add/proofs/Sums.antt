@@ -66,8 +66,7 @@ sumOver-count : (g : ℕ → ℕ) (n : ℕ) (ks : List ℕ) → ((k : ℕ) → 0
     → sumOver g ks ≡ sumBelow n (λ i. times (count (suc i) ks) (g (suc i)))
 unfolding sumOver count times term
 sumOver-count g n [] h = sym (sumBelow-none n)
-sumOver-count g n (k ∷ ks) h =
-    let inside = h k (count-head k ks) in
+sumOver-count g n (k ∷ ks) h = let inside = h k (count-head k ks) in
     let rest : ℕ → ℕ = λ (i : ℕ). times (count (suc i) ks) (g (suc i)) in
     xor-comm (g k) (sumOver g ks)
     ∙ ap₂ bitXor (sumOver-count g n ks (λ j l. h j (count-tail j k ks l)))

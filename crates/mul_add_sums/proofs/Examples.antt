@@ -59,8 +59,7 @@ their-sum = two-boxes Powers 2 p6 (1 ∷ []) (2 ∷ []) (1 ∷ 2 ∷ []) (6 ∷ 
 -- the head of 96 bytes, the list and the data
 length-volume : length (volumeFor (versionFor Powers) coefficient 1 2 p6) ≡ 272
 unfolding isCounted
-length-volume =
-    let right = p6-right 2 (omega arith) (omega arith) in
+length-volume = let right = p6-right 2 (omega arith) (omega arith) in
     let size = length-bytes (files-back (right .files-right) (omega (arith, p6-list))) 2 (dataFor coefficient 2 p6) Powers 1 in
     omega (arith, size, p6-list, length-data coefficient 2 p6)
 

@@ -66,6 +66,5 @@ sum-at (x ∷ xs) (y ∷ ys) e zero = refl
 sum-at (x ∷ xs) (y ∷ ys) e (suc p) = sum-at xs ys (omega arith) p
 
 pub sum-called : SumCalled
-sum-called xs ys c h e bytes p =
-    let sum : c ≡ sumBytes xs ys = one-answer 1 ys xs c h p ∙ mulAdd-one xs ys e bytes in
+sum-called xs ys c h e bytes p = let sum : c ≡ sumBytes xs ys = one-answer 1 ys xs c h p ∙ mulAdd-one xs ys e bytes in
     (sum, λ p. ap (λ (l : List ℕ). getD l p 0) sum ∙ sum-at xs ys e p)

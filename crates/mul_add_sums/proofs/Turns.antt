@@ -40,13 +40,11 @@ module _ (v w : ℕ) (b : List ℕ) (h : length b < lendLimit) where
       → s ≡ mulAddFrom v (positionOf (length m)) → t ≡ mulAddFrom w (positionOf (length n)) → now ≡ both m n
       → inTurn s t turns now ≡ both (m ++ firsts turns) (n ++ seconds turns)
   turns-go m n s t [] now gs gt e = e ∙ sym (ap₂ both (append-nil m) (append-nil n))
-  turns-go m n s t (first c ∷ turns) now gs gt e =
-      let r = goes-on v m c now (both-short m n now e) gs in
+  turns-go m n s t (first c ∷ turns) now gs gt e = let r = goes-on v m c now (both-short m n now e) gs in
       turns-go (m ++ c) n (pushOf s c now .0 .next) t turns (pushOf s c now .1) (ap (λ (r : Outcome × List ℕ). r .0 .next) r) gt
       (ap (λ (r : Outcome × List ℕ). r .1) r ∙ first-on m n c now e)
       ∙ ap (λ (l : List ℕ). both l (n ++ seconds turns)) (append-assoc m c (firsts turns))
-  turns-go m n s t (second c ∷ turns) now gs gt e =
-      let r = goes-on w n c now (both-short m n now e) gt in
+  turns-go m n s t (second c ∷ turns) now gs gt e = let r = goes-on w n c now (both-short m n now e) gt in
       turns-go m (n ++ c) s (pushOf t c now .0 .next) turns (pushOf t c now .1) gs (ap (λ (r : Outcome × List ℕ). r .0 .next) r)
       (ap (λ (r : Outcome × List ℕ). r .1) r ∙ second-on m n c now e)
       ∙ ap (both (m ++ firsts turns)) (append-assoc n c (seconds turns))

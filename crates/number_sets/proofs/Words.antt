@@ -45,16 +45,14 @@ bit-small w b = low (w / 2 ^ b)
 
 bit-or : (a b k : ℕ) → bit (bitOr a b) k ≡ max (bit a k) (bit b k)
 unfolding bit
-bit-or a b k =
-    let x = low (a / 2 ^ k) in
+bit-or a b k = let x = low (a / 2 ^ k) in
     let y = low (b / 2 ^ k) in
     ap (λ (x : ℕ). x % 2) (or-shr a b k ∙ or-step (a / 2 ^ k) (b / 2 ^ k))
     ∙ digits-mod (bitOr (a / 2 ^ k / 2) (b / 2 ^ k / 2)) (omega arith)
 
 bit-and : (a b k : ℕ) → bit (bitAnd a b) k ≡ min (bit a k) (bit b k)
 unfolding bit
-bit-and a b k =
-    let x = low (a / 2 ^ k) in
+bit-and a b k = let x = low (a / 2 ^ k) in
     let y = low (b / 2 ^ k) in
     ap (λ (x : ℕ). x % 2) (and-shr a b k ∙ and-step (a / 2 ^ k) (b / 2 ^ k))
     ∙ digits-mod (bitAnd (a / 2 ^ k / 2) (b / 2 ^ k / 2)) (omega arith)
@@ -84,11 +82,9 @@ power-other (suc b) (suc k) q = bit-suc (2 ^ suc b) k ∙ ap (λ (x : ℕ). bit 
 -- the complement of x in n bits
 complement : (n x k : ℕ) → x < 2 ^ n → k < n → bit (2 ^ n - 1 - x) k ≡ 1 - bit x k
 complement zero x k h l = absurd (not-suc-le-zero l)
-complement (suc n) x zero h l =
-    let odd : (2 ^ suc n - 1 - x) % 2 ≡ 1 - x % 2 = omega arith in
+complement (suc n) x zero h l = let odd : (2 ^ suc n - 1 - x) % 2 ≡ 1 - x % 2 = omega arith in
     bit-zero (2 ^ suc n - 1 - x) ∙ odd ∙ ap (λ (z : ℕ). 1 - z) (sym (bit-zero x))
-complement (suc n) x (suc k) h l =
-    let half : (2 ^ suc n - 1 - x) / 2 ≡ 2 ^ n - 1 - x / 2 = omega arith in
+complement (suc n) x (suc k) h l = let half : (2 ^ suc n - 1 - x) / 2 ≡ 2 ^ n - 1 - x / 2 = omega arith in
     bit-suc (2 ^ suc n - 1 - x) k ∙ ap (λ (z : ℕ). bit z k) half
     ∙ complement n (x / 2) k (omega arith) (le-of-suc-le-suc l) ∙ ap (λ (z : ℕ). 1 - z) (sym (bit-suc x k))
 
@@ -174,8 +170,7 @@ module _ (ws : List ℕ) (g : ℕ) (e : length ws ≡ 4) (l : g < 256) where
 
   pub member-inserted : (h : ℕ) → member (inserted g ws) h ≡ (eqb h g || member ws h)
   unfolding inserted word
-  member-inserted h =
-      let small = bit-small word (g % 64) in
+  member-inserted h = let small = bit-small word (g % 64) in
       let top : max (bit word (g % 64)) (bit (2 ^ (g % 64)) (g % 64)) ≡ 1 = omega (arith, power-same (g % 64)) in
       member-set ws g (bitOr word (2 ^ (g % 64))) (omega arith) true
       (ap (λ (x : ℕ). eqb x 1) (bit-or word (2 ^ (g % 64)) (g % 64) ∙ top))
@@ -188,8 +183,7 @@ module _ (ws : List ℕ) (g : ℕ) (e : length ws ≡ 4) (l : g < 256) where
 
   pub member-removed : (h : ℕ) → member (removed g ws) h ≡ (not (eqb h g) && member ws h)
   unfolding removed word
-  member-removed h =
-      let fits : 2 ^ (g % 64) < 2 ^ 64 = pow-lt {i = g % 64} {j = 64} (omega arith) in
+  member-removed h = let fits : 2 ^ (g % 64) < 2 ^ 64 = pow-lt {i = g % 64} {j = 64} (omega arith) in
       let none : min (bit word (g % 64)) (bit (2 ^ 64 - 1 - 2 ^ (g % 64)) (g % 64)) ≡ 0 =
       omega (arith, complement 64 (2 ^ (g % 64)) (g % 64) fits (omega arith), power-same (g % 64)) in
       member-set ws g (bitAnd word (2 ^ 64 - 1 - 2 ^ (g % 64))) (omega arith) false
@@ -345,8 +339,7 @@ words-inserted k ws W =
 
 pub words-removed : (k : ℕ) (ws : List ℕ) → Words ws → Words (removed k ws)
 unfolding removed
-words-removed k ws W =
-    let word : ℕ = getD ws (k / 64) 0 in
+words-removed k ws W = let word : ℕ = getD ws (k / 64) 0 in
     let less : bitAnd word (2 ^ 64 - 1 - 2 ^ (k % 64)) < 2 ^ 64 = le-lt (and-le-l word (2 ^ 64 - 1 - 2 ^ (k % 64))) (W .fits (k / 64)) in
     words-set (k / 64) _ ws less W
   where

@@ -35,8 +35,7 @@ record EntryTold (x : File) (out : List ℕ) (n : ℕ) (after : List ℕ) : Type
 entry-tells : (x : File) (out : List ℕ) {n : ℕ} {after : List ℕ} → writeEntryOf (x .contents) (x .status) (x .name) out ≡ (Written n, after)
     → EntryTold x out n after
 unfolding writeEntryOf
-entry-tells x out {n} {after} e =
-    let refusal : Refusal = bare (entryRefusal (length (x .contents)) (x .status) (x .name)) in
+entry-tells x out {n} {after} e = let refusal : Refusal = bare (entryRefusal (length (x .contents)) (x .status) (x .name)) in
     let s : List ℕ = entryFor x in
     let told = unless-tells refusal s out e in
     let p = entry-passed (length (x .contents)) (x .status) (x .name) (told .none) in
@@ -62,8 +61,7 @@ module _ (x : File) (fs : List File) (at : ℕ) (room : List ℕ) {n : ℕ} {aft
       → next w room (λ k. writeEntries fs (at + k) (take at room ++ t)) ≡ (Written n, after) → EntriesTold (x ∷ fs) at room
   unfolding flatten
   more-tells (Refused k) t h first e = never e
-  more-tells (Written k) t h first e =
-      let one = entry-tells x (drop at room) first in
+  more-tells (Written k) t h first e = let one = entry-tells x (drop at room) first in
       let left = length-drop at room in
       let kept : length (take at room ++ t) ≡ length room = omega (arith, length-append (take at room) t, length-take-le at room h, one .kept) in
       let rest = others (at + k) (take at room ++ t) (omega (arith, one .fits, one .written)) e in
@@ -77,8 +75,7 @@ pub entries-tell : (fs : List File) (at : ℕ) (room : List ℕ) {n : ℕ} {afte
     → writeEntries fs at room ≡ (Written n, after) → EntriesTold fs at room
 unfolding writeEntries flatten
 entries-tell [] at room h e = record { files-right = all-none; writable = all-none; fits = omega arith }
-entries-tell (x ∷ fs) at room h e =
-    let r : Writing × List ℕ = writeEntryOf (x .contents) (x .status) (x .name) (drop at room) in
+entries-tell (x ∷ fs) at room h e = let r : Writing × List ℕ = writeEntryOf (x .contents) (x .status) (x .name) (drop at room) in
     more-tells x fs at room (λ j s. entries-tell fs j s) (r .0) (r .1) h refl e
 
 pub set-tells : (c : Code) (program v : ℕ) (fs : List File) (area room out : List ℕ) {n : ℕ} {after : List ℕ}

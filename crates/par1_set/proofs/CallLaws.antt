@@ -34,8 +34,7 @@ entries-from : {fs : List File} (p rest : List ℕ) → All FileRight fs → All
     → writeEntries fs (length p) (p ++ rest) ≡ (Written (length p + length (listFor fs)), p ++ (listFor fs ++ drop (length (listFor fs)) rest))
 unfolding writeEntries flatten
 entries-from p rest all-none all-none h = let n : length p ≡ length p + 0 = omega arith in ap (λ (k : ℕ). (Written k, p ++ rest)) n
-entries-from p rest (all-more {x} {xs = fs} r rs) (all-more w ws) h =
-    let e : List ℕ = entryFor x in
+entries-from p rest (all-more {x} {xs = fs} r rs) (all-more w ws) h = let e : List ℕ = entryFor x in
     let l : List ℕ = listFor fs in
     let out : List ℕ = p ++ rest in
     let total : length (e ++ l) ≡ length e + length l = length-append e l in
@@ -51,8 +50,7 @@ entries-from p rest (all-more {x} {xs = fs} r rs) (all-more w ws) h =
 
 pub entries-written : {fs : List File} (room : List ℕ) → All FileRight fs → All Writable fs → length (listFor fs) ≤ length room
     → writeEntries fs 0 room ≡ accepted (listFor fs) room
-entries-written {fs} room rs ws h =
-    let n : 0 + length (listFor fs) ≡ length (listFor fs) = omega arith in
+entries-written {fs} room rs ws h = let n : 0 + length (listFor fs) ≡ length (listFor fs) = omega arith in
     entries-from [] room rs ws h ∙ ap (λ (k : ℕ). (Written k, listFor fs ++ drop (length (listFor fs)) room)) n
 
 pub set-then : (c : Code) (program v : ℕ) (fs : List File) (area room out : List ℕ) → writeEntries fs 0 room ≡ accepted (listFor fs) room

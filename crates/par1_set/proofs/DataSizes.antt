@@ -35,8 +35,7 @@ greatest-listed (x ∷ xs) =
   where
     next : (f : ℕ) → 0 < f → f ≤ length xs
         → length (getD (x ∷ xs) (suc f - 1) noFile .contents) ≡ length (getD xs (f - 1) noFile .contents)
-    next f pos h =
-        let n : suc f - 1 ≡ suc (f - 1) = omega arith in
+    next f pos h = let n : suc f - 1 ≡ suc (f - 1) = omega arith in
         ap (λ (k : ℕ). length (getD (x ∷ xs) k noFile .contents)) n
 
 pub saved-size : (fs : List File) → dataSizeFor fs ≡ greatest (fileCount fs) (λ f. length (contentsOf fs f))

@@ -35,8 +35,7 @@ use Rattle.par1_set.specs.Files.{File, noFile, savedFiles, fileCount, co
 pub files-back : {fs : List File} → All FileRight fs → length (listFor fs) < 2 ^ 64 → All FileBack fs
 unfolding flatten
 files-back all-none h = all-none
-files-back (all-more {x} {xs = fs} r rs) h =
-    let n = length-append (entryFor x) (listFor fs) in
+files-back (all-more {x} {xs = fs} r rs) h = let n = length-append (entryFor x) (listFor fs) in
     all-more (entry-back (x .contents) (x .status) (x .name) (r .size-right) (r .status-right) (r .name-right) (omega arith)) (files-back rs (omega arith))
 
 -- ---- all entries
@@ -94,16 +93,14 @@ module _ {fs : List File} (bs : All FileBack fs) (k : ℕ) (h : k < length fs) (
       ∙ ap (λ (n : ℕ). n + 1) (ap (λ (es : List (List ℕ)). length (savedOf es)) (take-entries k fs) ∙ saved-count (all-take k bs))
 
   pub number-contents : contentsOf fs (fileNumber (entriesFor fs) k) ≡ getD fs k noFile .contents
-  number-contents =
-      let n : fileNumber (entriesFor fs) k - 1 ≡ fileCount (take k fs) = omega (arith, number-is) in
+  number-contents = let n : fileNumber (entriesFor fs) k - 1 ≡ fileCount (take k fs) = omega (arith, number-is) in
       ap (λ (j : ℕ). getD (savedFiles fs) j noFile .contents) n
       ∙ ap (λ (x : File). x .contents) (keep-at (λ x. isSaved (x .status)) noFile fs k h t .element-is)
 
 -- ---- the claim
 
 pub set-listed : SetListed
-set-listed fs right short =
-    let bs = files-back right (omega arith) in
+set-listed fs right short = let bs = files-back right (omega arith) in
     record {
       entries-are = entries-of bs;
       files-are = bs;

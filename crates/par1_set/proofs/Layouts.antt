@@ -48,8 +48,7 @@ set-hash-is bs =
 module _ {fs : List File} (bs : All FileBack fs) (v : ℕ) (area : List ℕ) where
   body-is : bodyBytes (length (entriesOf (listFor fs) .pieces)) v (listFor fs) area ≡ hashedFor v fs area
   unfolding bodyBytes hashedFor
-  body-is =
-      let pieces : entriesOf (listFor fs) .pieces ≡ entriesFor fs = ap (λ c. c .pieces) (entries-of bs) in
+  body-is = let pieces : entriesOf (listFor fs) .pieces ≡ entriesFor fs = ap (λ c. c .pieces) (entries-of bs) in
       ap₂ (λ (hash : List ℕ) (n : ℕ). flatten (hash ∷ numberBytes v n (length (listFor fs)) (length area) ∷ listFor fs ∷ area ∷ []))
       (ap setHash pieces ∙ set-hash-is bs) (ap length pieces ∙ length-map fs (λ x. entryFor x))
 
@@ -78,8 +77,7 @@ module _ (v : ℕ) (fs : List File) (area : List ℕ) where
 
   pub hashed-parts : hashedFor v fs area ≡ flatten hashedParts
   unfolding hashedFor flatten numbers
-  hashed-parts =
-      let l : ℕ = length (listFor fs) in
+  hashed-parts = let l : ℕ = length (listFor fs) in
       let six = numbers-append (v ∷ length fs ∷ 96 ∷ l ∷ (96 + l) ∷ []) (length area ∷ []) in
       ap (λ (ns : List ℕ). setHashFor fs ++ (ns ++ (listFor fs ++ (area ++ [])))) six ∙ simp (append-assoc, append-nil)
 
@@ -96,8 +94,7 @@ module _ (v : ℕ) (fs : List File) (area : List ℕ) where
     bytes-first = at-part 16 (length-first version program) at-first
 
     pub bytes-numbers : take 40 (drop 48 (bytesFor version program v fs area)) ≡ fixedNumbers v (length fs) (length (listFor fs))
-    bytes-numbers =
-        let at32 = at-next 16 (length-md5 _) (at-next 16 (length-first version program) at-first) in
+    bytes-numbers = let at32 = at-next 16 (length-md5 _) (at-next 16 (length-first version program) at-first) in
         let opened : At (bytesFor version program v fs area) 32 (flatten hashedParts ∷ []) =
         record { joined = at32 .joined ∙ ap (λ (l : List ℕ). flatten (l ∷ [])) hashed-parts } in
         at-part 40 (length-numbers (v ∷ length fs ∷ 96 ∷ length (listFor fs) ∷ (96 + length (listFor fs)) ∷ []))

@@ -23,8 +23,7 @@ volume-number v n low count high =
 
 pub number-range : (v n : ℕ) → 1 ≤ v → numberAllowed v n ≡ true → (1 ≤ n) × (v + n ≤ 255)
 unfolding numberAllowed
-number-range v n low e =
-    let both = and-both (leb n 254) _ e in
+number-range v n low e = let both = and-both (leb n 254) _ e in
     let z : eqb v 0 ≡ false = ne-eqb v 0 (λ z. omega arith) in
     let two = and-both (leb 1 n) (leb (v + n) 255) (sym (ap (λ (b : Bool). b || (leb 1 n && leb (v + n) 255)) z) ∙ both .1) in
     (leb-true _ _ (two .0), leb-true _ _ (two .1))

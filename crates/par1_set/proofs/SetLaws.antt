@@ -59,8 +59,7 @@ module _ {v : ℕ} {fs : List File} {area : List ℕ} (s : SetPassed v fs area) 
 
     pub set-accepted : (room out : List ℕ) → All Writable fs → length (listFor fs) ≤ length room → length (bytesFor (versionFor c) program v fs area) ≤ length out
         → writeSet c program v fs area room out ≡ accepted (bytesFor (versionFor c) program v fs area) out
-    set-accepted room out writable list-fits fits =
-        let size = length-bytes set-back v area c program in
+    set-accepted room out writable list-fits fits = let size = length-bytes set-back v area c program in
         set-then c program v fs area room out (entries-written room (s .files-right) writable list-fits)
         ∙ volume-accepted c program v (listFor fs) area out (totalsFor fs) (walk-is set-back) (s .number-right) (s .data-right)
         (omega (arith, ap length same, s .length-right)) (omega (arith, ap length same))
@@ -75,8 +74,7 @@ pub set-only : (c : Code) (program v : ℕ) (fs : List File) (area room out : Li
     → writeSet c program v fs area room out ≡ (Written n, after)
     → SetPassed v fs area × All Writable fs × ((Written n, after) ≡ accepted (bytesFor (versionFor c) program v fs area) out)
 unfolding writeVolumeOf
-set-only c program v fs area room out {n} {after} e =
-    let told = set-tells c program v fs area room out e in
+set-only c program v fs area room out {n} {after} e = let told = set-tells c program v fs area room out e in
     let l : List ℕ = listFor fs in
     let refusal : Refusal = walkRefusal v (walkOf l) (length l) (length area) in
     let f : List ℕ = volumeBytes c program v l area in

@@ -38,8 +38,7 @@ length-data rule v fs = length-parity rule (fileCount fs) (contentsOf fs) v (dat
 
 module _ {v : ℕ} {fs : List File} (right : VolumeRight v fs) where
   pub volume-set : (rule : ℕ → ℕ → ℕ) → SetPassed v fs (dataFor rule v fs)
-  volume-set rule =
-      let size = length-data rule v fs in
+  volume-set rule = let size = length-data rule v fs in
       record {
         files-right = right .files-right;
         number-right = volume-number v (fileCount fs) (right .volume-low) (right .count-low) (right .volume-high);
@@ -48,8 +47,7 @@ module _ {v : ℕ} {fs : List File} (right : VolumeRight v fs) where
       }
 
   coefficients : (c : Code) (f : ℕ) → isFile (fileCount fs) f ≡ true → coefficientAnswer c f v ≡ Byte (ruleOf c f v)
-  coefficients c f e =
-      let inside = isFile-inside (fileCount fs) f e in
+  coefficients c f e = let inside = isFile-inside (fileCount fs) f e in
       answer-in-range c f v (inside .0) (right .volume-low) (omega (arith, inside .1, right .volume-high))
 
   pub volume-made : (c : Code) (rule : ℕ → ℕ → ℕ) (program : ℕ) (ks room out : List ℕ) → All Writable fs → Once (isFile (fileCount fs)) ks
@@ -109,8 +107,7 @@ index-written c program fs comment room out p right writable list-fits fits = re
 }
 
 pub only-indices : OnlyIndices
-only-indices c program fs comment room out n after e =
-    let told = set-only c program 0 fs comment room out e in
+only-indices c program fs comment room out n after e = let told = set-only c program 0 fs comment room out e in
     let s = told .0 in (
       record {
         files-right = s .files-right;

@@ -55,20 +55,17 @@ stretched w at old new z = take at z ++ mulAdd w new (mulAdd w old (drop at z))
 
 module _ (w at : ℕ) (old new z : List ℕ) where
   pub length-stretched : at ≤ length z → length (stretched w at old new z) ≡ length z
-  length-stretched h =
-      let b : List ℕ = mulAdd w new (mulAdd w old (drop at z)) in
+  length-stretched h = let b : List ℕ = mulAdd w new (mulAdd w old (drop at z)) in
       let n : length b ≡ length (drop at z) = length-mulAdd w new _ ∙ length-mulAdd w old (drop at z) in
       omega (arith, length-append (take at z) b, length-take-le at z h, length-drop at z)
 
   pub stretched-before : (p : ℕ) → at ≤ length z → p < at → getD (stretched w at old new z) p 0 ≡ getD z p 0
-  stretched-before p h l =
-      let n : length (take at z) ≡ at = length-take-le at z h in
+  stretched-before p h l = let n : length (take at z) ≡ at = length-take-le at z h in
       List·getD-append (take at z) _ 0 p (omega arith) ∙ getD-take at z p 0 l
 
   pub stretched-from : (q : ℕ) → at + q < length z
       → getD (stretched w at old new z) (at + q) 0 ≡ bitXor (getD z (at + q) 0) (product w (bitXor (getD old q 0) (getD new q 0)))
-  stretched-from q h =
-      let n : length (take at z) ≡ at = length-take-le at z (omega arith) in
+  stretched-from q h = let n : length (take at z) ≡ at = length-take-le at z (omega arith) in
       let b : List ℕ = drop at z in
       let o : List ℕ = mulAdd w old b in
       let lb : length b ≡ length z - at = length-drop at z in
@@ -86,8 +83,7 @@ module _ (rule : ℕ → ℕ → ℕ) (n : ℕ) (X Y : Contents) (v f : ℕ) (lo
   parity-gains : (p d : ℕ) → getD (Y f) p 0 ≡ bitXor (getD (X f) p 0) d
       → parityByte rule n Y v p ≡ bitXor (parityByte rule n X v p) (product (rule f v) d)
   unfolding parityByte
-  parity-gains p d e =
-      let k : ℕ = f - 1 in
+  parity-gains p d e = let k : ℕ = f - 1 in
       let number : suc k ≡ f = omega arith in
       sum-one n k (product (rule f v) d) (λ i. product (rule (suc i) v) (getD (X (suc i)) p 0)) (λ i. product (rule (suc i) v) (getD (Y (suc i)) p 0))
       (omega arith)
@@ -103,8 +99,7 @@ module _ (rule : ℕ → ℕ → ℕ) (n : ℕ) (X Y : Contents) (v f : ℕ) (lo
   pub parity-stretched : (k at : ℕ) (old new : List ℕ) → at ≤ k → ((p : ℕ) → p < at → getD (Y f) p 0 ≡ getD (X f) p 0)
       → ((q : ℕ) → getD (Y f) (at + q) 0 ≡ bitXor (getD (X f) (at + q) 0) (bitXor (getD old q 0) (getD new q 0)))
       → parity rule n Y v k ≡ stretched (rule f v) at old new (parity rule n X v k)
-  parity-stretched k at old new inside before gains =
-      let w : ℕ = rule f v in
+  parity-stretched k at old new inside before gains = let w : ℕ = rule f v in
       let z : List ℕ = parity rule n X v k in
       let lz : length z ≡ k = length-parity rule n X v k in
       let ly : length (parity rule n Y v k) ≡ k = length-parity rule n Y v k in
@@ -113,12 +108,10 @@ module _ (rule : ℕ → ℕ → ℕ) (n : ℕ) (X Y : Contents) (v f : ℕ) (lo
       (λ p h. parity-at rule n Y v k p (omega arith) ∙ by p (omega arith) (decLt p at))
     where
       by : (p : ℕ) → p < k → Dec (p < at) → parityByte rule n Y v p ≡ getD (stretched (rule f v) at old new (parity rule n X v k)) p 0
-      by p h (yes l) =
-          let z : List ℕ = parity rule n X v k in
+      by p h (yes l) = let z : List ℕ = parity rule n X v k in
           let lz : length z ≡ k = length-parity rule n X v k in
           parity-stays p (before p l) ∙ sym (parity-at rule n X v k p h) ∙ sym (stretched-before (rule f v) at old new z p (omega arith) l)
-      by p h (no l) =
-          let z : List ℕ = parity rule n X v k in
+      by p h (no l) = let z : List ℕ = parity rule n X v k in
           let lz : length z ≡ k = length-parity rule n X v k in
           let q : ℕ = p - at in
           let here : at + q ≡ p = omega arith in
@@ -142,8 +135,7 @@ module _ (rule : ℕ → ℕ → ℕ) (n : ℕ) (X : Contents) (v m k : ℕ) (en
       ∙ sumBelow-none n
 
   pub parity-longer : parity rule n X v m ++ replicate (k - length (parity rule n X v m)) 0 ≡ parity rule n X v k
-  parity-longer =
-      let d : List ℕ = parity rule n X v m in
+  parity-longer = let d : List ℕ = parity rule n X v m in
       let ld : length d ≡ m = length-parity rule n X v m in
       let zeros : List ℕ = replicate (k - length d) 0 in
       let lz : length (d ++ zeros) ≡ k = omega (arith, length-append d zeros, length-replicate {A = ℕ} (k - length d) 0) in
@@ -151,11 +143,9 @@ module _ (rule : ℕ → ℕ → ℕ) (n : ℕ) (X : Contents) (v m k : ℕ) (en
       (λ p h. by p (omega arith) (decLt p m) ∙ sym (parity-at rule n X v k p (omega arith)))
     where
       by : (p : ℕ) → p < k → Dec (p < m) → getD (parity rule n X v m ++ replicate (k - length (parity rule n X v m)) 0) p 0 ≡ parityByte rule n X v p
-      by p h (yes l) =
-          let ld : length (parity rule n X v m) ≡ m = length-parity rule n X v m in
+      by p h (yes l) = let ld : length (parity rule n X v m) ≡ m = length-parity rule n X v m in
           List·getD-append (parity rule n X v m) _ 0 p (omega arith) ∙ parity-at rule n X v m p l
-      by p h (no l) =
-          let d : List ℕ = parity rule n X v m in
+      by p h (no l) = let d : List ℕ = parity rule n X v m in
           let ld : length d ≡ m = length-parity rule n X v m in
           let q : ℕ = p - length d in
           let at : length d + q ≡ p = omega arith in

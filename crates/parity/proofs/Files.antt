@@ -14,6 +14,5 @@ pub isFile-in : (n f : ℕ) → 0 < f → f ≤ n → isFile n f ≡ true
 isFile-in n f pos h = ap₂ (λ (a b : Bool). a && b) (le-leb 1 f pos) (le-leb f n h)
 
 pub isFile-inside : (n f : ℕ) → isFile n f ≡ true → (0 < f) × (f ≤ n)
-isFile-inside n f e =
-    let both = and-both (leb 1 f) (leb f n) e in
+isFile-inside n f e = let both = and-both (leb 1 f) (leb f n) e in
     (leb-true 1 f (both .0), leb-true f n (both .1))

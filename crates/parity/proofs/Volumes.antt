@@ -30,8 +30,7 @@ module _ (rule : ℕ → ℕ → ℕ) (n : ℕ) (X : Contents) (v m : ℕ) where
   pub files-parity : (ks : List ℕ) → Once (isFile n) ks
       → mulAddAll (λ f. rule f v) X ks (replicate m 0) ≡ parity rule n X v m
   unfolding parityByte
-  files-parity ks once =
-      let zeros : List ℕ = replicate m 0 in
+  files-parity ks once = let zeros : List ℕ = replicate m 0 in
       let volume = mulAddAll (λ f. rule f v) X ks zeros in
       let lz : length zeros ≡ m = length-replicate m 0 in
       let lv : length volume ≡ m = length-mulAddAll (λ f. rule f v) X ks zeros ∙ lz in

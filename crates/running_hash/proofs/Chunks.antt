@@ -95,8 +95,7 @@ after-pushes ps = pushes-follow hashSteps hashWhole Runs isOpen hash-follows tt 
 
 given : (h : RunningHash) → Held h → isOpen h ≡ true → Given hashSteps hashWhole counts h
 unfolding stateOf
-given h held o =
-    let n : ℕ = h .hash .total in
+given h held o = let n : ℕ = h .hash .total in
     let ones : List (List ℕ) = replicate n (0 ∷ []) in
     let total = ap (λ (k : ℕ). k % 2 ^ 64) (length-ones (hashWhole .chunk) (0 ∷ []) refl n) ∙ mod-eq-of-lt held in
     record {

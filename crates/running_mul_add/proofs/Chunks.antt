@@ -45,8 +45,7 @@ at-stop w n fragment buffer h =
 
 pub goes-on : (w : ℕ) (m fragment buffer : List ℕ) {s : RunningMulAdd} → length buffer < lendLimit → Goes w m s
     → pushOf s fragment buffer ≡ (accepted (mulAddFrom w (positionOf (length (m ++ fragment)))), mulAddAt w (length m) fragment buffer)
-goes-on w m fragment buffer h g =
-    let p : ℕ = positionOf (length m) in
+goes-on w m fragment buffer h g = let p : ℕ = positionOf (length m) in
     let next : positionOf (length (m ++ fragment)) ≡ positionAfter p (length fragment) = omega (arith, length-append m fragment) in
     ap (λ (s : RunningMulAdd). pushOf s fragment buffer) g
     ∙ sym (push-going (mulAddFrom w p) fragment buffer refl next (sym (at-stop w (length m) fragment buffer h)))
@@ -60,8 +59,7 @@ push-taken s p o e =
     omega arith
 
 end-taken : (s : RunningMulAdd) (u : Unit {0}) → isOpen s ≡ true → endOf s .number ≡ 20 → ⊥
-end-taken s u o e =
-    let zero-is : endOf s .number ≡ 0 = ap (λ (o : Outcome). o .number) (end-going s (not-true (s .ended) o)) in
+end-taken s u o e = let zero-is : endOf s .number ≡ 0 = ap (λ (o : Outcome). o .number) (end-going s (not-true (s .ended) o)) in
     omega arith
 
 -- ---- over lists
@@ -97,8 +95,7 @@ after-pushes : (w : ℕ) (ps : List Push)
 after-pushes w ps = pushes-follow mulAddSteps mulAddWhole Goes isOpen follows w [] (startMulAdd w) ps refl
 
 given : (s : RunningMulAdd) → Held s → isOpen s ≡ true → Given mulAddSteps mulAddWhole (λ s. s) s
-given s h o =
-    let n : ℕ = s .position in
+given s h o = let n : ℕ = s .position in
     let at : positionOf (length (flatten (map (mulAddWhole .chunk) (replicate n one)))) ≡ n =
     omega (arith, length-ones (mulAddWhole .chunk) one refl n, h) in
     record {
@@ -124,8 +121,7 @@ module _ (w : ℕ) (buffer : List ℕ) (h : length buffer < lendLimit) where
       → pushedInto s cs now ≡ mulAdd w (m ++ flatten cs) buffer
   unfolding flatten
   pushed-into m s [] now g e = e ∙ ap (λ (l : List ℕ). mulAdd w l buffer) (sym (append-nil m))
-  pushed-into m s (c ∷ cs) now g e =
-      let r = goes-on w m c now (omega (arith, ap length e, length-mulAdd w m buffer)) g in
+  pushed-into m s (c ∷ cs) now g e = let r = goes-on w m c now (omega (arith, ap length e, length-mulAdd w m buffer)) g in
       let next = ap (λ (r : Outcome × List ℕ). r .1) r ∙ ap (mulAddAt w (length m) c) e ∙ at-next w m c buffer in
       pushed-into (m ++ c) (pushOf s c now .0 .next) cs (pushOf s c now .1) (ap (λ (r : Outcome × List ℕ). r .0 .next) r) next
       ∙ ap (λ (l : List ℕ). mulAdd w l buffer) (append-assoc m c (flatten cs))

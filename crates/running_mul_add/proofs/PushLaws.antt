@@ -37,8 +37,7 @@ module _ (w p : ℕ) (fragment buffer : List ℕ) where
   pub at-part : {last : List ℕ} → last ≡ mulAdd w fragment (take (length buffer - p) (drop p buffer))
       → take p buffer ++ (last ++ drop (length buffer - p) (drop p buffer)) ≡ mulAddAt w p fragment buffer
   unfolding mulAddAt
-  at-part {last} e =
-      let k : ℕ = length buffer - p in
+  at-part {last} e = let k : ℕ = length buffer - p in
       let none : drop k (drop p buffer) ≡ [] = drop-of-length-le (drop p buffer) {i = k} (omega (arith, length-drop p buffer)) in
       ap (λ (l : List ℕ). take p buffer ++ l)
       (ap (λ (l : List ℕ). last ++ l) none ∙ append-nil last ∙ e ∙ ap (mulAdd w fragment) (part-to-end buffer p))

@@ -53,8 +53,7 @@ list-same : (m s : List ℕ) → take (listSizeOf (m ++ s)) (drop 96 m) ≡ list
 list-same m s = by (order (length m) 96)
   where
     by : (length m < 96) ⊎ (96 ≤ length m) → take (listSizeOf (m ++ s)) (drop 96 m) ≡ listOf m
-    by (inl h) =
-        let none : drop 96 m ≡ [] = drop-of-length-le m {i = 96} (omega arith) in
+    by (inl h) = let none : drop 96 m ≡ [] = drop-of-length-le m {i = 96} (omega arith) in
         ap (take (listSizeOf (m ++ s))) none ∙ take-nil (listSizeOf (m ++ s)) ∙ sym (ap (take (listSizeOf m)) none ∙ take-nil (listSizeOf m))
     by (inr h) = ap (λ (k : ℕ). take k (drop 96 m)) (leAt-append 8 m s 72 (omega arith))
 
@@ -63,8 +62,7 @@ abbrev listPart : ℕ → List ℕ → List ℕ → List ℕ
 listPart size m s = take (size - (length m - 96)) (drop (96 - length m) s)
 
 list-append : (m s : List ℕ) → listOf m ++ listPart (listSizeOf (m ++ s)) m s ≡ listOf (m ++ s)
-list-append m s =
-    let size : ℕ = listSizeOf (m ++ s) in
+list-append m s = let size : ℕ = listSizeOf (m ++ s) in
     let rest : List ℕ = drop (96 - length m) s in
     ap₂ (λ (l : List ℕ) (k : ℕ). l ++ take (size - k) rest) (sym (list-same m s)) (sym (length-drop 96 m))
     ∙ sym (take-row size (drop 96 m) rest) ∙ ap (take size) (sym (drop-row 96 m s))
@@ -90,8 +88,7 @@ has-room sc n a b c = simp (lt-ltb _ _ a, lt-ltb _ _ b, lt-ltb _ _ c)
 
 module _ (m s : List ℕ) (short : length m + length s < 2 ^ 58) where
   scan-more : (l : List ℕ) → length l ≤ length s → scan.pushed (scanned scanStart (listOf m)) l ≡ scanned (scanned scanStart (listOf m)) l
-  scan-more l few =
-      let listed = length-list m in
+  scan-more l few = let listed = length-list m in
       let c = counted (listOf m) (omega arith) in
       pushed-room (scanned scanStart (listOf m)) l
       (has-room (scanned scanStart (listOf m)) (length l) (omega (arith, c .within)) (omega (arith, c .within))
@@ -99,8 +96,7 @@ module _ (m s : List ℕ) (short : length m + length s < 2 ^ 58) where
 
   list-more : scan.pushed (scanned scanStart (listOf m)) (listPart (listSizeOf (sets (headerOf m) (length m) s)) m s)
       ≡ scanned scanStart (listOf (m ++ s))
-  list-more =
-      let size : ℕ = listSizeOf (m ++ s) in
+  list-more = let size : ℕ = listSizeOf (m ++ s) in
       let rest : List ℕ = drop (96 - length m) s in
       let kept = ap (λ (h : List ℕ). listPart (listSizeOf h) m s) (header-more m s) ∙ size-same m s in
       ap (scan.pushed (scanned scanStart (listOf m))) kept
@@ -116,7 +112,6 @@ cap-small = omega arith
 
 pub after-push : (m bs : List ℕ) → length m ≤ cap → pushOf (jobAfter m) bs ≡ jobAfter (m ++ take (cap - length m) bs)
 unfolding pushOf jobAfter
-after-push m bs h =
-    let s : List ℕ = take (cap - length m) bs in
+after-push m bs h = let s : List ℕ = take (cap - length m) bs in
     let short : length m + length s < 2 ^ 58 = omega (arith, cap-small, length-take (cap - length m) bs) in
     same-job (sym (length-append m s)) (header-more m s) (control-more m s short) (list-more m s short)

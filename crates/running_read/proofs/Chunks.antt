@@ -44,8 +44,7 @@ use Rattle.running_read.proofs.Witness.{Gives, given}
 
 after-counts : (m : List ℕ) → length m ≤ cap → Open (countsOf (jobAfter m))
 unfolding countsOf jobAfter stateOf
-after-counts m h =
-    let few = length-list m in
+after-counts m h = let few = length-list m in
     let small = cap-small in
     let c = counted (listOf m) (omega arith) in
     record {
@@ -72,8 +71,7 @@ abbrev goesOn : RunningRead → Bool
 goesOn j = isOpen (countsOf j)
 
 row-more : (n : ℕ) (m bs : List ℕ) → take n m ++ take (n - length (take n m)) bs ≡ take n (m ++ bs)
-row-more n m bs =
-    let left : n - length (take n m) ≡ n - length m = omega (arith, length-take n m) in
+row-more n m bs = let left : n - length (take n m) ≡ n - length m = omega (arith, length-take n m) in
     ap (λ (k : ℕ). take n m ++ take k bs) left ∙ sym (take-row n m bs)
 
 pub pushed-more : (m bs : List ℕ) → pushAnswer (jobAfter (take cap m)) bs ≡ record { number = 0; next = jobAfter (take cap (m ++ bs)) }
@@ -93,8 +91,7 @@ unfolding isOpen countsOf overOf
 over-shut j = refl
 
 push-taken : (j : RunningRead) (bs : List ℕ) → goesOn j ≡ true → pushAnswer j bs .number ≡ 20 → ⊥
-push-taken j bs o e =
-    let zero-is : pushAnswer j bs .number ≡ 0 = ap (λ (q : Pushed). q .number) (push-open j bs o) in
+push-taken j bs o e = let zero-is : pushAnswer j bs .number ≡ 0 = ap (λ (q : Pushed). q .number) (push-open j bs o) in
     omega arith
 
 end-taken : (j : RunningRead) → goesOn j ≡ true → readingRefusal (endAnswer j .reading) .number ≡ 20 → ⊥
@@ -160,16 +157,14 @@ pub record Reached (j : RunningRead) (m : List ℕ) : Type 0 where
   pub same : counts (jobAfter m) ≡ counts j
 
 pub open-reached : (j : RunningRead) → isOpen (countsOf j) ≡ true → (m : List ℕ) × Reached j m
-open-reached j e =
-    let o = open-tells (countsOf j) e in
+open-reached j e = let o = open-tells (countsOf j) e in
     let g = given (countsOf j) o in
     let same = claimed (jobAfter (g .0)) j (gives-counts (countsOf j) o (g .0) (g .1)) in
     (g .0, record { are-bytes = g .1 .are-bytes; short = omega (arith, g .1 .length-is, o .short); same = same })
 
 open-given : (j : RunningRead) → isOpen (countsOf j) ≡ true → Given readSteps readWhole counts j
 unfolding flatten
-open-given j e =
-    let g = open-reached j e in
+open-given j e = let g = open-reached j e in
     let m : List ℕ = g .0 in
     let all : take cap (m ++ []) ≡ m = ap (take cap) (append-nil m) ∙ take-all cap m (g .1 .short) in
     let few : length m < lendLimit = omega (arith, g .1 .short, cap-small) in

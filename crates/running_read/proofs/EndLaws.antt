@@ -59,8 +59,7 @@ kept-header : (m digest set : List ℕ) (w : Walked) → readFrom (headerOf m) (
 kept-header m digest set w = by (order (length m) 96)
   where
     by : (length m < 96) ⊎ (96 ≤ length m) → readFrom (headerOf m) (length m) digest set w ≡ readFrom m (length m) digest set w
-    by (inl h) =
-        let short = too-short (length m) h in
+    by (inl h) = let short = too-short (length m) h in
         length-refused (headerOf m) (length m) digest set w short ∙ sym (length-refused m (length m) digest set w short)
     by (inr h) = ap (λ (l : List ℕ). readFrom l (length m) digest set w) (header-full m h) ∙ header-alone m (length m) digest set w
 
@@ -69,8 +68,7 @@ parts-same h n p q r = cc
 
 pub after-end : (m : List ℕ) → length m ≤ cap → readingOf (jobAfter m) ≡ readOf m
 unfolding readingOf jobAfter readOf
-after-end m h =
-    let few = length-list m in
+after-end m h = let few = length-list m in
     let small = cap-small in
     parts-same (headerOf m) (length m) (finish-state (drop 32 m)) (scan-set-hash (listOf m)) (found-walk (listOf m) (omega arith))
     ∙ kept-header m (controlHash m) (setHash (entriesIn m)) (walkOf (listOf m))
@@ -107,8 +105,7 @@ found-within sc n h r e = by (sc .at) e
 
     by : (k : ℕ) → ifZero k (walked.Entries (sc .totals)) (walked.Refused (refusalAt f place)) ≡ walked.Refused r → Within (n + 1) r
     by zero e = absurd (let z : _≡_ {A = ℕ} 0 1 = cc in omega arith)
-    by (suc k) e =
-        let is : refusalAt f place ≡ r = cc in
+    by (suc k) e = let is : refusalAt f place ≡ r = cc in
         subst (Within (n + 1)) is (record { number-most = omega (arith, fault-range f .1); place-most = omega arith })
 
 from-tells : (head : List ℕ) (n : ℕ) (digest set : List ℕ) (w : Walked) {r : Refusal} → readFrom head n digest set w ≡ Refused r

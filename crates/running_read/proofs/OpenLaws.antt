@@ -30,8 +30,7 @@ pub record Open (c : Counts) : Type 0 where
 module _ (c : Counts) where
   pub open-tells : isOpen c ≡ true → Open c
   unfolding isOpen
-  open-tells e =
-      let one = and-both (not (c .ended)) _ e in
+  open-tells e = let one = and-both (not (c .ended)) _ e in
       let two = and-both (leb (c .total) cap) _ (one .1) in
       let three = and-both (eqb (c .control) (c .total - 32)) _ (two .1) in
       let four = and-both (leb (c .at + 58 * c .entries) (c .total - 96)) _ (three .1) in

@@ -52,8 +52,7 @@ header-more m s = sym (sets-append (replicate 96 0) 0 m s ∙ ap (λ (k : ℕ). 
 
 module _ (m : List ℕ) (long : 96 ≤ length m) where
   pub header-full : headerOf m ≡ take 96 m
-  header-full =
-      let zeros : List ℕ = replicate 96 0 in
+  header-full = let zeros : List ℕ = replicate 96 0 in
       let size : length zeros ≡ 96 = length-replicate {A = ℕ} 96 0 in
       let front : length (take 96 m) ≡ 96 = length-take-le 96 m long in
       sym (sets-fitting zeros m 0 96 (omega arith)) ∙ sets-over zeros (take 96 m) (omega arith)

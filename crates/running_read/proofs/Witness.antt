@@ -68,8 +68,7 @@ pub record Gives (c : Counts) (m : List ℕ) : Type 0 where
   pub list-is : ListCounts (scanned scanStart (listOf m)) (c .at) (c .entries) (c .saved)
 
 listed : (m : List ℕ) {a n s : ℕ} → listOf m ≡ listWith a n s → s ≤ n → ListCounts (scanned scanStart (listOf m)) a n s
-listed m {a} {n} {s} e h =
-    let c = list-counts a n s h in
+listed m {a} {n} {s} e h = let c = list-counts a n s h in
     let scan = ap (scanned scanStart) e in
     record {
       at-is = ap (λ (k : Scan). k .at) scan ∙ c .at-is;
@@ -87,8 +86,7 @@ no-list m h = ap (take (listSizeOf m)) (drop-of-length-le m {i = 96} (omega arit
 module _ (c : Counts) (o : Open c) where
   -- zeros, where no list has begun
   short-file : c .total < 96 → Gives c (replicate (c .total) 0)
-  short-file h =
-      let size : length (replicate {A = ℕ} (c .total) 0) ≡ c .total = length-replicate {A = ℕ} (c .total) 0 in
+  short-file h = let size : length (replicate {A = ℕ} (c .total) 0) ≡ c .total = length-replicate {A = ℕ} (c .total) 0 in
       let empty : listWith (c .at) (c .entries) (c .saved) ≡ [] =
       empty-list (omega (arith, o .within)) (omega (arith, o .within)) (omega (arith, o .within, o .some)) in
       record {
@@ -104,8 +102,7 @@ module _ (c : Counts) (o : Open c) where
   fileOf = fileWith listSize (listWith (c .at) (c .entries) (c .saved)) (replicate (c .total - 96 - listSize) 0)
 
   long-file : 96 ≤ c .total → Gives c fileOf
-  long-file h =
-      let l : List ℕ = listWith (c .at) (c .entries) (c .saved) in
+  long-file h = let l : List ℕ = listWith (c .at) (c .entries) (c .saved) in
       let z : List ℕ = replicate (c .total - 96 - listSize) 0 in
       let fits : listSize < 256 ^ 8 = omega (arith, o .within, o .short, cap-small) in
       let is : length l ≡ listSize = length-list (c .at) (c .entries) (c .saved) (o .some) in

@@ -74,8 +74,7 @@ abbrev now : State
 now = stateAfter Cauchy p6 calls
 
 some-run : (s : Inventory) × Reached Cauchy p6 calls s
-some-run =
-    let (rs, s, run) = answered (openStep Cauchy 2 (listedSizes p6) .next) calls in
+some-run = let (rs, s, run) = answered (openStep Cauchy 2 (listedSizes p6) .next) calls in
     (s, record { accepted = set-opened Cauchy p6 p6-set (omega arith) (omega arith); replies = rs; run = run })
 
 as-many : nonemptyMissing (after (opened Cauchy 2 (sizeIn (2 ∷ 1 ∷ []))) calls) ≤ volumesPresent (after (opened Cauchy 2 (sizeIn (2 ∷ 1 ∷ []))) calls)
@@ -166,8 +165,7 @@ pub file-back : (s : Inventory) × Reached Cauchy p6 calls s
     × Once (present now) (1 ∷ 3 ∷ [])
     × (b : List ℕ) × AddsAll (place (take 255 room′)) fragment (1 ∷ 3 ∷ []) (replicate (sizeIn (listedSizes p6) 2) 0) b
     × (Recovered p6 now 2 b × (b ≡ 3 ∷ []))
-file-back =
-    let (s, reached) = some-run in
+file-back = let (s, reached) = some-run in
     let (room′, e, did) = asked s reached in
     let adds = all-given (place (take 255 room′)) fragment (1 ∷ 3 ∷ []) (replicate (sizeIn (listedSizes p6) 2) 0) in
     let back = set-recovered Cauchy p6 p6-set calls s reached 2 room room′ e did fragment fragments (1 ∷ 3 ∷ []) both-once _ adds in

@@ -103,6 +103,5 @@ set-opened code fs right low high =
     sizes = listedSizes fs
 
     allowed : (i : ℕ) → i < n → leb (getD sizes i 0) maxFileSize ≡ true
-    allowed i l =
-        let at : suc i - 1 ≡ i = omega arith in
+    allowed i l = let at : suc i - 1 ≡ i = omega arith in
         subst (λ (k : ℕ). leb (getD sizes k 0) maxFileSize ≡ true) at (le-leb _ _ (size-small right (suc i) (oneTo-in n (suc i) (omega arith) l)))

@@ -55,8 +55,7 @@ data-at code v fs p = elim (decLt p (dataSizeFor fs)) [
 
 -- what reading says of where the data lies
 data-read : (f : List ℕ) (p : Parts) → readOf f ≡ Accepted p → take (p .«data_size») (drop (p .«data_start») f) ≡ dataOf f
-data-read f p e =
-    let told = read-tells f p e in
+data-read f p e = let told = read-tells f p e in
     let layout = told .tests .header .layout in
     ap (λ (q : Parts). take (q .«data_size») (drop (q .«data_start») f)) (told .parts-are)
     ∙ ap (λ (n : ℕ). take (dataSizeOf f) (drop n f)) (layout .data-start)

@@ -155,23 +155,20 @@ module _ (nonempty present files : List ℕ) (width : ℕ) (C : IsColumns nonemp
 
   module _ (c at : ℕ) (h : at ≡ firstBelow width (λ p. eqb (getD files p 0) (suc c))) where
     pub placed : at < width → (column c ≡ true) × (columnsBelow nonempty present c ≡ at)
-    placed l =
-        let F = first-is width (λ p. eqb (getD files p 0) (suc c)) in
+    placed l = let F = first-is width (λ p. eqb (getD files p 0) (suc c)) in
         let e : getD files at 0 ≡ suc c = eqb-true _ _ (subst (λ (k : ℕ). eqb (getD files k 0) (suc c) ≡ true) (sym h) (F .found (subst (λ (k : ℕ). k < width) h l))) in
         of-column e (before-onto column 255 at (subst (λ (n : ℕ). at < n) (C .counted) l))
       where
         of-column : getD files at 0 ≡ suc c → (i : ℕ) × (i < 255) × (column i ≡ true) × (columnsBelow nonempty present i ≡ at)
             → (column c ≡ true) × (columnsBelow nonempty present c ≡ at)
-        of-column e (i, l, t, z) =
-            let same : i ≡ c = suc-inj (sym (C .each i t) ∙ ap (λ (k : ℕ). getD files k 0) z ∙ e) in
+        of-column e (i, l, t, z) = let same : i ≡ c = suc-inj (sym (C .each i t) ∙ ap (λ (k : ℕ). getD files k 0) z ∙ e) in
             (ap column (sym same) ∙ t, ap (columnsBelow nonempty present) (sym same) ∙ z)
 
     pub unplaced : width ≤ at → column c ≡ false
     unplaced l = go (column c) refl
       where
         go : (b : Bool) → column c ≡ b → column c ≡ false
-        go true e =
-            let F = first-is width (λ p. eqb (getD files p 0) (suc c)) in
+        go true e = let F = first-is width (λ p. eqb (getD files p 0) (suc c)) in
             let b = place-inside c e in
             absurd (true≢false (sym (eq-eqb _ _ (C .each c e)) ∙ F .before (columnsBelow nonempty present c) (omega (arith, h))))
         go false e = e

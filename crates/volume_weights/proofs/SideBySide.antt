@@ -109,8 +109,7 @@ module _ (column : ℕ → Bool) where
   pub filled-more : (m width : ℕ) (files : List ℕ) (n : ℕ) → Filled m width files → m < 255 → n ≡ cond (column m) 1 0
       → Filled (m + 1) (width + n) (set files width (m + 1))
   unfolding sizeBelow
-  filled-more m width files n f l e =
-      let inside = before-le m in
+  filled-more m width files n f l e = let inside = before-le m in
       let here = f .counted in
       let long = f .full in record {
         full = length-set files width (m + 1) ∙ f .full;

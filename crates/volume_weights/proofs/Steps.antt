@@ -97,16 +97,14 @@ module _ (rule : ℕ → ℕ → ℕ) (small : (f v : ℕ) → f < 256 → rule 
 
     pub solved-by : (found : Bool) (ws : List ℕ) → found ≡ isSolvable m owners i → found ≡ true → ws ≡ listBelow 256 (weightOf m owners i)
         → Solved rule nonempty present volumes rows i ws found
-    solved-by found ws e y w =
-        let h = sym e ∙ y in
+    solved-by found ws e y w = let h = sym e ∙ y in
         subst (Solved rule nonempty present volumes rows i ws) (sym y)
         (solved weights (solvable-solution table m owners rows X i inside h)
         (λ v l. ap (λ (l : List ℕ). getD l v 0) w ∙ listBelow-at 256 (weightOf m owners i) v l ∙ weight-at h v))
 
     pub unsolved-by : (found : Bool) → found ≡ isSolvable m owners i → found ≡ false
         → Solved rule nonempty present volumes rows i (replicate 256 0) found
-    unsolved-by found e y =
-        let kernel = unsolvable-kernel table m owners rows X i inside (sym e ∙ y) in
+    unsolved-by found e y = let kernel = unsolvable-kernel table m owners rows X i inside (sym e ∙ y) in
         subst (Solved rule nonempty present volumes rows i (replicate 256 0)) (sym y) (unsolved (kernel .0) (kernel .1) refl)
 
 -- ---- the columns side by side
@@ -162,8 +160,7 @@ module _ (rule : ℕ → ℕ → ℕ) (files volumes : List ℕ) (width : ℕ) (
 pub packed-start : (nonempty present files : List ℕ) (width : ℕ) → IsColumns nonempty present files width
     → (identity : List ℕ) → identity ≡ withDiagonal 256 (replicate 65536 0) → Apart (inBlocks width) identity
 unfolding inBlocks
-packed-start nonempty present files width C identity e =
-    let b = columns-byte nonempty present files width C in
+packed-start nonempty present files width C identity e = let b = columns-byte nonempty present files width C in
     subst (Apart (inBlocks width)) (sym e) (start-apart (inBlocks width) (omega arith))
 
 -- what the elimination of the columns side by side answers for a column that stands there
@@ -173,8 +170,7 @@ module _ (rule : ℕ → ℕ → ℕ) (small : (f v : ℕ) → f < 256 → rule 
     (d : identity ≡ withDiagonal 256 (replicate 65536 0))
     (e : (m, owners) ≡ volumesAdded (renumbered rule files) (numbersTo width) (replicate 4 0) volumes rows (identity, replicate 256 0)) where
   at-byte : at < 256
-  at-byte =
-      let b = columns-byte nonempty present files width C in
+  at-byte = let b = columns-byte nonempty present files width C in
       let l = place-inside nonempty present files width C column t in
       omega arith
 
@@ -226,8 +222,7 @@ module _ (rule : ℕ → ℕ → ℕ) (present ws : List ℕ) where
   pub weighted-more : (v : ℕ) (sums sums′ : List ℕ) → Weighted v sums
       → sums′ ≡ mulAdd (getD ws (v + 1) 0) (rowOf rule present (replicate 4 0) (v + 1)) sums → Weighted (v + 1) sums′
   unfolding fileWeight sumBelow
-  weighted-more v sums sums′ w e =
-      let k = add-one v in
+  weighted-more v sums sums′ w e = let k = add-one v in
       record {
         full = ap length e ∙ length-mulAdd _ _ sums ∙ w .full;
         each = λ i l.

@@ -87,8 +87,7 @@ module _ (t : State) (fits : t .n ≤ 254) (l : List ℕ) (columns : (g : ℕ) �
 
 pub chosen-used : (t : State) → t .n ≤ 254 → (l : List ℕ) (s : ℕ) → usedBy t l s ≡ true → Used coefficient t (suc s)
 unfolding usedBy
-chosen-used t fits l s h =
-    let at = every-at _ h in
+chosen-used t fits l s h = let at = every-at _ h in
     lower-used t fits l (each-listed (column t) l (at 0)) s (ltb-true s (255 - t .n) (at 1)) (at 2)
     (not-true (cancelsAt (t .n) l (suc s)) (at 3))
     (λ r b e.

@@ -51,8 +51,7 @@ module _ (rule : ℕ → ℕ → ℕ) (small : (f v : ℕ) → f < 256 → rule 
     term s i e = go (t .volumes (suc s)) refl
       where
         go : (b : Bool) → t .volumes (suc s) ≡ b → (w s ⊗ matrix s i) .0 ≡ product (w s .0) (rule (suc i) (suc s))
-        go true h =
-            let l = in-file i e in
+        go true h = let l = in-file i e in
             ap (λ (x : Byte). (w s ⊗ x) .0) (R.matrix-present rule small t fits s i h e)
             ∙ ap (product (w s .0)) (R.coef-value rule small t fits i s (omega arith))
         go false h =
@@ -67,8 +66,7 @@ module _ (rule : ℕ → ℕ → ℕ) (small : (f v : ℕ) → f < 256 → rule 
         ∙ go (inColumn i) refl
       where
         go : (b : Bool) → inColumn i ≡ b → sum K m (λ s. w s ⊗ matrix s i) ≡ δ K f i
-        go true e =
-            let both = and-both (isFile (t .n) (suc i)) (column t (suc i)) e in
+        go true e = let both = and-both (isFile (t .n) (suc i)) (column t (suc i)) e in
             byte-eq (sum K m (λ s. w s ⊗ matrix s i)) (δ K f i)
             (sum-value m (λ s. w s ⊗ matrix s i)
             ∙ sumBelow-same m (λ s. (w s ⊗ matrix s i) .0) (λ s. product (w s .0) (rule (suc i) (suc s))) (λ s l. term s i e)
@@ -110,8 +108,7 @@ module _ (rule : ℕ → ℕ → ℕ) (small : (f v : ℕ) → f < 256 → rule 
         go true e =
             ap (λ (y : Byte). (y ⊗ x i) .0) (R.matrix-present rule small t fits s i h e)
             ∙ ap (λ (y : ℕ). product y (x i .0)) (R.coef-value rule small t fits i s (omega arith))
-        go false e =
-            let z = off i l (sym (R.inColumn-file rule small t fits i l) ∙ e) in
+        go false e = let z = off i l (sym (R.inColumn-file rule small t fits i l) ∙ e) in
             ap (λ (y : Byte). (matrix s i ⊗ y) .0) z ∙ product-zero-r (matrix s i .0)
             ∙ sym (product-zero-r (rule (suc i) (suc s)))
             ∙ ap (λ (y : Byte). product (rule (suc i) (suc s)) (y .0)) (sym z)

@@ -35,8 +35,7 @@ unfolding same
 same-equal [] [] h = refl
 same-equal [] (b ∷ m) h = absurd (false≢true h)
 same-equal (a ∷ l) [] h = absurd (false≢true h)
-same-equal (a ∷ l) (b ∷ m) h =
-    let both = and-both (eqb a b) (same l m) h in
+same-equal (a ∷ l) (b ∷ m) h = let both = and-both (eqb a b) (same l m) h in
     ap₂ (λ (x : ℕ) (k : List ℕ). x ∷ k) (eqb-true a b (both .0)) (same-equal l m (both .1))
 
 -- ---- the test of a row

@@ -130,8 +130,7 @@ module _ (n : ℕ) (missing volumes : List ℕ) where
       → Recoverable coefficient (stateOf Powers n size missing volumes) f
   unfolding solves
   recoverable-by zero c h size full = absurd (false≢true h)
-  recoverable-by (suc f) c h size full =
-      let at = every-at _ h in
+  recoverable-by (suc f) c h size full = let at = every-at _ h in
       by-weights n (leb-true n 254 (at 0)) missing volumes (at 1) size full f (at 2) c (leb-true (length c) (255 - n) (at 3)) (at 4)
       (at 5)
 
@@ -139,6 +138,5 @@ module _ (n : ℕ) (missing volumes : List ℕ) where
       → ¬ Recoverable coefficient (stateOf Powers n size missing volumes) f
   unfolding cancels
   undetermined-by zero l h size full = absurd (false≢true h)
-  undetermined-by (suc f) l h size full =
-      let at = every-at _ h in
+  undetermined-by (suc f) l h size full = let at = every-at _ h in
       by-files n (leb-true n 254 (at 0)) missing volumes (at 1) size full f l (at 2) (at 3) (at 4)

@@ -72,8 +72,7 @@ module _ (t : State) (f : ℕ) (start : List ℕ) where
 
   module _ (n-fits : t .n ≤ length start) (fits : length start ≤ 255) where
     past-start : (p : ℕ) → length start ≤ p → getD w p 0 ≡ 0
-    past-start p l =
-        let e : p ≡ length start + (p - length start) = omega arith in
+    past-start p l = let e : p ≡ length start + (p - length start) = omega arith in
         ap (λ (k : ℕ). getD w k 0) e
         ∙ getD-append-add start (replicate (255 - length start) 0) (p - length start) 0
         ∙ zeros-at (255 - length start) (p - length start)
@@ -135,8 +134,7 @@ module _ (t : State) (f : ℕ) (start : List ℕ) where
 
   pub stated-weights : (ls : List (List ℕ)) → statedBy ls ≡ true → IsWeights coefficient t f w
   unfolding statedBy
-  stated-weights ls h =
-      let at = every-at _ h in
+  stated-weights ls h = let at = every-at _ h in
       let above = ltb-true (t .n) (length start) (at 0) in
       let below = leb-true (length start) 255 (at 1) in
       by-tests (omega arith) below (at 2) (at 3)

@@ -29,8 +29,7 @@ allListed test (k ∷ l) = test k && allListed test l
 
 pub each-listed : (test : ℕ → Bool) (l : List ℕ) → allListed test l ≡ true → (k : ℕ) → listed k l ≡ true → test k ≡ true
 each-listed test [] h k e = absurd (false≢true e)
-each-listed test (j ∷ l) h k e =
-    let both = and-both (test j) (allListed test l) h in
+each-listed test (j ∷ l) h k e = let both = and-both (test j) (allListed test l) h in
     elim (ℕ-discrete k j) [
       | yes q ↦ ap test q ∙ both .0
       | no q ↦ each-listed test l (both .1) k (sym (ap (λ (b : Bool). b || listed k l) (ne-eqb k j q)) ∙ e)

@@ -11,8 +11,7 @@ use Rattle.answer_bytes.proofs.bytes_of_parts.Tie as tie
 
 returns : tie.Need-returns
 unfolding partsBytes numbers toLe
-returns c =
-    let told = c .before .before .before .before .before in
+returns c = let told = c .before .before .before .before .before in
     let p = told .before .args .parts in
     c .before .write-numbers .ensures
     ∙ ap

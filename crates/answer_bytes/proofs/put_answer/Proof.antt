@@ -11,8 +11,7 @@ returns c = rw (c .before .answer .given .1)
 
 returns-2 : tie.Need-returns-2
 unfolding byteInto
-returns-2 c =
-    let w = c .before .before in
+returns-2 c = let w = c .before .before in
     rw (w .before .before .before .before .answer2 .given .1) (w .write .ensures)
 
 pub put-answer-spec : {M : Type 1} → statement M

@@ -7,14 +7,12 @@ use Rattle.answer_bytes.proofs.put_entry.Tie as tie
 
 returns : tie.Need-returns
 unfolding entryInto
-returns c =
-    let w = c .before .before in
+returns c = let w = c .before .before in
     rw (w .before .before .before .item .given .1) (w .put-numbers .ensures)
 
 returns-2 : tie.Need-returns-2
 unfolding entryInto
-returns-2 c =
-    let w = c .before .before in
+returns-2 c = let w = c .before .before in
     rw (w .before .before .enum-told .given .1) (w .put-numbers2 .ensures)
 
 returns-3 : tie.Need-returns-3

@@ -13,8 +13,7 @@ use Rattle.answer_bytes.proofs.put_numbers.Tie as tie
 
 returns : tie.Need-returns
 unfolding entryNumbers numbers toLe
-returns c =
-    let w = c .before .before in
+returns c = let w = c .before .before in
     let n = w .before .before .before .before in
     let out : List ℕ = now (n .before .before .before .before .args .out) in
     w .write .ensures ∙ ap (λ (l : List ℕ). withNumber (written l out)) (n .write-numbers .ensures)

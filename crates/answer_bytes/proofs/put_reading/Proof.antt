@@ -17,8 +17,7 @@ returns c = rw (c .before .reading .given .1)
 
 returns-2 : tie.Need-returns-2
 unfolding readInto
-returns-2 c =
-    let w = c .before .before .before in
+returns-2 c = let w = c .before .before .before in
     let b = w .before .before .before in
     let out : List ℕ = now (b .before .before .before .before .before .args .out) in
     rw (c .bare .ensures, b .before .before .reading2 .given .1)

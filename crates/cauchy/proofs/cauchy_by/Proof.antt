@@ -12,8 +12,7 @@ use Rattle.cauchy.proofs.cauchy_by.Tie as tie
 
 returns : tie.Need-returns
 unfolding cauchyBy
-returns c =
-    let a = c .before .before .args in
+returns c = let a = c .before .before .args in
     let row = c .before .wrapping-sub-u8 .result in
     let is : row ≡ rowPoint (a .volume) = omega (arith, c .before .wrapping-sub-u8 .ensures) in
     c .power-by .ensures ∙ ap (λ (x : ℕ). powerBy (a .powers .now) (a .exponents .now) (bitXor (a .file) x) 254) is

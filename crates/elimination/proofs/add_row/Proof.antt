@@ -9,8 +9,7 @@ use Rattle.elimination.proofs.add_row.Statement.{statement}
 use Rattle.elimination.proofs.add_row.Tie as tie
 
 returns : tie.Need-returns
-returns c =
-    let tested = c .before .before .before in
+returns c = let tested = c .before .before .before in
     let searched = tested .before .pivot in
     let product = tested .before .before .before .before in
     let y = product .row-times in
@@ -20,8 +19,7 @@ returns c =
     (y .ensures .0) (y .ensures .1) (searched .ensures) _ (tested .if1 .taken) (sym (c .before .before .inverse .ensures) ∙ c .enum-told .given .1))
 
 returns-2 : tie.Need-returns-2
-returns-2 c =
-    let told = c .before .before .before .before .before in
+returns-2 c = let told = c .before .before .before .before .before in
     let inverted = told .before .before .before in
     let searched = inverted .before .before in
     let product = searched .before .before .before in
@@ -34,8 +32,7 @@ returns-2 c =
     ∙ ap (λ (n : ℕ). rowAddedWithin n (a .row .now) (a .number) (a .matrix .now) (a .owners .now)) (w .ensures .0)
 
 returns-3 : tie.Need-returns-3
-returns-3 c =
-    let searched = c .before .pivot in
+returns-3 c = let searched = c .before .pivot in
     let product = c .before .before .before .before in
     let y = product .row-times in
     let w = product .before .before .before .before .before .in-blocks in

@@ -26,8 +26,7 @@ unfolding sumBelow
 loop-holds c = (omega arith, refl, λ j l. getD-replicate 256 j 0 0 (omega arith))
 
 loop-again : tie.Need-loop-again Inv-loop μ-loop
-loop-again c =
-    let called = c .before .add-multiple in
+loop-again c = let called = c .before .add-multiple in
     let at-loop = c .before .before .before .before .before .before in
     let l = at-loop .loop in
     let a = at-loop .before .before .args in (
@@ -40,8 +39,7 @@ loop-again c =
 
 returns : tie.Need-returns Inv-loop μ-loop
 unfolding rowProductWithin
-returns c =
-    let l = c .before .loop in
+returns c = let l = c .before .loop in
     let e : l .i ≡ c .before .before .before .args .width = omega arith in
     (l .inv .1, rw e at (l .inv .2))
 

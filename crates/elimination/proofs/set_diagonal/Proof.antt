@@ -19,13 +19,11 @@ unfolding withDiagonal
 loop-holds c = (omega arith, refl)
 
 loop-again : tie.Need-loop-again Inv-loop μ-loop
-loop-again c =
-    let l = c .before .loop in
+loop-again c = let l = c .before .loop in
     (omega arith, diagonal-more (l .i) (c .before .before .args .matrix .now) (l .matrix) (l .inv .1))
 
 returns : tie.Need-returns Inv-loop μ-loop
-returns c =
-    let l = c .before .loop in
+returns c = let l = c .before .loop in
     let e : l .i ≡ 256 = omega arith in
     rw e at (l .inv .1)
 

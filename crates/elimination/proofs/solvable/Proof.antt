@@ -12,8 +12,7 @@ use Rattle.elimination.proofs.solvable.Tie as tie
 
 returns : tie.Need-returns
 unfolding isSolvable
-returns c =
-    let a = c .before .before .before .args in
+returns c = let a = c .before .before .before .args in
     let e : c .before .index .result ≡ a .column = c .before .index .ensures .0 in
     ap (λ (k : ℕ). eqb k 256)
     (c .pivot .ensures ∙ sym (pivot-whole _ (a .owners .now)) ∙ ap (λ (f : ℕ). pivotOf (entry (a .matrix .now) f) (a .owners .now)) e)

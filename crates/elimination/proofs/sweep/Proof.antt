@@ -18,8 +18,7 @@ loop-holds : tie.Need-loop-holds Inv-loop μ-loop
 loop-holds c = (omega arith, swept-none _ _ _ _ _)
 
 loop-again : tie.Need-loop-again Inv-loop μ-loop
-loop-again c =
-    let called = c .before .before .add-multiple in
+loop-again c = let called = c .before .before .add-multiple in
     let x = c .before .before .before .before .before in
     let l = x .before .before .before .loop in
     let s = x .before .before .before .before .before in
@@ -32,8 +31,7 @@ loop-again c =
     )
 
 returns : tie.Need-returns Inv-loop μ-loop
-returns c =
-    let l = c .before .loop in
+returns c = let l = c .before .loop in
     let s = c .before .before .before in
     let a = s .args in
     let e : l .r ≡ a .width = omega arith in

@@ -28,8 +28,7 @@ unfolding sumBelow
 loop-holds c = (omega arith, refl, λ j l. getD-replicate 256 j 0 0 l)
 
 loop-again : tie.Need-loop-again Inv-loop μ-loop
-loop-again c =
-    let l = c .before .before .before .before .loop in
+loop-again c = let l = c .before .before .before .before .loop in
     let f = c .before .before .before .before .before .index .ensures .0 in
     let a = c .before .before .before .before .before .before .args in
     let o = c .before .index2 in (
@@ -42,8 +41,7 @@ loop-again c =
 
 returns : tie.Need-returns Inv-loop μ-loop
 unfolding weightOf
-returns c =
-    let l = c .before .loop in
+returns c = let l = c .before .loop in
     let e : l .k ≡ 256 = omega arith in
     listBelow-is 256 _ _ (l .inv .1) (rw e at (l .inv .2))
 

@@ -16,8 +16,7 @@ returns c = simp (eq-eqb _ _ (c .if1 .taken))
 
 returns-2 : tie.Need-returns-2
 unfolding inverseAnswer
-returns-2 c =
-    let a = c .before .before .args .a in
+returns-2 c = let a = c .before .before .args .a in
     simp (ne-eqb _ _ (c .before .if1 .left))
     (ap Byte (c .power .ensures ∙ sym (inverse-power a (search needs) (omega (arith, c .before .if1 .left)))))
 

@@ -25,8 +25,7 @@ quarantined-length c = search needs
 
 returns : tie.Need-returns
 unfolding inventoryBytes
-returns c =
-    let sixth = c .before in
+returns c = let sixth = c .before in
     let fifth = sixth .before .before .before .before in
     let fourth = fifth .before .before .before .before in
     let third = fourth .before .before .before .before in

@@ -15,14 +15,12 @@ returns : tie.Need-returns
 returns c = c .zeros .ensures ∙ sym (other-length _ (c .before .if1 .taken))
 
 returns-2 : tie.Need-returns-2
-returns-2 c =
-    let read = c .before .before .before in
+returns-2 c = let read = c .before .before .before in
     c .zeros2 .ensures
     ∙ sym (other-number _ (ap isCode (sym (read .read64 .ensures)) ∙ sym (c .before .before .is-code .ensures) ∙ not-true _ (c .before .if2 .taken)))
 
 returns-3 : tie.Need-returns-3
-returns-3 c =
-    let coded = c .before .before .before .before .before .before in
+returns-3 c = let coded = c .before .before .before .before .before .before in
     let read = coded .before .before in
     let b = now (read .before .before .before .args .bytes) in
     let one : isCode (codeIn b) ≡ true =

@@ -26,8 +26,7 @@ slice-aggregate-opened-by c = simp length-take (omega arith)
 
 returns-3 : tie.Need-returns-3
 unfolding openedBy
-returns-3 c =
-    let b = c .before .before .before in
+returns-3 c = let b = c .before .before .before in
     let a = b .before .before .before .args in
     let many : length (take (a .n) (replicate {A = ℕ} 254 0)) ≡ a .n = simp length-take (omega arith) in
     simp (le-leb _ _ (b .before .if1 .left), eq-eqb _ _ (b .if2 .left))

@@ -17,8 +17,7 @@ returns c = rw (c .before .counted .given .1) (count-refused _ _)
 
 returns-2 : tie.Need-returns-2
 unfolding countReply
-returns-2 c =
-    let w = c .before .before in
+returns-2 c = let w = c .before .before in
     let b = w .before .before .before in
     let out : List ℕ = now (b .before .before .before .before .before .args .out) in
     rw (b .before .before .counted2 .given .1)

@@ -30,8 +30,7 @@ part-rest-start : tie.Need-part-rest-start Inv-loop μ-loop
 part-rest-start c = c .before .loop .inv .within
 
 next-run-requires : tie.Need-next-run-requires Inv-loop μ-loop
-next-run-requires c κs =
-    let l = c .before .before .before .loop in
+next-run-requires c κs = let l = c .before .before .before .loop in
     let s = now (c .before .before .before .before .before .before .before .before .before .args .bytes) in
     (omega (arith, ap length (part-to-end s (l .i)), length-drop (l .i) s), l .inv .head-size)
 
@@ -60,20 +59,17 @@ add-at : tie.Need-add-at Inv-loop μ-loop
 add-at c = let run = c .before .before .before .before in omega (arith, ends-at run, run .before .before .before .before .loop .inv .room .at-fits)
 
 added-requires : tie.Need-added-requires Inv-loop μ-loop
-added-requires c κs =
-    let run = c .before .before .before .before .before .before .before .before .before in
+added-requires c κs = let run = c .before .before .before .before .before .before .before .before .before in
     let room = run .before .before .before .before .loop .inv .room in
     let some = run .next-run .ensures .some in
     (omega (arith, ends-at run, some, room .entries-fit), omega (arith, ends-at run, some, room .saved-fit))
 
 loop-less : tie.Need-loop-less Inv-loop μ-loop
-loop-less c =
-    let run = c .before .before .before .before .before .before .before .before .before .before .before .before in
+loop-less c = let run = c .before .before .before .before .before .before .before .before .before .before .before .before in
     omega (arith, ends-at run, run .next-run .ensures .some)
 
 loop-again : tie.Need-loop-again Inv-loop μ-loop
-loop-again c =
-    let tested = c .before .before .before .before in
+loop-again c = let tested = c .before .before .before .before in
     let put = tested .before .before .before .before .before in
     let run = put .before .before .before in
     run-ends _ _ _ (run .before .before .before .before .loop .inv) (run .next-run .ensures) (put .put .ensures)
@@ -83,18 +79,15 @@ sub-low : tie.Need-sub-low Inv-loop μ-loop
 sub-low c = c .before .before .before .before .before .before .before .before .next-run .ensures .some
 
 shared-slice-read-low : tie.Need-shared-slice-read-low Inv-loop μ-loop
-shared-slice-read-low c =
-    let run = c .before .before .before .before .before .before .before .before .before in
+shared-slice-read-low c = let run = c .before .before .before .before .before .before .before .before .before in
     omega (arith, size-is run, run .next-run .ensures .some)
 
 loop-less-2 : tie.Need-loop-less-2 Inv-loop μ-loop
-loop-less-2 c =
-    let run = c .before .before .before .before .before .before .before .before .before in
+loop-less-2 c = let run = c .before .before .before .before .before .before .before .before .before in
     omega (arith, ends-at run, run .next-run .ensures .some)
 
 loop-again-2 : tie.Need-loop-again-2 Inv-loop μ-loop
-loop-again-2 c =
-    let put = c .before .before .before .before .before .before in
+loop-again-2 c = let put = c .before .before .before .before .before .before in
     let run = put .before .before .before in
     run-goes-on _ _ _ (run .before .before .before .before .loop .inv) (run .next-run .ensures) (put .put .ensures)
     (c .before .before .is-whole .ensures) (c .before .if1 .left)

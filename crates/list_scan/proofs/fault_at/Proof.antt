@@ -20,8 +20,7 @@ decided : (c : tie.After-read642)
     → let a = c .before .before .before .before .before .before .args in
     faultAt (now (a .head)) (a .at) ≡ cond (fileSizeAllowed (c .read642 .result)) Name FileSize
 unfolding faultAt
-decided c =
-    let sized = c .before .before in
+decided c = let sized = c .before .before in
     simp (
       sym (sized .before .before .read64 .ensures),
       sym (sized .before .entry-size-allowed .ensures) ∙ not-false _ (sized .if1 .left),

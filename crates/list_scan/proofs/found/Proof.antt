@@ -11,8 +11,7 @@ unfolding foundOf
 returns c = simp (c .if1 .taken)
 
 returns-2 : tie.Need-returns-2
-returns-2 c =
-    let sc = c .before .before .before .before .before .before .before .before .args .scan in
+returns-2 c = let sc = c .before .before .before .before .before .before .before .before .args .scan in
     found-refused sc (c .before .before .before .before .before .if1 .left) (c .before .before .fault-at .ensures)
     (c .before .wrapping-add-u64 .ensures) (c .refusal-at .ensures)
 

@@ -13,14 +13,12 @@ returns c = simp (sym (c .before .sum-fits .ensures) ∙ not-true _ (c .if1 .tak
 
 returns-2 : tie.Need-returns-2
 unfolding hasRoom
-returns-2 c =
-    let first = c .before .before in
+returns-2 c = let first = c .before .before in
     simp (sym (first .before .sum-fits .ensures) ∙ not-false _ (first .if1 .left), sym (c .before .sum-fits2 .ensures) ∙ not-true _ (c .if2 .taken))
 
 returns-3 : tie.Need-returns-3
 unfolding hasRoom
-returns-3 c =
-    let second = c .before in
+returns-3 c = let second = c .before in
     let first = second .before .before in
     simp (
       sym (first .before .sum-fits .ensures) ∙ not-false _ (first .if1 .left),

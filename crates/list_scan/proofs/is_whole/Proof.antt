@@ -17,8 +17,7 @@ returns c = simp (sym (c .before .read64 .ensures), ne-eqb _ _ (c .if1 .taken))
 
 returns-2 : tie.Need-returns-2
 unfolding isWhole
-returns-2 c =
-    let sized = c .before .before in
+returns-2 c = let sized = c .before .before in
     simp
     (sym (sized .before .read64 .ensures), eq-eqb _ _ (sized .if1 .left), sym (c .before .entry-size-allowed .ensures) ∙ not-true _ (c .if2 .taken))
 
@@ -27,8 +26,7 @@ decided : (c : tie.After-read642)
     → let a = c .before .before .before .before .before .before .before .args in
     isWhole (now (a .head)) (a .at) (a .named) ≡ (fileSizeAllowed (c .read642 .result) && nameEnded (a .named) (a .at))
 unfolding isWhole
-decided c =
-    let allowed = c .before .before in
+decided c = let allowed = c .before .before in
     let sized = allowed .before .before in
     simp (
       sym (sized .before .read64 .ensures),

@@ -17,8 +17,7 @@ returns c = simp (not-true (c .before .before .args .named .allowed) (c .if1 .ta
 
 returns-2 : tie.Need-returns-2
 unfolding nameEnded
-returns-2 c =
-    let n = c .before .before .before .before .args .named in
+returns-2 c = let n = c .before .before .before .before .args .named in
     simp (not-false (n .allowed) (c .before .before .if1 .left), not-true (n .dots) (c .if2 .taken))
 
 longer : (n m : ℕ) → ltb n m ≡ not (leb m n)
@@ -29,8 +28,7 @@ longer n m = elim (decLt n m) [
 
 returns-3 : tie.Need-returns-3
 unfolding nameEnded
-returns-3 c =
-    let n = c .before .before .before .before .args .named in
+returns-3 c = let n = c .before .before .before .before .args .named in
     simp (not-false (n .allowed) (c .before .before .if1 .left), not-false (n .dots) (c .if2 .left)) (longer 60 (c .before .before .before .before .args .size))
 
 pub name-ended-spec : {M : Type 1} → statement M

@@ -10,21 +10,18 @@ use Rattle.list_scan.proofs.next_run.Statement.{statement}
 use Rattle.list_scan.proofs.next_run.Tie as tie
 
 returns : tie.Need-returns
-returns c =
-    let start = c .before .before .before in
+returns c = let start = c .before .before .before in
     let a = start .args in
     run-head (now (a .head)) (a .at) (a .low) (a .named) (now (a .rest)) (start .pre .0) (c .before .if1 .taken) (c .lesser .ensures)
 
 returns-2 : tie.Need-returns-2
-returns-2 c =
-    let start = c .before .before .before .before .before in
+returns-2 c = let start = c .before .before .before .before .before in
     let a = start .args in
     run-high (now (a .head)) (a .at) (a .low) (a .named) (now (a .rest)) (start .pre .0) (c .before .before .before .if1 .left)
     (c .before .before .if2 .taken) (c .with-unit .ensures)
 
 returns-3 : tie.Need-returns-3
-returns-3 c =
-    let start = c .before .before .before .before in
+returns-3 c = let start = c .before .before .before .before in
     let a = start .args in
     run-low (now (a .head)) (a .at) (a .low) (a .named) (now (a .rest)) (start .pre .0) (c .before .if2 .left)
 
@@ -35,8 +32,7 @@ slice-aggregate-with-units : tie.Need-slice-aggregate-with-units
 slice-aggregate-with-units c = sym (length-take-le _ _ (c .before .units-to-end .ensures .1))
 
 returns-4 : tie.Need-returns-4
-returns-4 c =
-    let tests = c .before .before .before .before .before in
+returns-4 c = let tests = c .before .before .before .before .before in
     let start = tests .before .before .before .before in
     let a = start .args in
     let n = c .before .before .units-to-end .ensures in

@@ -20,13 +20,11 @@ abbrev μ-loop : tie.MeasureT-loop
 μ-loop a b c d e f g h fragment buffer₀ n p₀ buffer p = n - p
 
 loop-holds : tie.Need-loop-holds Inv-loop μ-loop
-loop-holds c =
-    let a = c .before .before .before .args in
+loop-holds c = let a = c .before .before .before .args in
     (omega arith, addMultiples-none _ (a .fragment .now) (a .buffer .now), refl)
 
 loop-again : tie.Need-loop-again Inv-loop μ-loop
-loop-again c =
-    let at-loop = c .before .before .before .before in
+loop-again c = let at-loop = c .before .before .before .before in
     let l = at-loop .loop in
     let a = at-loop .before .before .before .before .args in (
       omega arith,
@@ -38,8 +36,7 @@ same-length : tie.Need-same-length Inv-loop μ-loop
 same-length c = c .before .loop .inv .2
 
 returns : tie.Need-returns Inv-loop μ-loop
-returns c =
-    let a = c .before .before .before .before .before .args in
+returns c = let a = c .before .before .before .before .before .args in
     let l = c .before .loop in
     l .inv .1 ∙ addMultiples-all _ (a .fragment .now) (a .buffer .now) (l .p) (omega arith)
 

@@ -7,8 +7,7 @@ use Rattle.mul_add.proofs.add_powers.Statement.{statement}
 use Rattle.mul_add.proofs.add_powers.Tie as tie
 
 returns : tie.Need-returns
-returns c =
-    let called = c .before .before in
+returns c = let called = c .before .before in
     let i = called .before .before .before .before .before .before .before .before .before .before in
     let a = i .before .before .before .args in
     eight-in-a-row (a .powers .now) (i .index .result) (a .from) (a .fragment .now) (a .buffer .now) _ (i .index .ensures .0) (called .add-multiples .ensures)

@@ -6,8 +6,7 @@ use Rattle.mul_add.proofs.combine.Statement.{statement}
 use Rattle.mul_add.proofs.combine.Tie as tie
 
 returns : tie.Need-returns
-returns c =
-    let g = c .before in
+returns c = let g = c .before in
     let f = g .before in
     let e = f .before in
     let d = e .before in

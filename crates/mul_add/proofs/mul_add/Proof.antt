@@ -6,8 +6,7 @@ use Rattle.mul_add.proofs.mul_add.Statement.{statement}
 use Rattle.mul_add.proofs.mul_add.Tie as tie
 
 returns : tie.Need-returns
-returns c =
-    let called = c .before .before in
+returns c = let called = c .before .before in
     let t = called .before .before .before .before in
     let a = t .before .before .before .before .args in
     by-tables _ _ (t .before .power-table .ensures) (t .exponent-table .ensures) (a .weight) (search needs) (a .fragment .now) (a .buffer .now) _

@@ -12,8 +12,7 @@ use Rattle.mul_add.proofs.mul_add_by.Statement.{statement}
 use Rattle.mul_add.proofs.mul_add_by.Tie as tie
 
 returns : tie.Need-returns
-returns c =
-    let x = c .before .before in
+returns c = let x = c .before .before in
     let i = x .before .before .before in
     let a = i .before .before .before .before .args in
     by-weight (a .powers .now) (a .exponents .now) (a .weight) (i .index .result) (a .fragment .now) (a .buffer .now) _ (i .index .ensures .0)
@@ -21,8 +20,7 @@ returns c =
 
 returns-2 : tie.Need-returns-2
 unfolding mulAddBy
-returns-2 c =
-    let a = c .before .before .before .args in
+returns-2 c = let a = c .before .before .before .args in
     let added = addMultiples (eightFrom (a .powers .now) (getD (a .exponents .now) (a .weight) 0)) (a .fragment .now) (a .buffer .now) in
     sym (ap (λ (b : Bool). cond b (a .buffer .now) added) (eq-eqb _ _ (c .if1 .left)))
 

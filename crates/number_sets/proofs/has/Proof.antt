@@ -7,8 +7,7 @@ use Rattle.number_sets.proofs.has.Statement.{statement}
 use Rattle.number_sets.proofs.has.Tie as tie
 
 returns : tie.Need-returns
-returns c =
-    let a = c .before .args in
+returns c = let a = c .before .args in
     sym (member-above (a .t1) (a .k) (search needs) (c .if1 .taken))
 
 returns-2 : tie.Need-returns-2

@@ -7,8 +7,7 @@ use Rattle.number_sets.proofs.insert.Statement.{statement}
 use Rattle.number_sets.proofs.insert.Tie as tie
 
 returns : tie.Need-returns
-returns c =
-    let a = c .before .args in
+returns c = let a = c .before .args in
     sym (inserted-above (a .k) (a .t1) (search needs) (c .if1 .taken))
 
 returns-2 : tie.Need-returns-2

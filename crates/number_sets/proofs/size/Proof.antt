@@ -9,8 +9,7 @@ use Rattle.number_sets.proofs.size.Statement.{statement}
 use Rattle.number_sets.proofs.size.Tie as tie
 
 returns : tie.Need-returns
-returns c =
-    let d = c .ones4 .ensures in
+returns c = let d = c .ones4 .ensures in
     let f = c .before .ones3 .ensures in
     let b = c .before .before .ones2 .ensures in
     let a = c .before .before .before .ones .ensures in

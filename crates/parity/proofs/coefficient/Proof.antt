@@ -15,18 +15,15 @@ returns-2 : tie.Need-returns-2
 returns-2 c = sym (answer-volume-zero _ _ _ (c .if2 .taken))
 
 returns-3 : tie.Need-returns-3
-returns-3 c =
-    let a = c .before .before .before .args in
+returns-3 c = let a = c .before .before .before .args in
     sym (answer-sum-above (a .code) (a .file) (a .volume) (omega arith))
 
 returns-4 : tie.Need-returns-4
-returns-4 c =
-    let a = c .before .before .before .before .args in
+returns-4 c = let a = c .before .before .before .before .args in
     sym (answer-sum-above (a .code) (a .file) (a .volume) (omega arith))
 
 returns-5 : tie.Need-returns-5
-returns-5 c =
-    let a = c .before .before .before .before .before .args in
+returns-5 c = let a = c .before .before .before .before .before .args in
     ap Byte (c .coefficient-of .ensures) ∙ sym (answer-in-range (a .code) (a .file) (a .volume) (omega arith) (omega arith) (omega arith))
 
 pub coefficient-spec : {M : Type 1} → statement M

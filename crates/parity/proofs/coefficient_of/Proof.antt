@@ -7,8 +7,7 @@ use Rattle.parity.proofs.coefficient_of.Statement.{statement}
 use Rattle.parity.proofs.coefficient_of.Tie as tie
 
 returns : tie.Need-returns
-returns c =
-    let x = c .before .before .before in
+returns c = let x = c .before .before .before in
     let a = x .before .before .args in
     c .coefficient-by .ensures
     ∙ rule-by-tables _ _ (x .before .power-table .ensures) (x .exponent-table .ensures) (a .code) (a .file) (a .volume) (search needs)

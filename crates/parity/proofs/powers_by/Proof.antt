@@ -10,8 +10,7 @@ use Rattle.parity.proofs.powers_by.Tie as tie
 
 returns : tie.Need-returns
 unfolding coefficientBy powerBy
-returns c =
-    let a = c .before .args in
+returns c = let a = c .before .args in
     sym (ap (coefficientBy Powers (a .powers .now) (a .exponents .now) (a .file)) (c .if1 .taken))
 
 returns-2 : tie.Need-returns-2

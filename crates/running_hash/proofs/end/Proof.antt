@@ -15,8 +15,7 @@ returns : tie.Need-returns
 returns c = let a = c .before .before .before .args in sym (end-over (a .hash) (now (a .out)) (c .if1 .taken))
 
 returns-2 : tie.Need-returns-2
-returns-2 c =
-    let w = c .before .before in
+returns-2 c = let w = c .before .before in
     let f = w .before .before .before in
     let left = f .before .before in
     let a = left .before .before .before .args in

@@ -13,8 +13,7 @@ returns : tie.Need-returns
 returns c = let a = c .before .before .before .args in sym (push-over (a .hash) (now (a .bytes)) (c .if1 .taken))
 
 returns-2 : tie.Need-returns-2
-returns-2 c =
-    let a = c .before .before .before .before .before .args in
+returns-2 c = let a = c .before .before .before .before .before .args in
     ap (λ (s : Md5). outcome 0 (running s)) (c .push .ensures) ∙ sym (push-open (a .hash) (now (a .bytes)) (c .before .before .if1 .left))
 
 pub push-spec : {M : Type 1} → statement M

@@ -11,8 +11,7 @@ returns : tie.Need-returns
 returns c = sym (at-past _ _ _ _ (c .if1 .taken))
 
 returns-2 : tie.Need-returns-2
-returns-2 c =
-    let a = c .before .before .before .before .before .before .before .args in
+returns-2 c = let a = c .before .before .before .before .before .before .before .args in
     at-part (a .weight) (a .at) (now (a .fragment)) (now (a .buffer)) (c .before .before .mul-add .ensures)
 
 pub mul-add-at-spec : {M : Type 1} → statement M

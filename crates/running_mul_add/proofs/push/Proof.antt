@@ -14,8 +14,7 @@ returns c =
     ∙ sym (push-over _ _ _ (c .before .if1 .taken))
 
 returns-2 : tie.Need-returns-2
-returns-2 c =
-    let added = c .before .before .before in
+returns-2 c = let added = c .before .before .before in
     let a = added .before .before .before .before .before .args in
     push-going (a .job) (now (a .fragment)) (now (a .buffer)) (added .before .before .if1 .left) (c .position-after .ensures)
     (added .mul-add-at .ensures)

@@ -13,15 +13,13 @@ use Rattle.running_read.proofs.end.Statement.{statement}
 use Rattle.running_read.proofs.end.Tie as tie
 
 returns : tie.Need-returns
-returns c =
-    let t = c .before .before in
+returns c = let t = c .before .before in
     let j = t .before .before .args .job in
     let shut = tested j (t .before .counts-of .ensures) (t .is-open .ensures) ∙ not-true (t .is-open .result) (c .before .if1 .taken) in
     ap (λ (r : Refusal). record { reading = Refused r; next = j }) (c .bare .ensures) ∙ sym (end-refused j shut)
 
 returns-2 : tie.Need-returns-2
-returns-2 c =
-    let t = c .before .before .before in
+returns-2 c = let t = c .before .before .before in
     let j = t .before .before .args .job in
     let opened = tested j (t .before .counts-of .ensures) (t .is-open .ensures) ∙ not-false (t .is-open .result) (c .before .before .if1 .left) in
     ap₂ (λ (r : Reading) (k : RunningRead). record { reading = r; next = k }) (c .before .reading-of .ensures) (c .over .ensures)

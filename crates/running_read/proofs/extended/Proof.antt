@@ -12,15 +12,13 @@ use Rattle.running_read.proofs.extended.Tie as tie
 
 add-t16 : tie.Need-add-t16
 unfolding cap
-add-t16 c =
-    let part = c .before .before .before .before .before .before .before .before in
+add-t16 c = let part = c .before .before .before .before .before .before .before .before in
     let taken = length-take (part .before .less .result) (now (part .before .before .before .args .bytes)) in
     omega (arith, ap length (part .part .ensures), taken, part .before .less .ensures, part .before .before .before .pre)
 
 returns : tie.Need-returns
 unfolding cap
-returns c =
-    let sized = c .before .before .before .before .before .before in
+returns c = let sized = c .before .before .before .before .before .before in
     let stored = sized .before .before .before in
     let part = stored .before .before .before in
     let start = part .before .before .before in

@@ -12,8 +12,7 @@ use Rattle.running_read.proofs.hashed_in.Statement.{statement}
 use Rattle.running_read.proofs.hashed_in.Tie as tie
 
 returns : tie.Need-returns
-returns c =
-    let a = c .before .before .before .args in
+returns c = let a = c .before .before .before .args in
     let s : List ℕ = now (a .bytes) in
     c .part .ensures ∙ ap (λ (k : ℕ). take (length s) (drop k s)) (c .before .less .ensures)
     ∙ take-all (length s) (drop (32 - a .total) s) (omega (arith, length-drop (32 - a .total) s))

@@ -42,8 +42,7 @@ record Told (c : Counts) : Type 0 where
 told : (c : tie.Else6)
     → Told (c .before .before .before .before .before .before .before .before .before .before .before .before .before .before .args .counts)
 unfolding cap
-told c =
-    let fifth = c .before .before in
+told c = let fifth = c .before .before in
     let fourth = fifth .before .before .before in
     let room = fourth .before .before in
     let third = room .before in

@@ -16,8 +16,7 @@ opened c =
     let t = c .before in tested _ (t .before .counts-of .ensures) (t .is-open .ensures) ∙ not-false (t .is-open .result) (c .if1 .left)
 
 returns : tie.Need-returns
-returns c =
-    let t = c .before in
+returns c = let t = c .before in
     sym (push-refused _ _ (tested _ (t .before .counts-of .ensures) (t .is-open .ensures) ∙ not-true (t .is-open .result) (c .if1 .taken)))
 
 extended-requires : tie.Need-extended-requires

@@ -8,8 +8,7 @@ use Rattle.volume_weights.proofs.add_volume.Statement.{statement}
 use Rattle.volume_weights.proofs.add_volume.Tie as tie
 
 returns : tie.Need-returns
-returns c =
-    let worked = c .before .before .before .before in
+returns c = let worked = c .before .before .before .before in
     let tested = worked .before in
     let e = tested .before .before in
     let a = e .args in
@@ -17,8 +16,7 @@ returns c =
     (c .add-row .ensures) (sym (tested .before .has .ensures) ∙ tested .if1 .taken)
 
 returns-2 : tie.Need-returns-2
-returns-2 c =
-    let a = c .before .before .args in
+returns-2 c = let a = c .before .before .args in
     volume-left (ruleOf (a .code)) (a .files .now) (a .volumes) (a .width) (search needs) (a .volume) _ _ (sym (c .before .has .ensures) ∙ c .if1 .left)
 
 pub add-volume-spec : {M : Type 1} → statement M

@@ -21,13 +21,11 @@ loop-holds : tie.Need-loop-holds Inv-loop μ-loop
 loop-holds c = (omega arith, λ small. added-none _ _ _ _ small _ (c .pre))
 
 loop-again : tie.Need-loop-again Inv-loop μ-loop
-loop-again c =
-    let l = c .before .before .before .before .loop in
+loop-again c = let l = c .before .before .before .before .loop in
     (omega arith, λ small. added-more _ _ _ _ small (l .v) _ _ _ (l .inv .1 small) (c .add-volume .ensures))
 
 returns : tie.Need-returns Inv-loop μ-loop
-returns c =
-    let l = c .before .loop in
+returns c = let l = c .before .loop in
     let e : l .v ≡ c .before .before .args .rows = omega arith in
     rw e at (l .inv .1 (search needs) .rows)
 

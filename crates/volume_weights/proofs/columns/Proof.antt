@@ -25,8 +25,7 @@ loop-holds : tie.Need-loop-holds Inv-loop μ-loop
 loop-holds c = (omega arith, omega arith, filled-none _)
 
 loop-again : tie.Need-loop-again Inv-loop μ-loop
-loop-again c =
-    let l = c .before .before .before .before .loop in
+loop-again c = let l = c .before .before .before .before .loop in
     let a = c .before .before .before .before .before .args in
     let column : ℕ → Bool = λ (k : ℕ). member (a .nonempty) k && not (member (a .present) k) in
     let e : c .column-count .result ≡ cond (columnIn (a .nonempty) (a .present) (suc (l .i))) 1 0 =
@@ -40,8 +39,7 @@ loop-again c =
     )
 
 returns : tie.Need-returns Inv-loop μ-loop
-returns c =
-    let l = c .before .loop in
+returns c = let l = c .before .loop in
     let e : l .i ≡ 255 = omega arith in
     columns-filled _ _ _ _ (rw e at (l .inv .2))
 

@@ -26,8 +26,7 @@ loop-holds : tie.Need-loop-holds Inv-loop μ-loop
 loop-holds c = (omega arith, refl, λ k l. absurd (not-suc-le-zero l), λ k l h. getD-replicate 256 k 0 0 h)
 
 loop-again : tie.Need-loop-again Inv-loop μ-loop
-loop-again c =
-    let i = c .before .before .before .before in
+loop-again c = let i = c .before .before .before .before in
     let l = i .before .before .loop in
     let a = i .before .before .before .before .before .args in
     let k = i .index .result in
@@ -42,8 +41,7 @@ loop-again c =
     )
 
 returns : tie.Need-returns Inv-loop μ-loop
-returns c =
-    let l = c .before .loop in
+returns c = let l = c .before .loop in
     let s = c .before .before .before .before in
     let a = s .args in
     let e : l .p ≡ a .width = omega arith in

@@ -10,14 +10,12 @@ use Rattle.volume_weights.proofs.solve.Statement.{statement}
 use Rattle.volume_weights.proofs.solve.Tie as tie
 
 add-volumes-requires : tie.Need-add-volumes-requires
-add-volumes-requires c κs =
-    let d = c .before .before .before in
+add-volumes-requires c κs = let d = c .before .before .before in
     let columns = d .before .before .before .before .before .before .columns in
     packed-start _ _ _ _ (columns .ensures) _ (d .set-diagonal .ensures)
 
 returns : tie.Need-returns
-returns c =
-    let tested = c .before .before .before in
+returns c = let tested = c .before .before .before in
     let added = tested .before .before .before .before in
     let d = added .before .before .before .before in
     let i = d .before .before in
@@ -30,8 +28,7 @@ returns c =
     (sym (tested .before .solvable .ensures) ∙ tested .if2 .taken) (c .weights .ensures)
 
 returns-2 : tie.Need-returns-2
-returns-2 c =
-    let added = c .before .before .before .before in
+returns-2 c = let added = c .before .before .before .before in
     let d = added .before .before .before .before in
     let i = d .before .before in
     let place = i .before in
@@ -43,8 +40,7 @@ returns-2 c =
     (sym (c .before .solvable .ensures) ∙ c .if2 .left)
 
 returns-3 : tie.Need-returns-3
-returns-3 c =
-    let place = c .before in
+returns-3 c = let place = c .before in
     let columns = place .before .before .before in
     let a = columns .before .args in
     outside-solved (ruleOf (a .code)) (a .nonempty) (a .present) (a .volumes) (a .rows) (a .column) (search needs)

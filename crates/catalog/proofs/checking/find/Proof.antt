@@ -22,24 +22,21 @@ bytes-of r = now (r .before .before .before .before .before .before .before .bef
 
 -- what the entry rows told
 entered-is : (r : tie.After-read-entries) → r .read-entries .result ≡ enteredOf (entryRows (bytes-of r))
-entered-is r =
-    let n = r .before .before .before .before .before .before .before .before .before in
+entered-is r = let n = r .before .before .before .before .before .before .before .before .before in
     r .read-entries .ensures ∙ ap enteredOf (rows-part (n .read32 .result) (bytes-of r) 16 ∙ ap (λ (k : ℕ). rowsIn k (drop 16 (bytes-of r))) (n .read32 .ensures))
 
 tells : (w : tie.After-volumes-allowed)
     → let r = w .before .before .before .before .before in
     let s = w .before .before .before .saved .given .0 in
     (entryRowsAllowed 0 (entryRows (bytes-of r)) ≡ true) × (s .0 ≡ length (savedRows (entryRows (bytes-of r)))) × (s .1 .0 ≡ greatestSize (entryRows (bytes-of r)))
-tells w =
-    let r = w .before .before .before .before .before in
+tells w = let r = w .before .before .before .before .before in
     entered-rows (entryRows (bytes-of r)) (sym (entered-is r) ∙ w .before .before .before .saved .given .1)
 
 -- what the volume rows told
 volumes-are : (w : tie.After-volumes-allowed)
     → let b : List ℕ = bytes-of (w .before .before .before .before .before) in
     w .volumes-allowed .result ≡ volumeRowsAllowed (length (savedRows (entryRows b))) (greatestSize (entryRows b)) 0 (volumeRows b)
-volumes-are w =
-    let r = w .before .before .before .before .before in
+volumes-are w = let r = w .before .before .before .before .before in
     let v = r .before .before .before .before .before .before .before .before in
     let b : List ℕ = bytes-of r in
     let told = tells w in

@@ -42,8 +42,7 @@ next : (c : tie.After-same Inv-loop μ-loop)
     let s : List ℕ = now (l .before .before .before .args .list) in
     (restRows (l .loop .saved) s (l .loop .from) ≡ made .row-of .result ∷ restRows (l .loop .saved + savedCount (e .1 .0)) s (l .loop .from + e .0))
     × (length (made .row-of .result) ≡ 28)
-next c =
-    let made = c .before .before .before in
+next c = let made = c .before .before .before in
     let hashed = made .before .before in
     let known = hashed .before in
     let i = entry-in known in

@@ -18,8 +18,7 @@ abbrev μ-loop : tie.MeasureT-loop
 
 -- the stores keep the length
 kept : (l : tie.At-loop Inv-loop μ-loop) → length (l .loop .bytes) ≡ length (now (l .before .args .bytes))
-kept l =
-    let a = l .before .args in
+kept l = let a = l .before .args in
     ap length (l .loop .inv .2) ∙ length-sets (now (a .bytes)) (a .at) (take (l .loop .i - a .at) (drop (a .at + 28) (now (a .bytes))))
 
 loop-holds : tie.Need-loop-holds Inv-loop μ-loop

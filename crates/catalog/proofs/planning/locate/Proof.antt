@@ -32,8 +32,7 @@ module _ (s : tie.Start) where
 -- the place that is found
 place-is : (c : tie.After-place-of)
     → let s = c .before .before .before .before .before in c .place-of .result ≡ placeOf (s .args .number) (volumeRows (b s))
-place-is c =
-    let s = c .before .before .before .before .before in
+place-is c = let s = c .before .before .before .before .before in
     let start : ℕ = 16 + 28 * s .args .counts .entries in
     c .place-of .ensures
     ∙ ap (placeOf (s .args .number))

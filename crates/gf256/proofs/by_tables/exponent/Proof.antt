@@ -8,8 +8,7 @@ use Rattle.gf256.proofs.by_tables.exponent.Statement.{statement}
 use Rattle.gf256.proofs.by_tables.exponent.Tie as tie
 
 returns : tie.Need-returns
-returns c =
-    let es = c .before .before .before .args .exponents .now in
+returns c = let es = c .before .before .before .args .exponents .now in
     (c .place2 .ensures .0 ∙ ap (λ (i : ℕ). getD es i 0) (c .before .before .place .ensures .0), c .place2 .ensures .1)
 
 pub exponent-spec : {M : Type 1} → statement M

@@ -21,16 +21,14 @@ returns-2 c = simp (ne-eqb _ _ (c .before .if1 .left), eq-eqb _ _ (c .if2 .taken
 
 returns-3 : tie.Need-returns-3
 unfolding powerBy
-returns-3 c =
-    let x = c .before .before in
+returns-3 c = let x = c .before .before in
     let a = x .before .before .before .before .args in
     simp (ne-eqb _ _ (x .before .before .before .if1 .left), ne-eqb _ _ (x .before .before .if2 .left))
     (ap (λ (i : ℕ). getD (a .powers .now) i 0)
     (c .before .reduced .ensures .0 ∙ ap₂ (λ (m n : ℕ). m * n % 255) (x .before .exponent .ensures .0) (x .place .ensures .0)))
 
 mul-reduced : tie.Need-mul-reduced
-mul-reduced c =
-    let e = c .before .exponent .result in
+mul-reduced c = let e = c .before .exponent .result in
     let n = c .place .result in
     let x : e ≤ 255 = omega (arith, c .before .exponent .ensures .1) in
     let y : n ≤ 255 = omega (arith, c .place .ensures .1) in

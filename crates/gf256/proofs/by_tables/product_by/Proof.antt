@@ -19,8 +19,7 @@ returns-2 c = simp (ne-eqb _ _ (c .before .if1 .left), eq-eqb _ _ (c .if2 .taken
 
 returns-3 : tie.Need-returns-3
 unfolding productBy
-returns-3 c =
-    let x = c .before .before in
+returns-3 c = let x = c .before .before in
     let a = x .before .before .before .before .args in
     simp (ne-eqb _ _ (x .before .before .before .if1 .left), ne-eqb _ _ (x .before .before .if2 .left))
     (ap (λ (i : ℕ). getD (a .powers .now) i 0)

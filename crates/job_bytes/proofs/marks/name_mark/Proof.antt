@@ -16,8 +16,7 @@ mul-result : tie.Need-mul-result
 mul-result c = omega (arith, c .mark2 .ensures, mark-most (c .before .before .args .named .dots))
 
 add-result : tie.Need-add-result
-add-result c =
-    let n = c .before .before .args .named in
+add-result c = let n = c .before .before .args .named in
     omega (arith, c .mark2 .ensures, c .before .mark .ensures, mark-most (n .allowed), mark-most (n .dots))
 
 pub name-mark-spec : {M : Type 1} → statement M

@@ -11,8 +11,7 @@ use Rattle.job_bytes.proofs.mul_adds.bytes_of.Tie as tie
 
 returns : tie.Need-returns
 unfolding mulAddBytes numbers toLe
-returns c =
-    let marked = c .before .before .before .before in
+returns c = let marked = c .before .before .before .before in
     let job = marked .before .before .args .job in
     c .before .write-numbers .ensures ∙ ap (λ (m : ℕ). numbers (job .weight ∷ job .position ∷ m ∷ [])) (marked .mark .ensures)
 

@@ -13,18 +13,15 @@ returns : tie.Need-returns
 returns c = c .over .ensures ∙ sym (loaded-over _ (others _ (c .before .if1 .taken)))
 
 returns-2 : tie.Need-returns-2
-returns-2 c =
-    let b = now (c .before .before .before .before .before .args .bytes) in
+returns-2 c = let b = now (c .before .before .before .before .before .args .bytes) in
     c .over2 .ensures ∙ sym (loaded-over b (heavy b (subst (λ (w : ℕ). 255 < w) (c .before .before .read64 .ensures) (c .before .if2 .taken))))
 
 returns-3 : tie.Need-returns-3
-returns-3 c =
-    let b = now (c .before .before .before .before .before .before .before .args .bytes) in
+returns-3 c = let b = now (c .before .before .before .before .before .before .before .args .bytes) in
     c .over3 .ensures ∙ sym (loaded-over b (marked b (λ e. c .before .if3 .taken (c .before .before .read642 .ensures ∙ e))))
 
 returns-4 : tie.Need-returns-4
-returns-4 c =
-    let tested = c .before .before in
+returns-4 c = let tested = c .before .before in
     let b = now (tested .before .before .before .before .before .args .bytes) in
     let weight = tested .before .before .read64 .ensures in
     let small = subst (λ (w : ℕ). w ≤ 255) weight (tested .before .if2 .left) in

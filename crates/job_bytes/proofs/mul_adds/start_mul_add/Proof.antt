@@ -10,8 +10,7 @@ use Rattle.job_bytes.proofs.mul_adds.start_mul_add.Statement.{statement
 use Rattle.job_bytes.proofs.mul_adds.start_mul_add.Tie as tie
 
 returns : tie.Need-returns
-returns c =
-    let stored = c .before .before in
+returns c = let stored = c .before .before in
     let begun = stored .before .before in
     stored .store-mul-add .ensures
     ∙ ap (λ (s : RunningMulAdd). mulAddStored (accepted s) (now (begun .before .before .args .out))) (begun .start .ensures)

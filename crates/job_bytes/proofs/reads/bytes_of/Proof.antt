@@ -9,8 +9,7 @@ sized : (c : tie.Start) → Sized (c .args .job)
 sized c = record { header = search needs; control = search needs; head = search needs; hash = search needs }
 
 returns : tie.Need-returns
-returns c =
-    let last = c .before in
+returns c = let last = c .before in
     let listed = last .before .before .before .before in
     let hashed = listed .before .before .before in
     let headed = hashed .before .before .before in

@@ -6,8 +6,7 @@ use Rattle.job_bytes.proofs.reads.end_read.Statement.{statement}
 use Rattle.job_bytes.proofs.reads.end_read.Tie as tie
 
 returns : tie.Need-returns
-returns c =
-    let stored = c .before .before in
+returns c = let stored = c .before .before in
     let answered = stored .before .before .before .before .before in
     let ended = answered .before .before .before in
     ended-by _ _ (ended .before .loaded .ensures) (ended .end .ensures) (answered .put-reading .ensures) (stored .before .before .job-number .ensures)

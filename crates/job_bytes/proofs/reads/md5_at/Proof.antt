@@ -15,8 +15,7 @@ add-read64 : tie.Need-add-read64
 add-read64 c = omega (arith, c .before .before .before .before .before .before .pre)
 
 returns : tie.Need-returns
-returns c =
-    let stored = c .before .before .before in
+returns c = let stored = c .before .before .before in
     let start = stored .before .before .before .before in
     let a = start .args in
     let tail =

@@ -6,8 +6,7 @@ use Rattle.job_bytes.proofs.reads.push_read.Statement.{statement}
 use Rattle.job_bytes.proofs.reads.push_read.Tie as tie
 
 returns : tie.Need-returns
-returns c =
-    let stored = c .before .before in
+returns c = let stored = c .before .before in
     let pushed = stored .before .before .before in
     pushed-by _ _ (pushed .before .loaded .ensures) (pushed .push .ensures) (stored .store .ensures)
 

@@ -18,8 +18,7 @@ add-write64 : tie.Need-add-write64
 add-write64 c = omega (arith, c .before .before .before .before .before .before .before .before .before .before .before .before .before .pre)
 
 returns : tie.Need-returns
-returns c =
-    let last = c .before .before in
+returns c = let last = c .before .before in
     let second = last .before .before .before .before in
     let first = second .before .before .before .before .before in
     let start = first .before .before .before .before .before in

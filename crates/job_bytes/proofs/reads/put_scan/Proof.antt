@@ -14,8 +14,7 @@ tail-length : (c : tie.Start) → length (c .args .scan .hash .tail) ≡ 64
 tail-length c = search needs
 
 returns : tie.Need-returns
-returns c =
-    let hashed = c .before .before in
+returns c = let hashed = c .before .before in
     let numbered = hashed .before .before .before .before in
     let first = numbered .before .before .before .before .before in
     let marked = first .before .before .before in

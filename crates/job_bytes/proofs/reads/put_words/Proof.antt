@@ -10,8 +10,7 @@ add-write32-3 : tie.Need-add-write32-3
 add-write32-3 c = omega (arith, c .before .before .before .before .before .before .before .before .before .before .before .before .before .before .pre)
 
 returns : tie.Need-returns
-returns c =
-    let fourth = c .before .before in
+returns c = let fourth = c .before .before in
     let third = fourth .before .before .before .before in
     let second = third .before .before .before .before in
     let first = second .before .before .before .before in

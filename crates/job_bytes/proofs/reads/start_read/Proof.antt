@@ -9,8 +9,7 @@ use Rattle.job_bytes.proofs.reads.start_read.Statement.{statement}
 use Rattle.job_bytes.proofs.reads.start_read.Tie as tie
 
 returns : tie.Need-returns
-returns c =
-    let stored = c .before .before in
+returns c = let stored = c .before .before in
     let begun = stored .before .before in
     stored .store .ensures ∙ ap (λ (j : RunningRead). readStored 0 j (now (begun .before .before .args .out))) (begun .start .ensures)
 

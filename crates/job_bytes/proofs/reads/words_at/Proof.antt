@@ -7,8 +7,7 @@ use Rattle.job_bytes.proofs.reads.words_at.Statement.{statement}
 use Rattle.job_bytes.proofs.reads.words_at.Tie as tie
 
 returns : tie.Need-returns
-returns c =
-    let first = c .before .before .before in
+returns c = let first = c .before .before .before in
     let a = first .before .before .args in
     words-read (now (a .bytes)) (a .at) (first .read32 .ensures) (c .before .before .read322 .ensures) (c .before .read323 .ensures) (c .read324 .ensures)
 

@@ -22,8 +22,7 @@ loop-holds : tie.Need-loop-holds Inv-loop μ-loop
 loop-holds c = (omega arith, gathered-none _ _ _)
 
 loop-again : tie.Need-loop-again Inv-loop μ-loop
-loop-again c =
-    let l = c .before .before .before .loop in
+loop-again c = let l = c .before .before .before .loop in
     let a = c .before .before .before .before .args in
     let tested = c .before .solvable .ensures in (
       omega arith,
@@ -36,8 +35,7 @@ loop-again c =
     )
 
 returns : tie.Need-returns Inv-loop μ-loop
-returns c =
-    let l = c .before .loop in
+returns c = let l = c .before .loop in
     let a = c .before .before .args in
     let e : l .p ≡ a .width = omega arith in
     l .inv .1 ∙ ap (gathered (replicate 4 0) (λ k. getD (a .files .now) k 0) (isSolvable (a .matrix .now) (a .owners .now))) e

@@ -9,13 +9,11 @@ use Rattle.volume_weights.proofs.solved.solved_columns.Statement.{state
 use Rattle.volume_weights.proofs.solved.solved_columns.Tie as tie
 
 add-volumes-requires : tie.Need-add-volumes-requires
-add-volumes-requires c κs =
-    let d = c .before .before .before in
+add-volumes-requires c κs = let d = c .before .before .before in
     packed-start _ _ _ _ (d .before .before .before .columns .ensures) _ (d .set-diagonal .ensures)
 
 returns : tie.Need-returns
-returns c =
-    let added = c .before .before .before .before in
+returns c = let added = c .before .before .before .before in
     let d = added .before .before .before .before in
     let columns = d .before .before .before in
     let a = columns .before .args in
