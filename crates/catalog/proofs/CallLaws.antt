@@ -13,6 +13,7 @@ use Rattle.computed_tests.specs.Numbers.{oneTo}
 use Rattle.refusals.specs.Limits.{maxEntries}
 use Rattle.refusals.specs.Tests.{bare, test}
 use Rattle.refusals.specs.declared.Refusal.{Refusal}
+use Rattle.refusals.proofs.TestLaws.{test-passed}
 use Rattle.lent_bytes.specs.Equal.{equal}
 use Rattle.lent_bytes.specs.declared.Writing.the-variants as writing
 use Rattle.lent_bytes.proofs.StoreLaws.{sets-over}
@@ -104,23 +105,15 @@ plan-refuses b number v {n} e = by (eqb number 0) refl e
 
 -- ---- the tests that a change passed
 
-catalog-by : (t : Bool) (rest : ℕ) → test 30 t rest ≡ 0 → (t ≡ true) × (rest ≡ 0)
-catalog-by true rest e = (refl, e)
-catalog-by false rest e = absurd (omega arith)
-
 pub drop-passed : (b : List ℕ) (v : ℕ) → dropNumber b v ≡ 0 → Catalog b × (holds v (volumeRows b) ≡ true)
 unfolding dropNumber
-drop-passed b v e = let first = catalog-by (isCatalog b) _ e in
-    (is-catalog b (first .0), by (volumeInRange v b) (holds v (volumeRows b)) (first .1))
-  where
-    by : (r h : Bool) → test 10 r (test 11 h 0) ≡ 0 → h ≡ true
-    by true true z = refl
-    by true false z = absurd (omega arith)
-    by false h z = absurd (omega arith)
+drop-passed b v e = let first = test-passed 30 (isCatalog b) _ (omega arith) e in
+    let range = test-passed 10 (volumeInRange v b) _ (omega arith) (first .1) in
+    (is-catalog b (first .0), test-passed 11 (holds v (volumeRows b)) 0 (omega arith) (range .1) .0)
 
 pub add-catalog : (b vol : List ℕ) → addNumber b vol ≡ 0 → Catalog b
 unfolding addNumber
-add-catalog b vol e = is-catalog b (catalog-by (isCatalog b) _ e .0)
+add-catalog b vol e = is-catalog b (test-passed 30 (isCatalog b) _ (omega arith) e .0)
 
 -- a row that is there lies before the end
 pub held-within : (b : List ℕ) (c : Catalog b) (v : ℕ) → holds v (volumeRows b) ≡ true → placeOf v (volumeRows b) < volumeCount b

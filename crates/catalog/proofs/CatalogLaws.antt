@@ -10,7 +10,7 @@ use native.Mathlib.Omega.{arith}
 use lib.Dec.{leb, eqb}
 use lib.ListN.{length, take, drop, length-drop}
 use borrow.Author.Tests.{leb-true, eqb-true, le-leb, eq-eqb}
-use Rattle.computed_tests.proofs.Tests.{and-both}
+use Rattle.computed_tests.proofs.Tests.{test-fails, and-both}
 use Rattle.refusals.specs.Limits.{maxEntries}
 use Rattle.lent_bytes.proofs.PartLaws.{part-to-end}
 use Rattle.catalog.specs.Catalog.{entryCount, entryStart, volumeStart, catalogLength, rowsIn, entryRows, volumeRows, savedRows, greatestSize}
@@ -48,21 +48,10 @@ module _ (b : List ℕ) where
   pub catalog-is : Catalog b → isCatalog b ≡ true
   unfolding isCatalog
   catalog-is c =
-      simp (
-        le-leb (catalogLength b) (length b) (c .within),
-        le-leb (entryCount b) maxEntries (c .few),
-        eq-eqb _ _ (c .starts),
-        eq-eqb _ _ (c .volumes-start),
-        c .entries-right,
-        c .volumes-right,
-      )
-
-  by-catalog : (t : Bool) → t ≡ isCatalog b → (Catalog b → ⊥) → isCatalog b ≡ false
-  by-catalog true e h = absurd (h (is-catalog (sym e)))
-  by-catalog false e h = sym e
+      simp (le-leb _ _ (c .within), le-leb _ _ (c .few), eq-eqb _ _ (c .starts), eq-eqb _ _ (c .volumes-start), c .entries-right, c .volumes-right)
 
   pub no-catalog : (Catalog b → ⊥) → isCatalog b ≡ false
-  no-catalog = by-catalog (isCatalog b) refl
+  no-catalog h = test-fails (isCatalog b) (λ e. h (is-catalog e))
 
   -- ---- what is found
 
@@ -84,11 +73,7 @@ module _ (b : List ℕ) where
 
   pub find-other : foundOf b ≡ found.Other → isCatalog b ≡ false
   unfolding foundOf
-  find-other e = by (isCatalog b) refl e
-    where
-      by : (t : Bool) → t ≡ isCatalog b → cond t (found.Catalog (countsOf b)) found.Other ≡ found.Other → isCatalog b ≡ false
-      by true z f = absurd (let n : _≡_ {A = ℕ} 0 1 = cc in omega arith)
-      by false z f = sym z
+  find-other e = test-fails (isCatalog b) (λ z. let f = simp z at e in let n : _≡_ {A = ℕ} 0 1 = cc in omega arith)
 
 -- ---- what the entry rows tell
 

@@ -55,15 +55,7 @@ length-head n v = refl
 
 pub length-catalog : {es vs : List (List ℕ)} → All Sized es → All Sized vs → length (catalogBytes es vs) ≡ 16 + 28 * (length es + length vs)
 unfolding catalogBytes
-length-catalog {es} {vs} p q = let head : List ℕ = catalogHead (length es) (length vs) in
-    omega (
-      arith,
-      length-append head (flatten es ++ flatten vs),
-      length-head (length es) (length vs),
-      length-append (flatten es) (flatten vs),
-      length-flatten p,
-      length-flatten q,
-    )
+length-catalog {es} {vs} p q = simp (length-append, length-head, length-flatten p, length-flatten q) (omega arith)
 
 pub all-insert : {P : List ℕ → Type 0} (r : List ℕ) {rs : List (List ℕ)} → P r → All P rs → All P (insertRow r rs)
 unfolding insertRow
@@ -126,17 +118,8 @@ module _ (b : List ℕ) (c : Catalog b) where
   -- ---- added
 
   pub length-inserted : (r : List ℕ) → length (insertRow r (volumeRows b)) ≡ m + 1
-  length-inserted r = let p : ℕ = Place (numberOf r) in
-      let vs : List (List ℕ) = volumeRows b in
-      omega (
-        arith,
-        ap length (insert-at r vs),
-        length-append (take p vs) (r ∷ drop p vs),
-        length-take p vs,
-        length-drop p vs,
-        at-most (numberOf r),
-        length-rows m (drop (16 + 28 * n) b),
-      )
+  length-inserted r = let h = at-most (numberOf r) in
+      ap length (insert-at r (volumeRows b)) ∙ simp (length-append, length-take, length-drop, length-rows) (omega arith)
 
   pub length-added : (r : List ℕ) → length r ≡ 28 → length (catalogBytes (entryRows b) (insertRow r (volumeRows b))) ≡ catalogLength b + 28
   length-added r h =
@@ -173,25 +156,13 @@ module _ (b : List ℕ) (c : Catalog b) where
   -- ---- dropped
 
   pub length-removed : (v : ℕ) → holds v (volumeRows b) ≡ true → Place v < m → length (removeRow v (volumeRows b)) + 1 ≡ m
-  length-removed v held h = let p : ℕ = Place v in
-      let vs : List (List ℕ) = volumeRows b in
-      omega (
-        arith,
-        ap length (remove-at _ _ 0 vs v (c .volumes-right) held),
-        length-append (take p vs) (drop (p + 1) vs),
-        length-take p vs,
-        length-drop (p + 1) vs,
-        length-rows m (drop (16 + 28 * n) b),
-      )
+  length-removed v held h = let e = ap length (remove-at _ _ 0 (volumeRows b) v (c .volumes-right) held) in
+      omega (arith, simp (length-append, length-take, length-drop, length-rows) at e)
 
   pub length-dropped : (v : ℕ) → holds v (volumeRows b) ≡ true → Place v < m
       → length (catalogBytes (entryRows b) (removeRow v (volumeRows b))) + 28 ≡ catalogLength b
-  length-dropped v held h = omega (
-    arith,
-    length-catalog (entries-sized b c) (all-keep (λ r. not (eqb (numberOf r) v)) (volumes-sized b c)),
-    length-entries,
-    length-removed v held h,
-  )
+  length-dropped v held h = let rows = all-keep (λ r. not (eqb (numberOf r) v)) (volumes-sized b c) in
+      omega (arith, length-catalog (entries-sized b c) rows, length-entries, length-removed v held h)
 
   pub removed-over : (v : ℕ) {t u : List ℕ} → holds v (volumeRows b) ≡ true → Place v < m
       → t ≡ closed (16 + 28 * (n + Place v)) (catalogLength b) b → u ≡ sets t 0 (catalogHead n (m - 1))

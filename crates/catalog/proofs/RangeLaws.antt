@@ -13,6 +13,7 @@ use borrow.Author.Tests.{leb-true}
 use Rattle.refusals.specs.Limits.{maxEntries}
 use Rattle.refusals.specs.Tests.{bare, test}
 use Rattle.refusals.specs.declared.Refusal.{Refusal}
+use Rattle.refusals.proofs.TestLaws.{test-passed}
 use Rattle.lent_bytes.specs.Equal.{equal}
 use Rattle.lent_bytes.specs.declared.Writing.{Writing}
 use Rattle.lent_bytes.specs.declared.Writing.the-variants as writing
@@ -36,6 +37,10 @@ pub record Low (n : ℕ) (r : Refusal) : Type 0 where
 bare-low : (n k : ℕ) → k ≤ 30 → Low n (bare k)
 bare-low n k h = record { number-low = h; place-low = omega arith }
 
+test-low : (n : ℕ) (ok : Bool) (m : ℕ) → n ≤ 30 → m ≤ 30 → test n ok m ≤ 30
+test-low n true m h k = k
+test-low n false m h k = h
+
 read-low : (f : List ℕ) {r : Refusal} → readOf f ≡ reading.Refused r → Low (length f) r
 read-low f {r} e = let w = refusal-within f in
     let same = refused-is f e in
@@ -48,19 +53,12 @@ read-low f {r} e = let w = refusal-within f in
 module _ (f : List ℕ) where
   pub open-low : (q : Reading) → readOf f ≡ q → Low (length f) (openRefusal f q)
   open-low (reading.Refused r) e = read-low f e
-  open-low (reading.Accepted p) e = bare-low (length f) _ (by (leb (length (entriesIn f)) maxEntries))
-    where
-      by : (t : Bool) → test 26 t 0 ≤ 30
-      by true = omega arith
-      by false = omega arith
+  open-low (reading.Accepted p) e = bare-low (length f) _ (test-low 26 (leb (length (entriesIn f)) maxEntries) 0 (omega arith) (omega arith))
 
   pub open-length : (q : Reading) → readOf f ≡ q → openRefusal f q .number ≡ 0 → length (catalogBytes (rowsFor (entriesIn f)) []) ≤ 65536
   open-length (reading.Refused r) e z = absurd (refused-some f e z)
-  open-length (reading.Accepted p) e z = omega (arith, length-opened f [], by (leb (length (entriesIn f)) maxEntries) refl z)
-    where
-      by : (t : Bool) → t ≡ leb (length (entriesIn f)) maxEntries → test 26 t 0 ≡ 0 → length (entriesIn f) ≤ maxEntries
-      by true s z = leb-true _ _ (sym s)
-      by false s z = absurd (omega arith)
+  open-length (reading.Accepted p) e z =
+      let few = leb-true (length (entriesIn f)) maxEntries (test-passed 26 _ 0 (omega arith) z .0) in omega (arith, length-opened f [])
 
 -- ---- adding
 
@@ -68,18 +66,11 @@ module _ (b vol : List ℕ) where
   pub add-low : (q : Reading) → readOf vol ≡ q → Low (length vol) (addRefusal b vol q)
   unfolding addNumber
   add-low (reading.Refused r) e = read-low vol e
-  add-low (reading.Accepted p) e =
-      bare-low (length vol) _
-      (by (isCatalog b) (volumeInRange (volumeNumberOf vol) b) (equal (flatten (rowsFor (entriesIn vol))) (flatten (entryRows b)))
-      (leb (length (entriesIn vol)) maxEntries) (not (holds (volumeNumberOf vol) (volumeRows b))))
-    where
-      by : (s t u v w : Bool) → test 30 s (test 10 t (test 25 u (test 26 v (test 11 w 0)))) ≤ 30
-      by false t u v w = omega arith
-      by true false u v w = omega arith
-      by true true false v w = omega arith
-      by true true true false w = omega arith
-      by true true true true false = omega arith
-      by true true true true true = omega arith
+  add-low (reading.Accepted p) e = bare-low (length vol) _
+      (test-low 30 (isCatalog b) _ (omega arith) (test-low 10 (volumeInRange (volumeNumberOf vol) b) _ (omega arith)
+      (test-low 25 (equal (flatten (rowsFor (entriesIn vol))) (flatten (entryRows b))) _ (omega arith)
+      (test-low 26 (leb (length (entriesIn vol)) maxEntries) _ (omega arith)
+      (test-low 11 (not (holds (volumeNumberOf vol) (volumeRows b))) 0 (omega arith) (omega arith))))))
 
   pub add-length : (q : Reading) → readOf vol ≡ q → addRefusal b vol q .number ≡ 0 → length (addedBytes b vol) ≤ 65536
   add-length (reading.Refused r) e z = absurd (refused-some vol e z)
@@ -91,13 +82,8 @@ module _ (b vol : List ℕ) where
 module _ (b : List ℕ) (v : ℕ) where
   pub drop-low : Low 0 (bare (dropNumber b v))
   unfolding dropNumber
-  drop-low = bare-low 0 _ (by (isCatalog b) (volumeInRange v b) (holds v (volumeRows b)))
-    where
-      by : (s t u : Bool) → test 30 s (test 10 t (test 11 u 0)) ≤ 30
-      by false t u = omega arith
-      by true false u = omega arith
-      by true true false = omega arith
-      by true true true = omega arith
+  drop-low = bare-low 0 _ (test-low 30 (isCatalog b) _ (omega arith)
+      (test-low 10 (volumeInRange v b) _ (omega arith) (test-low 11 (holds v (volumeRows b)) 0 (omega arith) (omega arith))))
 
   pub drop-length : dropNumber b v ≡ 0 → length (droppedBytes b v) ≤ 65536
   drop-length z = let d = drop-passed b v z in

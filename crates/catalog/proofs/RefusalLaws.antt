@@ -16,7 +16,7 @@ use lib.Dec.{leb, eqb}
 use lib.ListN.{length, drop}
 use borrow.Author.Tests.{le-leb, lt-leb, leb-false, eqb-true, eq-eqb}
 use Rattle.computed_tests.specs.Numbers.{oneTo}
-use Rattle.computed_tests.proofs.Tests.{oneTo-in, oneTo-outside}
+use Rattle.computed_tests.proofs.Tests.{test-fails, oneTo-in, oneTo-outside}
 use Rattle.refusals.specs.Limits.{maxEntries}
 use Rattle.refusals.specs.Tests.{bare, test}
 use Rattle.refusals.specs.declared.Refusal.{Refusal}
@@ -54,12 +54,12 @@ module _ (v n : ℕ) where
   out-range (claim.number-high z) = oneTo-outside (255 - n) v (λ h k. omega arith)
 
   in-range : (OutOfRange v n → ⊥) → oneTo (255 - n) v ≡ true
-  in-range h = by (oneTo (255 - n) v) refl (decLt 0 v) (decLt (255 - n) v)
+  in-range h = by (decLt 0 v) (decLt (255 - n) v)
     where
-      by : (t : Bool) → t ≡ oneTo (255 - n) v → Dec (0 < v) → Dec (255 - n < v) → oneTo (255 - n) v ≡ true
-      by t e (no z) k = absurd (h (claim.number-none (omega arith)))
-      by t e (yes z) (yes k) = absurd (h (claim.number-high k))
-      by t e (yes z) (no k) = oneTo-in (255 - n) v (omega arith) (omega arith)
+      by : Dec (0 < v) → Dec (255 - n < v) → oneTo (255 - n) v ≡ true
+      by (no z) k = absurd (h (claim.number-none (omega arith)))
+      by (yes z) (yes k) = absurd (h (claim.number-high k))
+      by (yes z) (no k) = oneTo-in (255 - n) v (omega arith) (omega arith)
 
   range-told : oneTo (255 - n) v ≡ false → OutOfRange v n
   range-told e = by (decLt 0 v) (decLt (255 - n) v)
@@ -96,11 +96,7 @@ module _ (v : ℕ) where
           record { front = x ∷ k .front; row = k .row; back = k .back; rows-are = ap (λ (l : List (List ℕ)). x ∷ l) (k .rows-are); number-is = k .number-is }
 
   not-held : (rs : List (List ℕ)) → (HasRow v rs → ⊥) → holds v rs ≡ false
-  not-held rs h = by (holds v rs) refl
-    where
-      by : (t : Bool) → holds v rs ≡ t → holds v rs ≡ false
-      by true e = absurd (h (held-has rs e))
-      by false e = e
+  not-held rs h = test-fails (holds v rs) (λ e. h (held-has rs e))
 
   held-not : (rs : List (List ℕ)) → holds v rs ≡ false → HasRow v rs → ⊥
   held-not rs e h = true≢false (sym (has-held rs h) ∙ e)
@@ -111,12 +107,7 @@ module _ (b vol : List ℕ) (c : Catalog b) where
   rows-alike e = rows-equal (rows-sized-for (listOf vol)) (entries-sized b c) (equal-true _ _ e)
 
   rows-unlike : (rowsFor (entriesIn vol) ≡ entryRows b → ⊥) → equal (flatten (rowsFor (entriesIn vol))) (flatten (entryRows b)) ≡ false
-  rows-unlike h = by (equal (flatten (rowsFor (entriesIn vol))) (flatten (entryRows b))) refl
-    where
-      by : (t : Bool) → equal (flatten (rowsFor (entriesIn vol))) (flatten (entryRows b)) ≡ t
-          → equal (flatten (rowsFor (entriesIn vol))) (flatten (entryRows b)) ≡ false
-      by true e = absurd (h (rows-alike e))
-      by false e = e
+  rows-unlike h = test-fails _ (λ e. h (rows-alike e))
 
 -- ---- adding
 

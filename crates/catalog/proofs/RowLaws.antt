@@ -75,17 +75,10 @@ length-flatten (all-more {x} {xs} p ps) = omega (arith, length-append x (flatten
 module _ (number size : ℕ) (hash : List ℕ) where
   pub length-row : length hash ≡ 16 → length (row number size hash) ≡ 28
   unfolding row flatten
-  length-row h = omega (
-    arith,
-    length-append (toLe 4 number) (toLe 8 size ++ (hash ++ [])),
-    length-append (toLe 8 size) (hash ++ []),
-    length-append hash [],
-    length-toLe 4 number,
-    length-toLe 8 size,
-  )
+  length-row h = simp (length-append, length-toLe) (omega arith)
 
   in-row : At (row number size hash) 0 (toLe 4 number ∷ toLe 8 size ∷ hash ∷ [])
-  unfolding row drop
+  unfolding row
   in-row = record { joined = refl }
 
   pub number-row : number < 2 ^ 32 → numberOf (row number size hash) ≡ number

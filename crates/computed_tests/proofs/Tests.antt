@@ -1,5 +1,6 @@
 -- Laws of tests, and the equations that follow from those that antt computes.
 --
+--   test-fails             a test that cannot pass fails
 --   and-both               two tests that pass together pass each
 --   bit-cases              what holds of 0 and of 1 holds of each bit
 --   oneTo-in, oneTo-inside, oneTo-outside     the numbers from 1 to m, and no others
@@ -20,7 +21,11 @@ use lib.Dec.{leb, eqb}
 use borrow.Author.Tests.{leb-true, le-leb, eqb-true}
 use Rattle.computed_tests.specs.Numbers.{oneTo, allBelow}
 
--- ---- two tests
+-- ---- one test, and two
+
+pub test-fails : (t : Bool) → (t ≡ true → ⊥) → t ≡ false
+test-fails true h = absurd (h refl)
+test-fails false h = refl
 
 pub and-both : (a b : Bool) → (a && b) ≡ true → (a ≡ true) × (b ≡ true)
 and-both true b e = (refl, e)
@@ -43,11 +48,7 @@ oneTo-inside m k e = let both = and-both (leb 1 k) (leb k m) e in
     (leb-true 1 k (both .0), leb-true k m (both .1))
 
 pub oneTo-outside : (m k : ℕ) → (1 ≤ k → k ≤ m → ⊥) → oneTo m k ≡ false
-oneTo-outside m k h = go (oneTo m k) refl
-  where
-    go : (b : Bool) → oneTo m k ≡ b → b ≡ false
-    go true e = let inside = oneTo-inside m k e in absurd (h (inside .0) (inside .1))
-    go false e = refl
+oneTo-outside m k h = test-fails (oneTo m k) (λ e. let inside = oneTo-inside m k e in h (inside .0) (inside .1))
 
 -- ---- a test at each number below a bound
 

@@ -10,7 +10,7 @@ use mathlib.Core.List.{List}
 use Prim.Native.Nat.{ℕ, _%_, _≤_}
 use lib.Dec.{eqb}
 use borrow.Author.Tests.{eqb-true}
-use Rattle.computed_tests.proofs.Tests.{and-both}
+use Rattle.computed_tests.proofs.Tests.{test-fails, and-both}
 use Rattle.md5.specs.declared.Md5.{Md5}
 use Rattle.entries.specs.declared.Totals.{Totals}
 use Rattle.entries.specs.Entry.{entrySize, fileSizeOf, fileSizeAllowed, entrySizeAllowed}
@@ -34,11 +34,7 @@ module _ (hd : List ℕ) (at : ℕ) (named : NameSoFar) where
       record { size-is = eqb-true _ _ (first .0); even = z .even; low = z .low }
 
   pub not-whole : (Whole hd at → ⊥) → isWhole hd at named ≡ false
-  not-whole h = by (isWhole hd at named) refl
-    where
-      by : (w : Bool) → isWhole hd at named ≡ w → w ≡ false
-      by true e = absurd (h (whole-at e))
-      by false e = refl
+  not-whole h = test-fails _ (λ e. h (whole-at e))
 
 pub settled-either : (P : Scan → Type 0) (hd : List ℕ) (at low : ℕ) (named : NameSoFar) (t : Totals) (h : Md5)
     → (58 ≤ at → P (entryEnded hd t h)) → P (scanWith hd at low named t h) → P (settled hd at low named t h)

@@ -16,6 +16,7 @@ use native.Mathlib.Nat.{le-refl}
 use native.Mathlib.Omega.{arith}
 use lib.ListN.{length, take, drop, getD, length-append, length-drop, take-append-drop}
 use lib.Seq.{take-suc, length-take-le}
+use Rattle.computed_tests.proofs.Tests.{test-fails}
 use Rattle.cut_lists.specs.Pieces.{Cut}
 use Rattle.cut_lists.proofs.CutLaws.{ifZero-pos, cut-none, cut-stop}
 use Rattle.md5.specs.declared.Md5.{Md5}
@@ -47,11 +48,7 @@ scanned-join sc n s = ap (scanned sc) (sym (take-append-drop n s)) ∙ scanned-a
 -- ---- bytes that end no entry
 
 not-whole : (s p r : List ℕ) → s ≡ p ++ r → (lengthOf s ≡ length p → ⊥) → whole p ≡ false
-not-whole s p r e h = by (whole p) refl
-  where
-    by : (w : Bool) → whole p ≡ w → w ≡ false
-    by false w = refl
-    by true w = absurd (h (ap lengthOf e ∙ kept-length (whole-keeps w) r .0))
+not-whole s p r e h = test-fails (whole p) (λ w. h (ap lengthOf e ∙ kept-length (whole-keeps w) r .0))
 
 module _ {t : Totals} {h : Md5} (s : List ℕ) where
   pub runs : (p q r : List ℕ) {sc : Scan} → s ≡ p ++ (q ++ r) → ((j : ℕ) → 0 < j → j ≤ length p + length q → lengthOf s ≡ j → ⊥)

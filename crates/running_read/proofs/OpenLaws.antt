@@ -14,7 +14,7 @@ use Prim.Native.Nat.{_+_, _-_, _*_, _≤_}
 use native.Mathlib.Omega.{arith}
 use lib.Dec.{leb, eqb}
 use borrow.Author.Tests.{not-true, leb-true, eqb-true, eq-eqb, le-leb}
-use Rattle.computed_tests.proofs.Tests.{and-both}
+use Rattle.computed_tests.proofs.Tests.{test-fails, and-both}
 use Rattle.running_read.specs.declared.Counts.{Counts}
 use Rattle.running_read.specs.declared.RunningRead.{RunningRead}
 use Rattle.running_read.specs.Running.{cap, countsOf, isOpen}
@@ -45,11 +45,7 @@ module _ (c : Counts) where
       }
 
   pub open-not : (Open c → ⊥) → isOpen c ≡ false
-  open-not h = by (isOpen c) refl
-    where
-      by : (b : Bool) → isOpen c ≡ b → isOpen c ≡ false
-      by true e = absurd (h (open-tells e))
-      by false e = e
+  open-not h = test-fails (isOpen c) (λ e. h (open-tells e))
 
   pub open-set : c .ended ≡ false → c .total ≤ cap → c .control ≡ c .total - 32 → c .at + 58 * c .entries ≤ c .total - 96
       → c .saved ≤ c .entries → isOpen c ≡ eqb (c .set) (16 * c .saved)

@@ -22,7 +22,7 @@ use lib.Dec.{eqb, leb, ltb}
 use lib.ListN.{length, getD, replicate, length-replicate}
 use borrow.Author.Tests.{eq-eqb, ne-eqb, eqb-true, le-leb, lt-leb, leb-true, lt-ltb, le-ltb}
 use Rattle.computed_tests.specs.Lists.{firstBelow}
-use Rattle.computed_tests.proofs.Tests.{and-both}
+use Rattle.computed_tests.proofs.Tests.{test-fails, and-both}
 use Rattle.computed_tests.proofs.Lists.{first-is, listBelow-at, listBelow-is}
 use Rattle.elimination.specs.ByteField.{Byte, byteField, toByte}
 use Rattle.elimination.proofs.ByteField.{toByte-of-value}
@@ -165,13 +165,9 @@ module _ (nonempty present files : List ℕ) (width : ℕ) (C : IsColumns nonemp
             (ap column (sym same) ∙ t, ap (columnsBelow nonempty present) (sym same) ∙ z)
 
     pub unplaced : width ≤ at → column c ≡ false
-    unplaced l = go (column c) refl
-      where
-        go : (b : Bool) → column c ≡ b → column c ≡ false
-        go true e = let F = first-is width (λ p. eqb (getD files p 0) (suc c)) in
-            let b = place-inside c e in
-            absurd (true≢false (sym (eq-eqb _ _ (C .each c e)) ∙ F .before (columnsBelow nonempty present c) (omega (arith, h))))
-        go false e = e
+    unplaced l = let F = first-is width (λ p. eqb (getD files p 0) (suc c)) in
+        test-fails (column c) (λ e. let b = place-inside c e in
+        true≢false (sym (eq-eqb _ _ (C .each c e)) ∙ F .before (columnsBelow nonempty present c) (omega (arith, h))))
 
   -- ---- the answers
 

@@ -11,6 +11,7 @@ use native.Mathlib.Nat.{suc-inj}
 use native.Mathlib.Omega.{arith}
 use lib.ListN.{getD, replicate}
 use Rattle.computed_tests.specs.Lists.{listBelow}
+use Rattle.computed_tests.proofs.Tests.{test-fails}
 use Rattle.elimination.specs.Reduction.{withDiagonal, isSolvable, weightOf}
 use Rattle.number_sets.specs.Sets.{member, gathered}
 use Rattle.number_sets.proofs.Words.{member-none, words-none}
@@ -52,11 +53,7 @@ module _ (rule : ℕ → ℕ → ℕ) (small : (f v : ℕ) → f < 256 → rule 
 
   -- a number that is in the set only as a column that passes
   not-found : (k : ℕ) → ((i : ℕ) → column i ≡ true → solvable (place i) ≡ true → suc i ≡ k → ⊥) → member found k ≡ false
-  not-found k never = go (member found k) refl
-    where
-      go : (b : Bool) → member found k ≡ b → member found k ≡ false
-      go true h = let (i, (c, t, z)) = found-file k h in absurd (never i c t z)
-      go false h = h
+  not-found k never = test-fails (member found k) (λ h. let (i, (c, t, z)) = found-file k h in never i c t z)
 
   at-column : (i : ℕ) → i < 255 → column i ≡ true → (b : Bool) → solvable (place i) ≡ b
       → (ws : List ℕ) × Solved rule nonempty present volumes rows i ws (member found (suc i))

@@ -11,7 +11,7 @@ use Prim.Native.Nat.{ℕ, suc, _<_, _≤_, _-_}
 use lib.Dec.{eqb, ltb}
 use borrow.Author.Tests.{eqb-true, eqb-false, ltb-true, not-true}
 use Rattle.computed_tests.specs.Numbers.{allBelow}
-use Rattle.computed_tests.proofs.Tests.{all-at}
+use Rattle.computed_tests.proofs.Tests.{test-fails, all-at}
 use Rattle.gf256.specs.Polynomial.{sumBelow}
 use Rattle.gf256.specs.Field.{product}
 use Rattle.gf256.proofs.Polynomials.{sumBelow-same}
@@ -51,11 +51,7 @@ module _ (t : State) (fits : t .n ≤ 254) (l : List ℕ) (columns : (g : ℕ) �
 
   off : (i : ℕ) → i < t .n → column t (suc i) ≡ false → chosen i ≡ 𝟘
   unfolding chosen
-  off i _ e = go (listed (suc i) l) refl
-    where
-      go : (b : Bool) → listed (suc i) l ≡ b → cond b 𝟙 𝟘 ≡ 𝟘
-      go true h = absurd (true≢false (sym (columns (suc i) h) ∙ e))
-      go false h = refl
+  off i _ e = simp (test-fails (listed (suc i) l) (λ h. true≢false (sym (columns (suc i) h) ∙ e)))
 
   abbrev chosenSum : ℕ → ℕ
   chosenSum s = sumBelow (t .n) (λ i. product (coefficient (suc i) (suc s)) (cond (listed (suc i) l) 1 0))
