@@ -2,7 +2,7 @@
 --
 --   replay-answerable     its number and its value are in range
 --   replay-asked          the same, as what `answer` requires
---   replay-told, replay-determined     the claims
+--   replay-told, replay-determined, replay-gives     the claims
 -- Assumes nothing.
 use mathlib.Core.Path.{_≡_, sym, ap, _∙_}
 use mathlib.Core.Bool.{Bool, true, false, cond}
@@ -18,11 +18,13 @@ use Rattle.lent_bytes.specs.declared.Writing.{Writing}
 use Rattle.inventory.specs.Recoverable.{State}
 use Rattle.replay.specs.Replay.{replayOf}
 use Rattle.replay.proofs.Determined.{decided}
+use Rattle.replay.proofs.EachReplayed.{each-replayed}
+use Rattle.replay.proofs.Joined.{lines-there, lines-joined}
 use Rattle.replay.proofs.Lengths.{text-fits}
 use Rattle.parity.specs.Coefficient.{coefficient}
 use Rattle.replay.specs.Replay.{Replayed}
-use Rattle.par1_c.specs.Answers.{lengthTold}
-use Rattle.par1_c.specs.Claim.{ReplayTold, ReplayDetermined}
+use Rattle.par1_c.specs.Answers.{lengthTold, answeredLength}
+use Rattle.par1_c.specs.Claim.{ReplayTold, ReplayDetermined, ReplayGives}
 use Rattle.par1_c.proofs.AnswerLaws.{Answerable, told, asked}
 
 replay-answerable : (d : State → ℕ → Bool) (log out : List ℕ) → Answerable (lengthTold (written (replayOf d log) out .0))
@@ -47,3 +49,9 @@ replay-determined log out r r′ o o′ R R′ =
     let (d, D) = decided in
     let e = R d D ∙ sym (R′ d D) in
     (ap (λ (p : ℕ × List ℕ). p .0) e, ap (λ (p : ℕ × List ℕ). p .1) e)
+
+pub replay-gives : ReplayGives
+replay-gives log text T out r out′ R =
+    let (d, D) = decided in
+    let (lines, P) = lines-there log in
+    R d D ∙ ap (λ (x : List ℕ). answeredLength (written x out)) (sym (lines-joined log lines P d D) ∙ each-replayed .printed log text T lines P)

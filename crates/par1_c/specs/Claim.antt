@@ -29,6 +29,7 @@
 --   RefusedKept          a refused call changes no lent byte, call by call; save that the end of a job ends it also where it is refused, unless with 20
 --   QueryDetermined      what a query promises determines its number and the bytes lent to it
 --   ReplayDetermined     so does what a replay promises
+--   ReplayGives          which is the text of its log
 -- What excludes an empty reading of RunOnBytes: an opening is accepted (OpenedOnBytes; `inventory` specs/Claim, OpeningNumbers), every list of calls
 -- has its replies (AnsweredOnBytes), and a new inventory can be told (RetoldOnBytes).
 -- Sentences in quotation marks are document 01's, document 02's (2026-10, 2026-13), or the tender's condition 3.
@@ -77,6 +78,7 @@ use Rattle.catalog.specs.Calls.{openOf, addOf, dropOf, loadOf}
 use Rattle.catalog.specs.declared.records.Row.{Row}
 use Rattle.par1_c.specs.Answers.{answered, answeredEnd, lengthTold, answeredLength, answeredRows, Told, Keeps, KeepsTold}
 use Rattle.replay.specs.Replay.{replayOf}
+use Rattle.replay.specs.Claim.{TextFor}
 use Rattle.par1_c.specs.Replays.{ReplayInto}
 use Rattle.par1_c.specs.Codes.{byCode, coefficientInto, volumeInto}
 use Rattle.par1_c.specs.Inventories.{openInto, changedBy, addedBy, countInto, QueryInto}
@@ -281,3 +283,10 @@ QueryDetermined =
 abbrev pub ReplayDetermined : Type 0
 ReplayDetermined =
     (log out : List ℕ) (r r′ : ℕ) (o o′ : List ℕ) → ReplayInto log out r o → ReplayInto log out r′ o′ → (r ≡ r′) × (o ≡ o′)
+
+-- the text of a log in the words of document 02, 2026-11: `replay` specs/Claim, TextFor; each log has one (EachReplayed there)
+-- proved: proofs/ReplayLaws.antt, `replay-gives`
+abbrev pub ReplayGives : Type 0
+ReplayGives =
+    (log text : List ℕ) → TextFor log text
+    → (out : List ℕ) (r : ℕ) (out′ : List ℕ) → ReplayInto log out r out′ → (r, out′) ≡ answeredLength (written text out)

@@ -14,5 +14,6 @@ pub mod LineLengths
 pub mod Shapes
 pub mod Logs
 pub mod LogKinds
+pub mod EachReplayed
 pub mod Refusals
 pub mod Examples

@@ -11,8 +11,13 @@
 --   endLine s                what ends a replay before s: nothing where s is empty, else the refusal of a line
 --   LogKind log              the four kinds of a log, with the premises of the claims on its text
 --   Ascending ks             each number is less than those after it
+--   LineAfter t a k l        l is the line after the event a of number k in the state t: the files that are recoverable then, or the refusal
+--   LinesAfter t es ls       ls are the lines after the events es from the state t on
+--   TextFor log text         text is what the log prints
 --   LogPrints rules log lines    the lines that a program prints that goes by `open`, `next` and `put_line`
 -- The claims:
+--   EachReplayed             each log is replayed with the text that it prints, in the request's words
+-- and its parts:
 --   Decided                  there is a test that decides which files are recoverable, as Replayed asks for
 --   OneText                  what is promised of a replay determines its answer and the room
 --   OneLine                  so it is with the line after an event
@@ -28,8 +33,8 @@
 --   LinesJoined, LinesFit    they are the text of the replay, and each line fits its room
 --   TextFits                 the text of any log is less than 2^59 bytes long
 --   ExamplePrints            the request's example
--- No claim is empty: the test is there (Decided), every log falls under one of four claims (EachLog), every log has lines (LinesThere), and the example
--- has an accepted log, events that are accepted and one that is refused.
+-- No claim is empty: each log has its text (EachReplayed), the test is there (Decided), every log falls under one of four claims (EachLog), every log
+-- has lines (LinesThere), and the example has an accepted log, events that are accepted and one that is refused.
 -- Assumes nothing.
 use Prim.Native.Nat.{ℕ, _^_, _<_, _≤_}
 use Prim.Native.Char.{code}
@@ -39,6 +44,7 @@ use mathlib.Core.Bool.{Bool, true, false}
 use mathlib.Core.List.{List, [], _∷_, _++_, map, flatten, List·Memᴰ}
 use lib.ListN.{length, getD}
 use Rattle.cut_lists.specs.All.{All}
+use Rattle.lent_bytes.specs.Writing.{written}
 use Rattle.lent_bytes.specs.declared.Writing.{Writing}
 use Rattle.parity.specs.Coefficient.{coefficient, ruleOf}
 use Rattle.codes.specs.declared.Code.{Code}
@@ -114,11 +120,46 @@ pub data LogKind : List ℕ → Type 0 where
 abbrev pub Ascending : List ℕ → Type 0
 Ascending ks = (i j : ℕ) → i < j → j < length ks → getD ks i 0 < getD ks j 0
 
+-- ---- what a log prints
+
+-- "After each event a program prints the file numbers that are rebuildable now, ascending, or `none`, or `refused N`", "in lines of the same shape"
+pub data LineAfter (t : State) (a : Arrival) (k : ℕ) : List ℕ → Type 0 where
+  files : numberOf t (changeBy a) k ≡ 0
+      → (ks : List ℕ) → Ascending ks → ((f : ℕ) → List·Memᴰ f ks ↔ RecoverableNow coefficient (next t (change (changeBy a) k)) f)
+      → LineAfter t a k (filesText ks)
+  refused : numberOf t (changeBy a) k ≢ 0 → LineAfter t a k (ascii "refused " ++ (decimal (numberOf t (changeBy a) k) ++ (10 ∷ [])))
+
+-- "and goes on"
+pub data LinesAfter : State → List (Arrival × ℕ) → List (List ℕ) → Type 0 where
+  no-more : {t : State} → LinesAfter t [] []
+  one-more : {t : State} {a : Arrival} {k : ℕ} {es : List (Arrival × ℕ)} {l : List ℕ} {ls : List (List ℕ)}
+      → LineAfter t a k l → LinesAfter (next t (change (changeBy a) k)) es ls → LinesAfter t ((a, k) ∷ es) (l ∷ ls)
+
+-- "a first line with the number of files and their sizes, then one line per event", and what is left of the log, s: nothing, or "a line of another
+-- shape, .. or an unended last one included, which ends the replay"; "so does 10 or 1 from opening", and "28 for a line of another shape, the first (or
+-- none)"; "A log above 65,536 bytes gives only `refused 1`"
+pub data TextFor : List ℕ → List ℕ → Type 0 where
+  of-events : (n : ℕ) (sizes : List ℕ) (es : List (Arrival × ℕ)) (s : List ℕ) (lines : List (List ℕ))
+      → openStep Powers n sizes .number ≡ 0 → NoEvent s → length (logText n sizes es ++ s) ≤ 65536
+      → LinesAfter (opened Powers n (sizeIn sizes)) es lines → TextFor (logText n sizes es ++ s) (flatten lines ++ endLine s)
+  of-opening : (n : ℕ) (sizes s : List ℕ) → openStep Powers n sizes .number ≢ 0 → length (firstText n sizes ++ s) ≤ 65536
+      → TextFor (firstText n sizes ++ s) (refusedLine (openStep Powers n sizes .number))
+  of-no-first : (log : List ℕ) → NoFirst log → length log ≤ 65536 → TextFor log (refusedLine 28)
+  of-too-long : (log : List ℕ) → 65536 < length log → TextFor log (refusedLine 1)
+
 pub data LogPrints (rules : Code → ℕ → ℕ → ℕ) (log : List ℕ) : List (List ℕ) → Type 0 where
   at-once : {line : List ℕ} → opening log .over ≡ true → EventLine rules (opening log) line → LogPrints rules log (line ∷ [])
   by-events : {lines : List (List ℕ)} → opening log .over ≡ false → Prints rules log (opening log) lines → LogPrints rules log lines
 
 -- ---- the promise
+
+-- every log has one text; the call gives it, where it fits the room; and a program prints it that goes by `open`, `next` and `put_line`
+-- proved: proofs/EachReplayed.antt, `each-replayed`
+pub record EachReplayed : Type 0 where
+  pub there : (log : List ℕ) → (text : List ℕ) × TextFor log text
+  pub one : (log text text′ : List ℕ) → TextFor log text → TextFor log text′ → text ≡ text′
+  pub called : (log text : List ℕ) → TextFor log text → (out : List ℕ) (r : Writing × List ℕ) → Replayed coefficient log out r → r ≡ written text out
+  pub printed : (log text : List ℕ) → TextFor log text → (lines : List (List ℕ)) → LogPrints ruleOf log lines → flatten lines ≡ text
 
 -- proved: proofs/Determined.antt, `decided`
 abbrev pub Decided : Type 0
