@@ -189,7 +189,7 @@ fn entries(random: &mut Random, entries: usize, saved: usize) -> Vec<File> {
 fn limits(counts: &mut Counts, random: &mut Random) {
     let few = [(0, 0), (1, 0), (1, 1), (254, 254), (300, 254)];
     let many = [(1023, 254), (1024, 0), (1024, 1), (1024, 254), (1025, 0), (1025, 254), (3000, 1)];
-    for (n, saved) in few.into_iter().chain(many) {
+    for (n, saved) in few.into_iter().chain(many.into_iter().skip(if small() { 5 } else { 0 })) {
         let files = entries(random, n, saved);
         let code = CODES[saved % 2];
         let length = HEAD + ROW * n;

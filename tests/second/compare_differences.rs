@@ -205,9 +205,10 @@ fn blocks(counts: &mut Counts, random: &mut Random) {
         two.truncate(length - [0, 0, 2, 256][random.below(4)]);
         both_ways(counts, "long data", &index(7, &[], &one), &index(7, &[], &two));
     }
-    let (one, two) = (vec![0; 100_000], [0, 1].repeat(50_000));
+    let n = if small() { 2_000 } else { 100_000 };
+    let (one, two) = (vec![0; n], [0, 1].repeat(n / 2));
     both_ways(counts, "every second byte", &index(7, &[], &one), &index(7, &[], &two));
-    both_ways(counts, "every byte", &index(7, &[], &one), &index(7, &[], &vec![1; 100_000]));
+    both_ways(counts, "every byte", &index(7, &[], &one), &index(7, &[], &vec![1; n]));
 }
 
 /// Every room from no byte to more than the lines.

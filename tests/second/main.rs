@@ -53,9 +53,9 @@ mod par1;
 mod refusals;
 mod replay;
 
-/// How many rounds of a comparison: all, or a twentieth of them where the program is called with the word `small`, as under valgrind.
+/// How many rounds of a comparison: all, or a fiftieth of them where the program is called with the word `small`, as under valgrind.
 pub fn rounds(n: usize) -> usize {
-    if small() { n.div_ceil(20) } else { n }
+    if small() { n.div_ceil(50) } else { n }
 }
 
 pub fn small() -> bool {
