@@ -12,8 +12,8 @@
  *
  * The calls, in the order in which they stand below: their refusals in the order of the tests, so that of those that hold the first is answered; how
  * many bytes they write where they are accepted, which are the first of those lent for a result (with fewer they refuse with 14); and their stack in
- * bytes, measured on accepted calls and rounded up to hundreds (docs/BENCHMARKS.md). R stands for 1 to 5, 16 to 19, 7 to 9, the refusals of reading a
- * file.
+ * bytes, measured on accepted calls and rounded up to hundreds (docs/BENCHMARKS.md); refused ones take no more. R stands for 1 to 5, 16 to 19, 7 to 9,
+ * the refusals of reading a file.
  *
  *   call                 refusals               writes                                      stack
  *
