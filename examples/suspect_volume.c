@@ -45,10 +45,10 @@ static void make_set(void) {
     files[DAMAGED][17] ^= 64;
 }
 
-static void counts(const char *what) {
+static void counts(void) {
     uint8_t count[PAR1_COUNT_BYTES];
     accepted("count", par1_count(inventory, sizeof inventory, count, sizeof count));
-    printf("%s: %d files and %d volumes present, %d in quarantine\n", what, (int)number_at(count + PAR1_COUNT_FILES),
+    printf("  present: %d files and %d volumes; in quarantine: %d\n", (int)number_at(count + PAR1_COUNT_FILES),
            (int)number_at(count + PAR1_COUNT_VOLUMES), (int)number_at(count + PAR1_COUNT_QUARANTINED));
 }
 
@@ -67,12 +67,10 @@ static void take_inventory(void) {
     }
     for (int f = 1; f <= FILES; f++)
         if (f != MISSING) accepted("add_file", par1_add_file(inventory, sizeof inventory, (uint64_t)f));
-    counts("as they came");
     for (int f = 1; f <= FILES; f++) {
         if (f == MISSING || par1_check(entry_of(f), ENTRY, files[f], SIZE) == PAR1_ACCEPTED) continue;
         accepted("remove_file", par1_remove_file(inventory, sizeof inventory, (uint64_t)f));
-        printf("file %d fails its check", f);
-        counts("");
+        printf("  file %d fails its check, and is removed\n", f);
     }
 }
 
@@ -94,7 +92,7 @@ static uint64_t suspect(int file) {
     for (uint64_t v = 1; v <= VOLUMES; v++) {
         accepted("quarantine", par1_quarantine(inventory, sizeof inventory, v));
         uint32_t number = rebuild(file, buffer);
-        printf("volume %d set aside: file %d rebuilt, and %s\n", (int)v, file, number == PAR1_ACCEPTED ? "checked" : "it differs from its entry");
+        printf("  volume %d set aside: file %d rebuilt, and %s\n", (int)v, file, number == PAR1_ACCEPTED ? "checked" : "it differs from its entry");
         if (number == PAR1_ACCEPTED) return v;
         accepted("release", par1_release(inventory, sizeof inventory, v));
     }
@@ -105,17 +103,19 @@ static uint64_t suspect(int file) {
 int main(void) {
     uint8_t buffer[SIZE];
     make_set();
+    printf("%d of %d files come ashore, and %d volumes, by Cauchy's code:\n", FILES - 1, FILES, VOLUMES);
     take_inventory();
-    printf("file %d rebuilt: refused with %u, it differs from its entry\n", DAMAGED, (unsigned)rebuild(DAMAGED, buffer));
+    counts();
+    printf("  file %d rebuilt: refused with %u, it differs from its entry\n", DAMAGED, (unsigned)rebuild(DAMAGED, buffer));
     uint64_t bad = suspect(DAMAGED);
-    counts("then");
+    counts();
     const int back[] = {DAMAGED, MISSING};
     for (int i = 0; i < 2; i++) {
         accepted("check", rebuild(back[i], files[back[i]]));
         accepted("add_file", par1_add_file(inventory, sizeof inventory, (uint64_t)back[i]));
     }
     accepted("remove_volume", par1_remove_volume(inventory, sizeof inventory, bad));
-    printf("both files back, and volume %d removed", (int)bad);
-    counts("");
+    printf("  files %d and %d are back, and volume %d is removed\n", DAMAGED, MISSING, (int)bad);
+    counts();
     return 0;
 }
