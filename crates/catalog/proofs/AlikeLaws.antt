@@ -38,7 +38,7 @@ size-alike r s e = sym (number-take 8 4 12 r (omega arith)) ∙ ap (λ (l : List
 
 -- ---- the tests
 
-pub alike-entries : {rs ss : List (List ℕ)} → Alike rs ss → (k : ℕ) → entryRowsAllowed k rs ≡ entryRowsAllowed k ss
+alike-entries : {rs ss : List (List ℕ)} → Alike rs ss → (k : ℕ) → entryRowsAllowed k rs ≡ entryRowsAllowed k ss
 unfolding entryRowsAllowed
 alike-entries alike-none k = refl
 alike-entries (alike-more {r} {s} {rs} {ss} e a) k =
@@ -60,17 +60,17 @@ saved-alike (alike-more {r} {s} {rs} {ss} e a) =
     by true false z m = absurd (true≢false z)
     by false true z m = absurd (true≢false (sym z))
 
-pub alike-saved : {rs ss : List (List ℕ)} → Alike rs ss → length (savedRows rs) ≡ length (savedRows ss)
+alike-saved : {rs ss : List (List ℕ)} → Alike rs ss → length (savedRows rs) ≡ length (savedRows ss)
 alike-saved a = alike-length (saved-alike a)
 
 sizes-alike : {rs ss : List (List ℕ)} → Alike rs ss → foldr max 0 (map (λ r. sizeOf r) rs) ≡ foldr max 0 (map (λ r. sizeOf r) ss)
 sizes-alike alike-none = refl
 sizes-alike (alike-more {r} {s} e a) = ap₂ max (size-alike r s e) (sizes-alike a)
 
-pub alike-greatest : {rs ss : List (List ℕ)} → Alike rs ss → greatestSize rs ≡ greatestSize ss
+alike-greatest : {rs ss : List (List ℕ)} → Alike rs ss → greatestSize rs ≡ greatestSize ss
 alike-greatest a = sizes-alike (saved-alike a)
 
-pub alike-volumes : {rs ss : List (List ℕ)} → Alike rs ss → (n g v : ℕ) → volumeRowsAllowed n g v rs ≡ volumeRowsAllowed n g v ss
+alike-volumes : {rs ss : List (List ℕ)} → Alike rs ss → (n g v : ℕ) → volumeRowsAllowed n g v rs ≡ volumeRowsAllowed n g v ss
 unfolding volumeRowsAllowed
 alike-volumes alike-none n g v = refl
 alike-volumes (alike-more {r} {s} {rs} {ss} e a) n g v =
@@ -97,7 +97,7 @@ rows-alike (suc n) s t h =
     alike-more (take-take 12 28 s (omega arith) ∙ h 0 (omega arith) ∙ sym (take-take 12 28 t (omega arith)))
     (rows-alike n (drop 28 s) (drop 28 t) (λ i k. ap (take 12) (next-row s i) ∙ h (suc i) (omega arith) ∙ sym (ap (take 12) (next-row t i))))
 
-pub alike-rows : (n : ℕ) (s t : List ℕ) → Alike (rowsIn n s) (rowsIn n t) → (i : ℕ) → i < n → take 12 (drop (28 * i) s) ≡ take 12 (drop (28 * i) t)
+alike-rows : (n : ℕ) (s t : List ℕ) → Alike (rowsIn n s) (rowsIn n t) → (i : ℕ) → i < n → take 12 (drop (28 * i) s) ≡ take 12 (drop (28 * i) t)
 unfolding rowsIn
 alike-rows zero s t a i h = absurd (omega arith)
 alike-rows (suc n) s t (alike-more e a) zero h = sym (take-take 12 28 s (omega arith)) ∙ e ∙ take-take 12 28 t (omega arith)

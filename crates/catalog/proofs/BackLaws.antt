@@ -48,7 +48,7 @@ module _ (es vs : List (List ℕ)) (t : List ℕ) where
   unfolding catalogBytes catalogHead
   in-catalog = at-start Heads (flatten es ++ (flatten vs ++ t)) (simp append-assoc)
 
-  pub after-four : At Whole 4 (toLe 4 (length vs) ∷ toLe 4 16 ∷ toLe 4 (16 + 28 * length es) ∷ (flatten es ++ (flatten vs ++ t)) ∷ [])
+  after-four : At Whole 4 (toLe 4 (length vs) ∷ toLe 4 16 ∷ toLe 4 (16 + 28 * length es) ∷ (flatten es ++ (flatten vs ++ t)) ∷ [])
   after-four = at-next 4 (length-toLe 4 (length es)) in-catalog
 
   pub after-eight : At Whole 8 (toLe 4 16 ∷ toLe 4 (16 + 28 * length es) ∷ (flatten es ++ (flatten vs ++ t)) ∷ [])

@@ -1,6 +1,16 @@
 -- What the calls give, from what their parts give.
+--
+--   plan-drop-is, plan-drop-other, plan-add-is, plan-add-other     what dropping and adding a volume plan, of a catalog and of other bytes
+--   Planning         what a plan tells: no test fails, and the place
+--   drop-passed, add-catalog     the tests passed
+--   held-within      a row that is there lies before the end
+--   count-low, volumes-few     a catalog has at most 255 volumes
+--   Dropping, dropping, drop-over, drop-refuses     dropping, from its plan
+--   Adding, adding, add-over, add-short, add-refuses, add-unread     adding, from its plan
+--   length-opened, open-over, open-short, open-many, open-unread     opening
+--   loading-whole, loading-short, loading-other     loading
 -- Assumes nothing.
-use mathlib.Core.Path.{_≡_, refl, sym, ap, ap₂, _∙_}
+use mathlib.Core.Path.{_≡_, refl, sym, ap, ap₂, _∙_, subst}
 use mathlib.Core.Bool.{Bool, true, false, cond, not, _&&_, true≢false}
 use mathlib.Core.List.{List, [], _∷_, _++_, flatten, append-nil}
 use Prim.Native.Nat.{ℕ, _+_, _-_, _*_, _≤_, _<_}
@@ -156,15 +166,11 @@ module _ (b : List ℕ) (v : ℕ) where
       let d = drop-passed b v (t .none) in
       let c = d .0 in
       let less = held-within b c v (d .1) in
-      let at = ap (λ (q : Place). q .at) (t .place-is) in
-      let to = ap (λ (q : Place). q .to) (t .place-is) in
-      let n = ap (λ (q : Place). q .entries) (t .place-is) in
-      let m = ap (λ (q : Place). q .volumes) (t .place-is) in
-      record {
+      subst Dropping (sym (t .place-is)) record {
         number-none = t .none;
         catalog-is = c;
         held = d .1;
-        place-is = t .place-is;
+        place-is = refl;
         within = omega arith;
         fits = omega (arith, c .within);
         entries-few = omega (arith, c .few);
@@ -209,19 +215,15 @@ module _ (b vol : List ℕ) {parts : Parts} (read : readOf vol ≡ reading.Accep
   adding {p} e = let t = plan-tells b (addNumber b vol) (volumeNumberOf vol) e in
       let c = add-catalog b vol (t .none) in
       let most = at-most b c (volumeNumberOf vol) in
-      let at = ap (λ (q : Place). q .at) (t .place-is) in
-      let to = ap (λ (q : Place). q .to) (t .place-is) in
-      let n = ap (λ (q : Place). q .entries) (t .place-is) in
-      let m = ap (λ (q : Place). q .volumes) (t .place-is) in
-      record {
+      subst Adding (sym (t .place-is)) record {
         number-none = t .none;
         catalog-is = c;
-        place-is = t .place-is;
+        place-is = refl;
         within = omega arith;
         fits = omega (arith, c .within);
         entries-few = omega (arith, c .few);
         volumes-high = omega (arith, volumes-few b c);
-        to-is = to;
+        to-is = refl;
       }
 
   -- the bytes that are to be written

@@ -50,7 +50,7 @@ module _ (b : List ℕ) where
   catalog-is c =
       simp (le-leb _ _ (c .within), le-leb _ _ (c .few), eq-eqb _ _ (c .starts), eq-eqb _ _ (c .volumes-start), c .entries-right, c .volumes-right)
 
-  pub no-catalog : (Catalog b → ⊥) → isCatalog b ≡ false
+  no-catalog : (Catalog b → ⊥) → isCatalog b ≡ false
   no-catalog h = test-fails (isCatalog b) (λ e. h (is-catalog e))
 
   -- ---- what is found

@@ -1,4 +1,14 @@
 -- A catalog with a row more and with one less, as bytes.
+--
+--   take-rows, drop-rows     the first rows, and the others
+--   length-head, length-catalog     the lengths of a catalog and of its head
+--   all-insert               what holds of each row, and of one that is put among them
+--   entries-sized, volumes-sized     each row of a catalog has 28 bytes
+--   at-most                  a place is at most the number of volumes
+--   rows-over                the rows before a place, others from it on, and a new head: the bytes of a catalog
+--   length-inserted, length-added, inserted-over     a row more: their number, their bytes, and what moving and storing give
+--   length-removed, length-dropped, removed-over     a row less, likewise
+--   present-is               whether a row is there, as the code sees it
 -- Assumes nothing.
 use mathlib.Core.Path.{_≡_, refl, sym, ap, ap₂, _∙_}
 use mathlib.Core.Bool.{Bool, true, false, cond, not, _&&_}
@@ -25,13 +35,13 @@ use Rattle.catalog.proofs.PlaceLaws.{place-within, insert-at, remove-at
 
 -- ---- parts of rows
 
-pub take-rows : (k n : ℕ) (s : List ℕ) → k ≤ n → take k (rowsIn n s) ≡ rowsIn k s
+take-rows : (k n : ℕ) (s : List ℕ) → k ≤ n → take k (rowsIn n s) ≡ rowsIn k s
 unfolding rowsIn
 take-rows zero n s h = refl
 take-rows (suc k) zero s h = absurd (omega arith)
 take-rows (suc k) (suc n) s h = ap (λ (l : List (List ℕ)). take 28 s ∷ l) (take-rows k n (drop 28 s) (omega arith))
 
-pub drop-rows : (k n : ℕ) (s : List ℕ) → drop k (rowsIn n s) ≡ rowsIn (n - k) (drop (28 * k) s)
+drop-rows : (k n : ℕ) (s : List ℕ) → drop k (rowsIn n s) ≡ rowsIn (n - k) (drop (28 * k) s)
 unfolding rowsIn
 drop-rows zero n s = let e : n ≡ n - 0 = omega arith in ap (λ (m : ℕ). rowsIn m s) e
 drop-rows (suc k) zero s = let e : 0 ≡ 0 - suc k = omega arith in ap (λ (m : ℕ). rowsIn m (drop (28 * suc k) s)) e
@@ -115,6 +125,23 @@ module _ (b : List ℕ) (c : Catalog b) where
   length-entries : length (entryRows b) ≡ n
   length-entries = length-rows n (drop 16 b)
 
+  -- the rows before place p, others from it on, and what stands past the catalog, under a head for v volumes
+  rows-over : (p v k : ℕ) (z : List ℕ) (vs : List (List ℕ)) {t u : List ℕ} → p ≤ m → t ≡ take (16 + 28 * (n + p)) b ++ (z ++ drop k b)
+      → u ≡ sets t 0 (catalogHead n v) → length vs ≡ v → flatten vs ≡ flatten (take p (volumeRows b)) ++ z → length (catalogBytes (entryRows b) vs) ≡ k
+      → (Written k, u) ≡ accepted (catalogBytes (entryRows b) vs) b
+  unfolding catalogBytes
+  rows-over p v k z vs {t} {u} h e put count rows size = let head : List ℕ = catalogHead n v in
+      let es : List ℕ = flatten (entryRows b) in
+      let x : List ℕ = flatten (take p (volumeRows b)) in
+      let whole-is : catalogBytes (entryRows b) vs ≡ head ++ (es ++ (x ++ z)) =
+      ap₂ (λ (a j : ℕ). catalogHead a j ++ (es ++ flatten vs)) length-entries count ∙ ap (λ (l : List ℕ). head ++ (es ++ l)) rows in
+      let u-is : u ≡ head ++ ((es ++ x) ++ (z ++ drop k b)) =
+      headed (16 + 28 * (n + p)) v (z ++ drop k b) (omega arith) (omega (arith, c .within)) e put
+      ∙ ap (λ (a : List ℕ). head ++ (a ++ (z ++ drop k b))) (front p h) in
+      let joined : head ++ ((es ++ x) ++ (z ++ drop k b)) ≡ (head ++ (es ++ (x ++ z))) ++ drop k b = simp append-assoc in
+      ap₂ (λ (j : ℕ) (l : List ℕ). (Written j, l)) (sym size)
+      (u-is ∙ joined ∙ ap₂ (λ (a : List ℕ) (j : ℕ). a ++ drop j b) (sym whole-is) (sym size))
+
   -- ---- added
 
   pub length-inserted : (r : List ℕ) → length (insertRow r (volumeRows b)) ≡ m + 1
@@ -128,30 +155,20 @@ module _ (b : List ℕ) (c : Catalog b) where
   pub inserted-over : (r : List ℕ) {t u : List ℕ} → length r ≡ 28 → catalogLength b + 28 ≤ length b
       → t ≡ spread (16 + 28 * (n + Place (numberOf r))) (catalogLength b) r b → u ≡ sets t 0 (catalogHead n (m + 1))
       → (Written (catalogLength b + 28), u) ≡ accepted (catalogBytes (entryRows b) (insertRow r (volumeRows b))) b
-  unfolding catalogBytes flatten
-  inserted-over r {t} {u} size fits up put = let vs : List (List ℕ) = volumeRows b in
+  unfolding flatten
+  inserted-over r size fits up put = let vs : List (List ℕ) = volumeRows b in
       let p : ℕ = Place (numberOf r) in
       let h : p ≤ m = at-most (numberOf r) in
       let at : ℕ = 16 + 28 * (n + p) in
       let to : ℕ = catalogLength b in
-      let head : List ℕ = catalogHead n (m + 1) in
-      let es : List ℕ = flatten (entryRows b) in
       let x : List ℕ = flatten (take p vs) in
       let y : List ℕ = flatten (drop p vs) in
-      let moved : take (to - at) (drop at b) ≡ y = let k : to - at ≡ 28 * (m - p) = omega arith in ap (λ (k : ℕ). take k (drop at b)) k ∙ back p h in
+      let k : to - at ≡ 28 * (m - p) = omega arith in
+      let moved : take (to - at) (drop at b) ≡ y = ap (λ (k : ℕ). take k (drop at b)) k ∙ back p h in
       let rows : flatten (insertRow r vs) ≡ x ++ (r ++ y) = ap flatten (insert-at r vs) ∙ flatten-append (take p vs) (r ∷ drop p vs) in
-      let whole : List ℕ = catalogBytes (entryRows b) (insertRow r vs) in
-      let whole-is : whole ≡ head ++ (es ++ (x ++ (r ++ y))) =
-      ap₂ (λ (a k : ℕ). catalogHead a k ++ (es ++ flatten (insertRow r vs))) length-entries (length-inserted r)
-      ∙ ap (λ (l : List ℕ). head ++ (es ++ l)) rows in
-      let sizes : length whole ≡ to + 28 = length-added r size in
-      let rest : List ℕ = drop (to + 28) b in
-      let u-is : u ≡ head ++ ((es ++ x) ++ (r ++ (y ++ rest))) =
-      headed at (m + 1) (r ++ (take (to - at) (drop at b) ++ rest)) (omega arith) (omega (arith, c .within)) up put
-      ∙ ap₂ (λ (a z : List ℕ). head ++ (a ++ (r ++ (z ++ rest)))) (front p h) moved in
-      let joined : head ++ ((es ++ x) ++ (r ++ (y ++ rest))) ≡ (head ++ (es ++ (x ++ (r ++ y)))) ++ rest = simp append-assoc in
-      ap₂ (λ (k : ℕ) (l : List ℕ). (Written k, l)) (sym sizes)
-      (u-is ∙ joined ∙ ap₂ (λ (a : List ℕ) (k : ℕ). a ++ drop k b) (sym whole-is) (sym sizes))
+      let regrouped : take at b ++ (r ++ (take (to - at) (drop at b) ++ drop (to + 28) b)) ≡ take at b ++ ((r ++ y) ++ drop (to + 28) b) =
+      rw moved (simp append-assoc) in
+      rows-over p (m + 1) (to + 28) (r ++ y) (insertRow r vs) h (up ∙ regrouped) put (length-inserted r) rows (length-added r size)
 
   -- ---- dropped
 
@@ -167,33 +184,18 @@ module _ (b : List ℕ) (c : Catalog b) where
   pub removed-over : (v : ℕ) {t u : List ℕ} → holds v (volumeRows b) ≡ true → Place v < m
       → t ≡ closed (16 + 28 * (n + Place v)) (catalogLength b) b → u ≡ sets t 0 (catalogHead n (m - 1))
       → (Written (catalogLength b - 28), u) ≡ accepted (catalogBytes (entryRows b) (removeRow v (volumeRows b))) b
-  unfolding catalogBytes
-  removed-over v {t} {u} held less down put = let vs : List (List ℕ) = volumeRows b in
+  removed-over v held less down put = let vs : List (List ℕ) = volumeRows b in
       let p : ℕ = Place v in
       let at : ℕ = 16 + 28 * (n + p) in
       let to : ℕ = catalogLength b in
-      let head : List ℕ = catalogHead n (m - 1) in
-      let es : List ℕ = flatten (entryRows b) in
-      let x : List ℕ = flatten (take p vs) in
-      let y : List ℕ = flatten (drop (p + 1) vs) in
       let k : to - (at + 28) ≡ 28 * (m - (p + 1)) = omega arith in
       let a′ : at + 28 ≡ 16 + 28 * (n + (p + 1)) = omega arith in
-      let moved : take (to - (at + 28)) (drop (at + 28) b) ≡ y =
+      let moved : take (to - (at + 28)) (drop (at + 28) b) ≡ flatten (drop (p + 1) vs) =
       ap₂ (λ (i j : ℕ). take i (drop j b)) k a′ ∙ back (p + 1) (omega arith) in
-      let rows : flatten (removeRow v vs) ≡ x ++ y = ap flatten (remove-at _ _ 0 vs v (c .volumes-right) held) ∙ flatten-append (take p vs) (drop (p + 1) vs) in
-      let whole : List ℕ = catalogBytes (entryRows b) (removeRow v vs) in
-      let one-less : length (removeRow v vs) ≡ m - 1 = omega (arith, length-removed v held less) in
-      let whole-is : whole ≡ head ++ (es ++ (x ++ y)) =
-      ap₂ (λ (a k : ℕ). catalogHead a k ++ (es ++ flatten (removeRow v vs))) length-entries one-less
-      ∙ ap (λ (l : List ℕ). head ++ (es ++ l)) rows in
-      let sizes : length whole ≡ to - 28 = omega (arith, length-dropped v held less) in
-      let rest : List ℕ = drop (to - 28) b in
-      let u-is : u ≡ head ++ ((es ++ x) ++ (y ++ rest)) =
-      headed at (m - 1) (take (to - (at + 28)) (drop (at + 28) b) ++ rest) (omega arith) (omega (arith, c .within)) down put
-      ∙ ap₂ (λ (a z : List ℕ). head ++ (a ++ (z ++ rest))) (front p (omega arith)) moved in
-      let joined : head ++ ((es ++ x) ++ (y ++ rest)) ≡ (head ++ (es ++ (x ++ y))) ++ rest = simp append-assoc in
-      ap₂ (λ (k : ℕ) (l : List ℕ). (Written k, l)) (sym sizes)
-      (u-is ∙ joined ∙ ap₂ (λ (a : List ℕ) (k : ℕ). a ++ drop k b) (sym whole-is) (sym sizes))
+      let regrouped = ap (λ (l : List ℕ). take at b ++ (l ++ drop (to - 28) b)) moved in
+      rows-over p (m - 1) (to - 28) (flatten (drop (p + 1) vs)) (removeRow v vs) (omega arith) (down ∙ regrouped) put
+      (omega (arith, length-removed v held less))
+      (ap flatten (remove-at _ _ 0 vs v (c .volumes-right) held) ∙ flatten-append (take p vs) (drop (p + 1) vs)) (omega (arith, length-dropped v held less))
 
   -- ---- whether a row is there, as the code sees it
 

@@ -1,4 +1,10 @@
 -- The entry rows of a list, entry by entry.
+--
+--   restRows k s from     the rows of the entries of s from a place on, where k saved ones stand before it
+--   rows-next, entries-next, hash-length     the entry at the place, and the others
+--   store-next            a row stored, and the others
+--   compare-next, compare-within, compare-end     a row compared, and the others
+--   length-rows-after, rows-sized-for     as many rows as entries, of 28 bytes each
 -- Assumes nothing.
 use mathlib.Core.Path.{_≡_, refl, sym, ap, ap₂, _∙_}
 use mathlib.Core.Bool.{Bool, true, false, _&&_}

@@ -1,4 +1,6 @@
 -- What loading tells of each entry of the list.
+--
+--   loads      the records are filled in the order of the list, each with the file number, size and hash of its entry
 -- Assumes nothing.
 use mathlib.Core.Path.{_≡_, refl, sym, ap, ap₂, _∙_, subst}
 use mathlib.Core.Bool.{Bool, true, false, cond}

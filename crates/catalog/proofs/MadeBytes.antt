@@ -1,4 +1,7 @@
 -- What is written is bytes.
+--
+--   bytes-none, bytes-cons, bytes-zeros, bytes-flatten     lists of bytes
+--   bytes-entry, bytes-volume     an entry and a volume, as written
 -- Assumes nothing.
 use mathlib.Core.List.{List, [], _∷_, _++_, flatten}
 use Prim.Native.Nat.{ℕ, zero, suc, _+_, _<_}
@@ -26,7 +29,7 @@ pub bytes-zeros : (n : ℕ) → Bytes (replicate n 0)
 bytes-zeros zero = bytes-none
 bytes-zeros (suc n) = bytes-cons 0 (replicate n 0) (omega arith) (bytes-zeros n)
 
-pub bytes-flatten : {ps : List (List ℕ)} → All Bytes ps → Bytes (flatten ps)
+bytes-flatten : {ps : List (List ℕ)} → All Bytes ps → Bytes (flatten ps)
 unfolding flatten
 bytes-flatten all-none = bytes-none
 bytes-flatten (all-more {x} {xs} b bs) = bytes-append x (flatten xs) b (bytes-flatten bs)

@@ -245,7 +245,7 @@ module _ (rs : List (List ℕ)) (allowed : entryRowsAllowed 0 rs ≡ true) (few 
   pub all-made : All Made rs
   all-made = all-map (λ r h. made r h) (sizes-right 0 rs allowed)
 
-  pub size-most : greatestSize rs ≤ maxFileSize
+  size-most : greatestSize rs ≤ maxFileSize
   size-most = greatest-most (all-keep (λ r. isSavedRow r) (sizes-right 0 rs allowed))
 
   walk-made : walkOf (madeList rs) ≡ walked.Entries (totalsOf (madeEntries rs))

@@ -1,4 +1,8 @@
 -- Bytes moved up and down by a row.
+--
+--   getD-below, getD-past      a store elsewhere
+--   up-more, up-spread         bytes moved up from the last to the first, and the row between
+--   down-more, down-closed     bytes moved down from the first to the last
 -- Assumes nothing.
 use mathlib.Core.Path.{_≡_, refl, sym, ap, ap₂, _∙_}
 use mathlib.Core.List.{List, [], _∷_, _++_, append-assoc}
@@ -18,11 +22,11 @@ set-below s (b ∷ v) m k a h =
     set-below (set s m b) v (suc m) k a (omega arith)
     ∙ ap (λ (t : List ℕ). sets t (suc m) v) (set-comm s m k b a (λ e. omega arith))
 
-pub getD-below : (s v : List ℕ) (m j : ℕ) → j < m → getD (sets s m v) j 0 ≡ getD s j 0
+getD-below : (s v : List ℕ) (m j : ℕ) → j < m → getD (sets s m v) j 0 ≡ getD s j 0
 getD-below s [] m j h = refl
 getD-below s (b ∷ v) m j h = getD-below (set s m b) v (suc m) j (omega arith) ∙ getD-set-other s m j b 0 (λ e. omega arith)
 
-pub getD-past : (s v : List ℕ) (m j : ℕ) → m + length v ≤ j → getD (sets s m v) j 0 ≡ getD s j 0
+getD-past : (s v : List ℕ) (m j : ℕ) → m + length v ≤ j → getD (sets s m v) j 0 ≡ getD s j 0
 getD-past s [] m j h = refl
 getD-past s (b ∷ v) m j h = getD-past (set s m b) v (suc m) j (omega arith) ∙ getD-set-other s m j b 0 (λ e. omega arith)
 

@@ -60,7 +60,7 @@ map-perm g (List·Permᴰ·trans p q) = List·Permᴰ·trans (map-perm g p) (map
 
 -- ---- a row put into its place
 
-pub insert-perm : (r : List ℕ) (rs : List (List ℕ)) → List·Permᴰ (insertRow r rs) (r ∷ rs)
+insert-perm : (r : List ℕ) (rs : List (List ℕ)) → List·Permᴰ (insertRow r rs) (r ∷ rs)
 unfolding insertRow
 insert-perm r [] = Permᴰ·refl (r ∷ [])
 insert-perm r (x ∷ rs) = by (ltb (numberOf x) (numberOf r)) (insert-perm r rs)

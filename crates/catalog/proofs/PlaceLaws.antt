@@ -1,4 +1,10 @@
 -- The place of a volume's row among ascending ones.
+--
+--   place-within, insert-at    the place is within the rows, and an inserted row stands there
+--   FirstRow, first-row, row-first, no-rows     what the test of the volume rows tells of the first one
+--   none-below                 a number that is not above the lowest has no row
+--   holds-place, remove-at     a row that is there stands at its place
+--   insert-allowed             an inserted row keeps the order
 -- Assumes nothing.
 use mathlib.Core.Path.{_≡_, refl, sym, ap, _∙_}
 use mathlib.Core.Bool.{Bool, true, false, cond, not, _&&_, _||_, true≢false}
@@ -53,7 +59,7 @@ module _ (n g : ℕ) where
       let t₁ = and-both (ltb v (numberOf r)) (numberAllowed (numberOf r) n) (t₂ .0) in
       record { above = ltb-true _ _ (t₁ .0); number-right = t₁ .1; size-is = eqb-true _ _ (t₂ .1); others = t₃ .1 }
 
-  pub row-first : (v : ℕ) (r : List ℕ) (rs : List (List ℕ)) → FirstRow n g v r rs → volumeRowsAllowed n g v (r ∷ rs) ≡ true
+  row-first : (v : ℕ) (r : List ℕ) (rs : List (List ℕ)) → FirstRow n g v r rs → volumeRowsAllowed n g v (r ∷ rs) ≡ true
   unfolding volumeRowsAllowed
   row-first v r rs f = simp (lt-ltb _ _ (f .above), f .number-right, eq-eqb _ _ (f .size-is), f .others)
 

@@ -1,4 +1,9 @@
 -- The records of rows.
+--
+--   row-none, whole, row-some     the record of row i, where the bytes are too short for it and where they are not
+--   recordsTo b n, filledTo b n ys     the records of the first n rows, and the records ys after a load of n
+--   length-records, length-filled, filled-more, records-are     their number, a turn of the loop, and the records of rows that lie in the bytes
+--   Filling, filling, filling-none     how many records a load fills, and with what
 -- Assumes nothing.
 use mathlib.Core.Path.{_≡_, refl, sym, ap, ap₂, _∙_}
 use mathlib.Core.List.{List, [], _∷_, _++_, map, append-nil, append-assoc}
@@ -56,7 +61,7 @@ recordsTo b (suc n) = recordsTo b n ++ (rowAt b n ∷ [])
 abbrev pub filledTo : List ℕ → ℕ → List Row → List Row
 filledTo b n ys = recordsTo b n ++ drop n ys
 
-pub length-records : (b : List ℕ) (n : ℕ) → length (recordsTo b n) ≡ n
+length-records : (b : List ℕ) (n : ℕ) → length (recordsTo b n) ≡ n
 unfolding recordsTo
 length-records b zero = refl
 length-records b (suc n) = omega (arith, length-append (recordsTo b n) (rowAt b n ∷ []), length-records b n)
@@ -86,7 +91,7 @@ map-append f [] ys = refl
 map-append f (x ∷ xs) ys = ap (λ (l : List Row). f x ∷ l) (map-append f xs ys)
 
 -- the records of rows that lie in the bytes
-pub records-are : (b : List ℕ) (n : ℕ) → 16 + 28 * n ≤ length b → recordsTo b n ≡ map (λ r. recordOf r) (rowsIn n (drop 16 b))
+records-are : (b : List ℕ) (n : ℕ) → 16 + 28 * n ≤ length b → recordsTo b n ≡ map (λ r. recordOf r) (rowsIn n (drop 16 b))
 unfolding recordsTo rowsIn
 records-are b zero h = refl
 records-are b (suc n) h = let e : 28 * n + 16 ≡ 16 + 28 * n = omega arith in

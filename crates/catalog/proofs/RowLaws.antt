@@ -1,4 +1,11 @@
 -- Rows one after another, and their fields.
+--
+--   number-at, size-at, hash-at     the fields of a row in its place
+--   rows-more, length-rows, flatten-rows, rows-sized, rows-back     rows one after another
+--   Sized r          the row r has 28 bytes
+--   length-flatten, length-row     the lengths of rows
+--   number-row, size-row, hash-row     the fields of a row that was made
+--   row-over         a row stored field by field
 -- Assumes nothing.
 use mathlib.Core.Path.{_≡_, refl, sym, ap, ap₂, _∙_}
 use mathlib.Core.List.{List, [], _∷_, _++_, flatten, append-assoc, append-nil}

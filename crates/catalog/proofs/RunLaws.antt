@@ -1,4 +1,7 @@
 -- After any run of calls the catalog is the one newly opened and given the volumes now in it.
+--
+--   afresh         the volumes of a catalog, added in any order to one newly opened, give the same bytes
+--   after-run      the claim
 -- Assumes nothing.
 use mathlib.Core.Path.{_≡_, sym, ap, _∙_, subst}
 use mathlib.Core.List.{List, [], _∷_, _++_, map, reverseAux, reverse, List·Permᴰ, List·Permᴰ·trans, Permᴰ·symm, Permᴰ·reverse}

@@ -1,4 +1,6 @@
 -- The volumes of a set are added to a catalog opened from one of them.
+--
+--   set-added      the claim
 -- Assumes nothing.
 use mathlib.Core.Path.{_≡_, refl, sym, ap, _∙_, subst}
 use mathlib.Core.Bool.{Bool, true, false, cond}

@@ -194,7 +194,7 @@ module _ {h : Held} {room : List ℕ} (i : Invariant h room) (v : ℕ) where
         once = subst Distinct remaining (distinct-remove v (j .once));
       }
 
-  pub drop-next : {n : ℕ} {after : List ℕ} → dropOf room v ≡ (Written n, after) → Next Without n after
+  drop-next : {n : ℕ} {after : List ℕ} → dropOf room v ≡ (Written n, after) → Next Without n after
   unfolding dropOf
   drop-next e = made Without without-in (unless-tells (bare (dropNumber room v)) (droppedBytes room v) room e) without-bytes
 

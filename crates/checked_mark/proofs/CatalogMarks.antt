@@ -1,22 +1,23 @@
 -- Catalogs of files that differ in marks and control hashes only.
 --
 --   rows-same         their entry rows are the same
---   Inserted, inserted     two rows of one number stand at one place
+--   inserted          rows of one number and size are put at one place
 --   Parts, added-parts     what adding gives is the same but for the control hash
 --   opened-same, added-same, rooms-alike     the calls
 -- Assumes nothing.
 use mathlib.Core.Path.{_≡_, refl, sym, ap, ap₂, _∙_}
-use mathlib.Core.Bool.{Bool, true, false}
 use mathlib.Core.List.{List, [], _∷_, _++_, append-assoc, append-nil, flatten}
 use mathlib.Core.Logic.{_⊎_, inl, inr}
 use Prim.Native.Nat.{ℕ, suc, _+_, _-_, min}
 use native.Mathlib.Omega.{arith}
-use lib.Dec.{ltb, leb}
+use lib.Dec.{leb}
 use lib.ListN.{length, take, drop, length-append, length-take, length-drop}
 use lib.Seq.{take-at, drop-at, take-append-seam, drop-append-seam, drop-drop}
 use Rattle.catalog.specs.Catalog.{entryRows, volumeRows, insertRow}
 use Rattle.catalog.specs.Calls.{openRefusal, openOf, addNumber, addRefusal, addedBytes, addOf}
+use Rattle.catalog.specs.Plan.{placeOf}
 use Rattle.catalog.specs.Rows.{row, numberOf, fileNumberAfter, entryRow, rowsAfter, catalogHead, catalogBytes}
+use Rattle.catalog.proofs.PlaceLaws.{insert-at}
 use Rattle.entries.specs.Entry.{statusOf, savedCount}
 use Rattle.lent_bytes.specs.Writing.{writtenUnless}
 use Rattle.lent_bytes.proofs.PartsInRow.{flatten-append}
@@ -46,27 +47,7 @@ rows-same k (pairs-more {x = e} {y = g} a ps) =
     simp (is-saved a, file-size a, md5-same a)
     (ap (λ (rs : List (List ℕ)). entryRow (fileNumberAfter k (statusOf g)) g ∷ rs) (rows-same (k + savedCount (statusOf g)) ps))
 
--- ---- one row more
-
-record Inserted (r t : List ℕ) (rs : List (List ℕ)) : Type 0 where
-  earlier : List (List ℕ)
-  later : List (List ℕ)
-  one-is : insertRow r rs ≡ earlier ++ r ∷ later
-  other-is : insertRow t rs ≡ earlier ++ t ∷ later
-
-inserted : (r t : List ℕ) (rs : List (List ℕ)) → numberOf r ≡ numberOf t → Inserted r t rs
-unfolding insertRow
-inserted r t [] e = record { earlier = []; later = []; one-is = refl; other-is = refl }
-inserted r t (x ∷ rs) e = by (ltb (numberOf x) (numberOf t)) refl (inserted r t rs e)
-  where
-    by : (b : Bool) → ltb (numberOf x) (numberOf t) ≡ b → Inserted r t rs → Inserted r t (x ∷ rs)
-    by true p i = record {
-      earlier = x ∷ i .earlier;
-      later = i .later;
-      one-is = simp (e, p) (ap (λ (l : List (List ℕ)). x ∷ l) (i .one-is));
-      other-is = simp p (ap (λ (l : List (List ℕ)). x ∷ l) (i .other-is));
-    }
-    by false p i = record { earlier = []; later = x ∷ rs; one-is = simp (e, p); other-is = simp p }
+-- ---- a volume's row
 
 module _ (n m : ℕ) where
   abbrev front : List ℕ
@@ -98,23 +79,28 @@ bytes-parts es p q r = simp (length-append, flatten-append, append-assoc)
 hash-parts : (x y h front r : List ℕ) → r ≡ front ++ h → x ++ (r ++ y) ≡ (x ++ front) ++ (h ++ y)
 hash-parts x y h front r e = rw e (simp append-assoc)
 
-added-parts : (b : List ℕ) (n m : ℕ) (h k : List ℕ)
-    → Parts (catalogBytes (entryRows b) (insertRow (row n m h) (volumeRows b))) (catalogBytes (entryRows b) (insertRow (row n m k) (volumeRows b))) h k
-added-parts b n m h k = let i = inserted (row n m h) (row n m k) (volumeRows b) (row-number n m h ∙ sym (row-number n m k)) in
-    let es : List (List ℕ) = entryRows b in
-    let x : List ℕ = catalogHead (length es) (length (i .earlier) + suc (length (i .later))) ++ (flatten es ++ flatten (i .earlier)) in
-    record {
-      before = x ++ front n m;
-      after = flatten (i .later);
-      one-is =
-          ap (catalogBytes es) (i .one-is)
-          ∙ bytes-parts es (i .earlier) (i .later) (row n m h)
-          ∙ hash-parts x (flatten (i .later)) h (front n m) (row n m h) (row-is n m h);
-      other-is =
-          ap (catalogBytes es) (i .other-is)
-          ∙ bytes-parts es (i .earlier) (i .later) (row n m k)
-          ∙ hash-parts x (flatten (i .later)) k (front n m) (row n m k) (row-is n m k);
-    }
+-- a row of the number n and the size m stands at one place, whatever its hash
+module _ (b : List ℕ) (n m : ℕ) where
+  abbrev earlier : List (List ℕ)
+  earlier = take (placeOf (numberOf (front n m)) (volumeRows b)) (volumeRows b)
+
+  abbrev later : List (List ℕ)
+  later = drop (placeOf (numberOf (front n m)) (volumeRows b)) (volumeRows b)
+
+  abbrev ahead : List ℕ
+  ahead = catalogHead (length (entryRows b)) (length earlier + suc (length later)) ++ (flatten (entryRows b) ++ flatten earlier)
+
+  inserted : (h : List ℕ) → insertRow (row n m h) (volumeRows b) ≡ earlier ++ row n m h ∷ later
+  inserted h = insert-at (row n m h) (volumeRows b) ∙ simp (row-number n m h)
+
+  added-is : (h : List ℕ) → catalogBytes (entryRows b) (insertRow (row n m h) (volumeRows b)) ≡ (ahead ++ front n m) ++ (h ++ flatten later)
+  added-is h =
+      ap (catalogBytes (entryRows b)) (inserted h) ∙ bytes-parts (entryRows b) earlier later (row n m h)
+      ∙ hash-parts ahead (flatten later) h (front n m) (row n m h) (row-is n m h)
+
+  added-parts : (h k : List ℕ)
+      → Parts (catalogBytes (entryRows b) (insertRow (row n m h) (volumeRows b))) (catalogBytes (entryRows b) (insertRow (row n m k) (volumeRows b))) h k
+  added-parts h k = record { before = ahead ++ front n m; after = flatten later; one-is = added-is h; other-is = added-is k }
 
 parts-length : {s t h k : List ℕ} → Parts s t h k → length h ≡ length k → length s ≡ length t
 parts-length {s} {t} {h} {k} p e =

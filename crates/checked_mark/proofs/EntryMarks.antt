@@ -66,7 +66,7 @@ pub alike-self : (es : List (List ℕ)) → Pairs EntryAlike es es
 alike-self = pairs-self (λ e. record { length-same = refl; size-same = refl; status-alike = refl; rest-same = refl })
 
 module _ {es gs : List (List ℕ)} (ps : Pairs EntryAlike es gs) where
-  pub saved-md5s : map (λ e. md5Of e) (savedOf es) ≡ map (λ e. md5Of e) (savedOf gs)
+  saved-md5s : map (λ e. md5Of e) (savedOf es) ≡ map (λ e. md5Of e) (savedOf gs)
   saved-md5s = kept-same (λ e. md5Of e) (λ e. isSaved (statusOf e)) (λ e g a. md5-same a) (λ e g a. is-saved a) ps
 
   pub saved-count : length (savedOf es) ≡ length (savedOf gs)

@@ -8,7 +8,7 @@
 -- Assumes nothing.
 use mathlib.Core.Path.{_≡_, refl, sym, ap, ap₂, _∙_}
 use mathlib.Core.Bool.{Bool, true, false, cond}
-use mathlib.Core.List.{List, [], _∷_, _++_, map, flatten}
+use mathlib.Core.List.{List, _++_, map, flatten, map-id}
 use Prim.Native.Nat.{ℕ, _+_, _≤_}
 use native.Mathlib.Omega.{arith}
 use lib.Dec.{leb}
@@ -126,12 +126,8 @@ module _ {f g : List ℕ} (a : AlikeButMarks f g) where
 
 -- ---- reading in chunks
 
-each : (cs : List (List ℕ)) → map (λ c. c) cs ≡ cs
-each [] = refl
-each (c ∷ cs) = ap (λ (ds : List (List ℕ)). c ∷ ds) (each cs)
-
 pub chunks-read : (cs : List (List ℕ)) → readInChunks cs ≡ readOf (flatten cs)
 chunks-read cs =
     let e : reading (readInChunks cs) ≡ reading (readOf (flatten (map (λ c. c) cs))) = read-chunked .cut-anyhow (record {}) cs (record {}) in
     let f : readInChunks cs ≡ readOf (flatten (map (λ c. c) cs)) = cc in
-    f ∙ ap (λ (ds : List (List ℕ)). readOf (flatten ds)) (each cs)
+    f ∙ ap (λ (ds : List (List ℕ)). readOf (flatten ds)) (map-id cs)

@@ -63,23 +63,14 @@ module _ (m : List ℕ) (status : ℕ) (name : List ℕ) where
   rest-is = at-next 8 (length-toLe 8 status) (at-next 8 (length-toLe 8 (56 + length name)) entry-parts) .joined
 
 length-same : {x y : File} → FileAlike x y → length (entryFor x) ≡ length (entryFor y)
-length-same {x} {y} a =
-    length-entry (x .contents) (x .status) (x .name)
-    ∙ ap (λ (n : List ℕ). 56 + length n) (a .name-same)
-    ∙ sym (length-entry (y .contents) (y .status) (y .name))
+length-same a = simp (length-entry, a .name-same)
 
 entry-alike : {x y : File} → FileBack x → FileBack y → FileAlike x y → EntryAlike (entryFor x) (entryFor y)
-entry-alike {x} {y} b c a = record {
+entry-alike b c a = record {
   length-same = length-same a;
-  size-same =
-      size-is (x .contents) (x .status) (x .name)
-      ∙ ap (λ (n : List ℕ). toLe 8 (56 + length n)) (a .name-same)
-      ∙ sym (size-is (y .contents) (y .status) (y .name));
+  size-same = simp (size-is, a .name-same);
   status-alike = ap unmarked (b .status-is) ∙ a .status-alike ∙ sym (ap unmarked (c .status-is));
-  rest-same =
-      rest-is (x .contents) (x .status) (x .name)
-      ∙ ap₂ (λ (m n : List ℕ). flatten (toLe 8 (length m) ∷ md5 m ∷ md5First m ∷ n ∷ [])) (a .contents-same) (a .name-same)
-      ∙ sym (rest-is (y .contents) (y .status) (y .name));
+  rest-same = simp (rest-is, a .contents-same, a .name-same);
 }
 
 -- ---- all entries
@@ -92,8 +83,7 @@ lists-alike (all-more b bs) (all-more c cs) (pairs-more a ps) = entry-more (entr
 list-length : {fs gs : List File} → Pairs FileAlike fs gs → length (listFor fs) ≡ length (listFor gs)
 unfolding flatten
 list-length pairs-none = refl
-list-length (pairs-more {x} {y} {xs} {ys} a ps) =
-    length-append (entryFor x) (listFor xs) ∙ ap₂ _+_ (length-same a) (list-length ps) ∙ sym (length-append (entryFor y) (listFor ys))
+list-length (pairs-more a ps) = simp (length-append, length-same a, list-length ps)
 
 files-right : {fs gs : List File} → Pairs FileAlike fs gs → All FileRight fs → All FileRight gs
 files-right pairs-none all-none = all-none

@@ -44,12 +44,12 @@ module _ {e g : List ℕ} (a : EntryAlike e g) where
   answer-same [] = refl
   answer-same (l ∷ ls) = simp (named-same l, md5-same a, answer-same ls)
 
-pub fitting-same : {es gs : List (List ℕ)} → Pairs EntryAlike es gs → allFitting es ≡ allFitting gs
+fitting-same : {es gs : List (List ℕ)} → Pairs EntryAlike es gs → allFitting es ≡ allFitting gs
 unfolding allFitting
 fitting-same pairs-none = refl
 fitting-same (pairs-more a ps) = ap₂ _&&_ (fits-same a) (fitting-same ps)
 
-pub text-same : {es gs : List (List ℕ)} → Pairs EntryAlike es gs → exportText es ≡ exportText gs
+text-same : {es gs : List (List ℕ)} → Pairs EntryAlike es gs → exportText es ≡ exportText gs
 unfolding exportText
 text-same pairs-none = refl
 text-same (pairs-more a ps) = ap₂ (λ (s t : List ℕ). s ++ t) (line-same a) (text-same ps)

@@ -35,7 +35,7 @@ use Rattle.checked_mark.proofs.EntryMarks.{set-hash-same}
 use Rattle.checked_mark.proofs.ListMarks.{walked-alike, walk-same}
 use Rattle.checked_mark.proofs.PairLaws.{count-same}
 
-pub lists-length : {s t : List ℕ} → ListsAlike s t → length s ≡ length t
+lists-length : {s t : List ℕ} → ListsAlike s t → length s ≡ length t
 lists-length (rest-same s) = refl
 lists-length (entry-more {e} {g} {s} {t} z a l) = length-append e s ∙ ap₂ _+_ (a .length-same) (lists-length l) ∙ sym (length-append g t)
 
@@ -71,6 +71,9 @@ module _ (code : Code) (program number : ℕ) (list area : List ℕ) where
 -- ---- two of them
 
 module _ (code : Code) (program number : ℕ) (area : List ℕ) {s t : List ℕ} (l : ListsAlike s t) where
+  length-same : length (volumeBytes code program number s area) ≡ length (volumeBytes code program number t area)
+  length-same = simp (length-volume, lists-length l)
+
   header-same : header code program number s area ≡ header code program number t area
   header-same = let es = walked-alike l .entries-alike in
       ap₂ (λ (n k : ℕ). setHash (entriesOf s .pieces) ++ numberBytes number n k (length area)) (count-same es) (lists-length l)
@@ -90,10 +93,7 @@ module _ (code : Code) (program number : ℕ) (area : List ℕ) {s t : List ℕ}
       let right = read-tells (volumeBytes code program number s area) _ (one .read-is) .tests .control-is in
       let other = read-tells (volumeBytes code program number t area) _ (two .read-is) .tests .control-is in
       record {
-        length-same =
-            length-volume code program number s area
-            ∙ ap (λ (n : ℕ). 96 + n + length area) (lists-length l)
-            ∙ sym (length-volume code program number t area);
+        length-same = length-same;
         first-same = first-is code program number s area ∙ sym (first-is code program number t area);
         header-same = header-is code program number s area ∙ header-same ∙ sym (header-is code program number t area);
         lists-alike = rw (one .list-is, two .list-is) l;
@@ -112,11 +112,11 @@ module _ (code : Code) (program number : ℕ) (area out : List ℕ) {s t : List 
 
   answers-same : one .0 ≡ two .0
   unfolding writeVolumeOf
-  answers-same = let n = lists-length l in
-      let sizes : length (volumeBytes code program number s area) ≡ length (volumeBytes code program number t area) =
-      length-volume code program number s area ∙ ap (λ (n : ℕ). 96 + n + length area) n ∙ sym (length-volume code program number t area) in
-      answer-same (walkRefusal number (walkOf s) (length s) (length area)) (volumeBytes code program number s area) (volumeBytes code program number t area) out sizes
-      ∙ ap₂ (λ (w : Walked) (n : ℕ). writtenUnless (walkRefusal number w n (length area)) (volumeBytes code program number t area) out .0) (walk-same l) n
+  answers-same =
+      answer-same (walkRefusal number (walkOf s) (length s) (length area)) (volumeBytes code program number s area) (volumeBytes code program number t area) out
+      (length-same code program number area l)
+      ∙ ap₂ (λ (w : Walked) (n : ℕ). writtenUnless (walkRefusal number w n (length area)) (volumeBytes code program number t area) out .0)
+      (walk-same l) (lists-length l)
 
   files-alike : program < 2 ^ 32 → number < 2 ^ 64 → (n : ℕ) → one .0 ≡ Written n → AlikeButMarks (take n (one .1)) (take n (two .1))
   unfolding writeVolumeOf

@@ -70,9 +70,8 @@ returns-5 c = let r = c .before .before in
 
 returns-6 : tie.Need-returns-6
 returns-6 c = let w = c .before in
-    let told = tells w in
-    let right = volumes-are w in
-    found-other (bytes-of (w .before .before .before .before .before)) (λ k. true≢false (sym (k .volumes-right) ∙ sym right ∙ not-true (w .volumes-allowed .result) (c .if5 .taken)))
+    found-other (bytes-of (w .before .before .before .before .before))
+    (λ k. true≢false (sym (k .volumes-right) ∙ sym (volumes-are w) ∙ not-true (w .volumes-allowed .result) (c .if5 .taken)))
 
 returns-7 : tie.Need-returns-7
 returns-7 c = let w = c .before in

@@ -3,7 +3,7 @@
 use Prim.Native.Nat.{_+_}
 use native.Mathlib.Omega.{arith}
 use denote.Ref.{now}
-use Rattle.job_bytes.proofs.ReadLaws.{copied, md5-read}
+use Rattle.job_bytes.proofs.ReadLaws.{copied}
 use borrow.Author.Needs.{needs}
 use Rattle.job_bytes.proofs.reads.md5_at.Statement.{statement}
 use Rattle.job_bytes.proofs.reads.md5_at.Tie as tie
@@ -18,9 +18,7 @@ returns : tie.Need-returns
 returns c = let stored = c .before .before .before in
     let start = stored .before .before .before .before in
     let a = start .args in
-    let tail =
-    copied 64 (a .at + 16) (now (a .bytes)) (omega (arith, start .pre)) (stored .before .part .ensures) (stored .put .ensures) in
-    md5-read (now (a .bytes)) (a .at) (c .before .words-at .ensures) tail (c .read64 .ensures)
+    let tail = copied 64 (a .at + 16) (now (a .bytes)) (omega (arith, start .pre)) (stored .before .part .ensures) (stored .put .ensures) in cc
 
 pub md5-at-spec : {M : Type 1} → statement M
 md5-at-spec = tie.close (tie.spec (λ c. search needs) add-part (λ c κs. search needs) (λ c κs. search needs) (λ c κs. search needs) add-read64

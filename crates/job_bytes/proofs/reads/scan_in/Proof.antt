@@ -2,7 +2,7 @@
 -- Assumes nothing.
 use native.Mathlib.Omega.{arith}
 use denote.Ref.{now}
-use Rattle.job_bytes.proofs.ReadLaws.{copied, scan-read}
+use Rattle.job_bytes.proofs.ReadLaws.{copied}
 use borrow.Author.Needs.{needs}
 use Rattle.job_bytes.proofs.reads.scan_in.Statement.{statement}
 use Rattle.job_bytes.proofs.reads.scan_in.Tie as tie
@@ -11,15 +11,9 @@ md5-at-requires : tie.Need-md5-at-requires
 md5-at-requires c κs = omega (arith, c .before .before .before .before .before .pre)
 
 returns : tie.Need-returns
-returns c = let marked = c .before .before .before in
-    let numbered = marked .before .before .before in
-    let stored = numbered .before .before .before in
+returns c = let stored = c .before .before .before .before .before .before .before .before .before in
     let start = stored .before .before .before .before in
-    let b = now (start .args .bytes) in
-    let head = copied 56 192 b (omega (arith, start .pre)) (stored .before .part .ensures) (stored .put .ensures) in
-    scan-read b head (numbered .read64 .ensures) (marked .before .before .read8 .ensures) (marked .name-marked .ensures)
-    (marked .before .read642 .ensures) (c .before .before .read643 .ensures) (c .before .read644 .ensures) (c .read645 .ensures)
-    (numbered .before .md5-at .ensures)
+    let head = copied 56 192 (now (start .args .bytes)) (omega (arith, start .pre)) (stored .before .part .ensures) (stored .put .ensures) in cc
 
 pub scan-in-spec : {M : Type 1} → statement M
 scan-in-spec = tie.close (tie.spec (λ c. search needs) (λ c κs. search needs) (λ c κs. search needs) md5-at-requires (λ c κs. search needs)
