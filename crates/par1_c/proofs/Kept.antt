@@ -23,7 +23,7 @@ use Rattle.parity.specs.Parity.{isFile}
 use Rattle.gf256.specs.Answer.{inverseAnswer}
 use Rattle.gf256.specs.declared.ByteAnswer.{ByteAnswer}
 use Rattle.gf256.specs.declared.ByteAnswer.the-variants as answer
-use Rattle.answer_bytes.specs.Results.{byteInto, partsBytes, readInto, entryBytes, entryInto}
+use Rattle.answer_bytes.specs.Results.{byteInto, partsBytes, readInto, entryNumbers, entryInto}
 use Rattle.entries.specs.Walk.{firstOf}
 use Rattle.entries.specs.declared.Item.{Item}
 use Rattle.entries.specs.declared.Item.the-variants as item
@@ -125,8 +125,8 @@ read-kept (reading.Accepted p) out = told-keeps (written (partsBytes p) out) (wr
 entry-kept : (i : Item) (out : List ℕ) → Keeps (entryInto i out) out
 unfolding entryInto
 entry-kept (item.Entry l status size) out =
-    number-keeps (written (entryBytes l status size) out) (writing-kept .for-room (entryBytes l status size) out)
-entry-kept item.End out = number-keeps (written (entryBytes 0 0 0) out) (writing-kept .for-room (entryBytes 0 0 0) out)
+    number-keeps (written (entryNumbers l status size) out) (writing-kept .for-room (entryNumbers l status size) out)
+entry-kept item.End out = number-keeps (written (entryNumbers 0 0 0) out) (writing-kept .for-room (entryNumbers 0 0 0) out)
 entry-kept (item.Fault f) out = λ z. refl
 
 stored-kept : (o : Outcome) (b : List ℕ) → Keeps (storedBy o b) b
