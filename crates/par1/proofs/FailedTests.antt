@@ -1,7 +1,5 @@
 -- The tests of writing and of checking in the document's words.
 --
---   Decides ok P                     the test ok fails exactly where P holds
---   fails-where, passes-where        so it fails where P holds, and passes where it does not
 --   number-decides, data-decides     tests 7 and 9
 --   name-decides                     test 18
 --   told-decides                     test 15
@@ -23,22 +21,10 @@ use Rattle.entries.specs.Entry.{fileSizeOf, md5Of, md5Of16k, nameAllowed}
 use Rattle.entries.proofs.NameFaults.{name-rule}
 use Rattle.par1_rules.specs.Hashes.{md5First}
 use Rattle.par1_rules.specs.Rules.{numberAllowed, dataAllowed}
+use Rattle.refusals.proofs.OrderLaws.{Decides, passes, fails}
 use Rattle.par1.specs.Checking.{isDescribed}
 use Rattle.par1.specs.Claim.{BadNumber, too-many, no-files, past-255, BadData, odd-comment, other-size}
 use Rattle.par1.specs.Claim.{Differs, in-length, in-md5, in-md5-16k}
-
-pub data Decides (ok : Bool) (P : Type 0) : Type 0 where
-  passes : ok ≡ true → (P → ⊥) → Decides ok P
-  fails : ok ≡ false → P → Decides ok P
-
-module _ {ok : Bool} {P : Type 0} where
-  pub fails-where : Decides ok P → P → ok ≡ false
-  fails-where (passes e none) p = absurd (none p)
-  fails-where (fails e some) p = e
-
-  pub passes-where : Decides ok P → (P → ⊥) → ok ≡ true
-  passes-where (passes e none) h = e
-  passes-where (fails e some) h = absurd (h some)
 
 -- ---- 7
 

@@ -29,7 +29,8 @@ use Rattle.par1.specs.Checking.{itemNumber, loneRefusal, isDescribed, ch
 use Rattle.par1.specs.Claim.{FaultWritten, LoneBreaks, short-of-slice, breaks-rule, LoneRefused}
 use Rattle.par1.specs.Claim.{Differs, Checks, bad-entry, different, as-told, Checked}
 use Rattle.par1.proofs.CheckingLaws.{check-lone}
-use Rattle.par1.proofs.FailedTests.{Decides, passes, fails, fails-where, passes-where, told-decides}
+use Rattle.refusals.proofs.OrderLaws.{Decides, passes, fails, fails-where, passes-where}
+use Rattle.par1.proofs.FailedTests.{told-decides}
 
 pub fault-written : FaultWritten
 unfolding writeVolumeOf writtenUnless

@@ -1,9 +1,6 @@
 -- Which refusal reading gives.
 --
---   Told P ks n         n is the first of the numbers ks whose test P holds, or 0 where none does
---   told-end, told-test     no test, and a test in front of others
---   told-first, told-none   what is told where there is a first number, and where there is none
---   decides-as, equal-decides, eqb-decides     what a test decides
+--   equal-decides, eqb-decides     what a comparison decides
 --   length-decides, signature-decides, version-decides, layout-decides, control-decides     tests 1 to 5
 --   head-told, totals-told  the tests before those on the entries, and those after them
 --   reading-refused     the claim
@@ -27,6 +24,7 @@ use Rattle.refusals.specs.Limits.{maxVolumeLength}
 use Rattle.refusals.specs.Order.{First}
 use Rattle.refusals.specs.Tests.{bare, test, orElse}
 use Rattle.refusals.specs.declared.Refusal.{Refusal}
+use Rattle.refusals.proofs.OrderLaws.{Decides, passes, fails, decides-as, Told, none, some, told-end, told-test, told-first, told-none}
 use Rattle.refusals.proofs.TestLaws.{or-else}
 use Rattle.entries.specs.Walk.{walkOf}
 use Rattle.entries.specs.declared.Totals.{Totals}
@@ -46,52 +44,9 @@ use Rattle.par1.specs.Claim.{HeadFails, too-short, too-long, other-signa
 use Rattle.par1.specs.Claim.{list-elsewhere, data-elsewhere, ends-elsewhere, other-control}
 use Rattle.par1.specs.Claim.{BadNumber, BadData, TotalsFail, other-count, bad-volume, other-set, bad-size}
 use Rattle.par1.specs.Claim.{ReadRefuses, by-head, by-entry, by-totals, ReadRefused}
-use Rattle.par1.proofs.FailedTests.{Decides, passes, fails, number-decides, data-decides}
+use Rattle.par1.proofs.FailedTests.{number-decides, data-decides}
 
--- ---- tests in an order
-
-data Told (P : ℕ → Type 0) (ks : List ℕ) (n : ℕ) : Type 0 where
-  none : n ≡ 0 → ((k : ℕ) → First P ks k → ⊥) → Told P ks n
-  some : (n ≡ 0 → ⊥) → First P ks n → Told P ks n
-
-told-end : {P : ℕ → Type 0} → Told P [] 0
-unfolding First
-told-end = none refl (λ k h. h)
-
-first-one : (P : ℕ → Type 0) (ks : List ℕ) (j k : ℕ) → First P ks j → First P ks k → j ≡ k
-unfolding First
-first-one P (i ∷ ks) j k (inl a) (inl b) = sym (a .1) ∙ b .1
-first-one P (i ∷ ks) j k (inl a) (inr b) = absurd (b .0 (a .0))
-first-one P (i ∷ ks) j k (inr a) (inl b) = absurd (a .0 (b .0))
-first-one P (i ∷ ks) j k (inr a) (inr b) = first-one P ks j k (a .1) (b .1)
-
-module _ {P : ℕ → Type 0} where
-  told-test : {ks : List ℕ} {n : ℕ} (k : ℕ) {ok : Bool} → (k ≡ 0 → ⊥) → Decides ok (P k) → (ok ≡ true → Told P ks n) → Told P (k ∷ ks) (test k ok n)
-  unfolding First
-  told-test {ks} {n} k h (fails e p) rest = rw e (some h (inl (p, refl)))
-  told-test {ks} {n} k h (passes e not) rest = rw e (by (rest e))
-    where
-      neither : ((m : ℕ) → First P ks m → ⊥) → (m : ℕ) → (P k × (k ≡ m)) ⊎ ((P k → ⊥) × First P ks m) → ⊥
-      neither nowhere m (inl a) = not (a .0)
-      neither nowhere m (inr a) = nowhere m (a .1)
-
-      by : Told P ks n → Told P (k ∷ ks) n
-      by (none z nowhere) = none z (neither nowhere)
-      by (some l f) = some l (inr (not, f))
-
-  told-first : {ks : List ℕ} {n k : ℕ} → Told P ks n → First P ks k → (n ≡ k) × (k ≡ 0 → ⊥)
-  told-first (none z nowhere) f = absurd (nowhere _ f)
-  told-first {ks} {n} {k} (some h g) f = let e = first-one P ks n k g f in (e, λ z. h (e ∙ z))
-
-  told-none : {ks : List ℕ} {n : ℕ} → Told P ks n → ((k : ℕ) → First P ks k → ⊥) → n ≡ 0
-  told-none (none z nowhere) h = z
-  told-none (some l f) h = absurd (h _ f)
-
--- ---- what a test decides
-
-decides-as : {ok : Bool} {P Q : Type 0} → Decides ok P → (P → Q) → (Q → P) → Decides ok Q
-decides-as (passes e not) to back = passes e (λ q. not (back q))
-decides-as (fails e p) to back = fails e (to p)
+-- ---- what a comparison decides
 
 equal-decides : (s t : List ℕ) → Decides (equal s t) (s ≡ t → ⊥)
 equal-decides s t = by (equal s t) refl

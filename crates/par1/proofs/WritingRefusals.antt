@@ -39,7 +39,8 @@ use Rattle.par1.specs.Claim.{BadNumber, BadData, VolumeRefuses, VolumeRe
 use Rattle.par1.specs.Claim.{list-fault, bad-number, bad-data, total-long, volume-room}
 use Rattle.par1.specs.Claim.{long-contents, other-status, bad-name, entry-room}
 use Rattle.par1.proofs.EntryWritten.{entry-accepted}
-use Rattle.par1.proofs.FailedTests.{Decides, passes, fails, fails-where, passes-where, number-decides, data-decides, name-decides}
+use Rattle.refusals.proofs.OrderLaws.{Decides, passes, fails, fails-where, passes-where}
+use Rattle.par1.proofs.FailedTests.{number-decides, data-decides, name-decides}
 use Rattle.par1.proofs.Faults.{fault-written}
 use Rattle.par1.proofs.ReadWritten.{volume-accepted}
 
