@@ -14,8 +14,8 @@ use Rattle.parity.specs.Coefficient.{ruleOf}
 use Rattle.parity.specs.Parity.{isFile}
 use Rattle.cauchy.specs.Cauchy.{cauchy}
 use Rattle.cauchy.proofs.Coefficients.{cauchy-byte}
-use Rattle.inventory.specs.Recoverable.{State, column, Recoverable}
-use Rattle.inventory.proofs.Recovery.{solution-recoverable, kernel-unrecoverable, empty-recoverable}
+use Rattle.recovery.specs.Recoverable.{State, column, Recoverable}
+use Rattle.recovery.proofs.Recovery.{solution-recoverable, kernel-unrecoverable, empty-recoverable}
 use Rattle.cauchy_recovery.specs.Claim.{volumesPresent, nonemptyMissing, AnyWillDo}
 use Rattle.cauchy_recovery.proofs.CauchyStates.{solution, kernel}
 

@@ -11,7 +11,7 @@ use Rattle.codes.specs.declared.Code.{Code}
 use Rattle.codes.specs.declared.Code.the-variants.{Cauchy}
 use Rattle.parity.specs.Coefficient.{ruleOf}
 use Rattle.parity.specs.Parity.{isFile}
-use Rattle.inventory.specs.Recoverable.{State, Recoverable}
+use Rattle.recovery.specs.Recoverable.{State, Recoverable}
 use Rattle.inventory.specs.Model.{Call, Reply, queried, opened, GivesMissing, undetermined, noRoom, recoverable}
 use Rattle.inventory.specs.Claim.{sizeIn}
 use Rattle.inventory.specs.declared.Inventory.{Inventory}

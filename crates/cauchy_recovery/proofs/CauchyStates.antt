@@ -25,11 +25,11 @@ use Rattle.elimination.proofs.ByteField.{toByte-value, is-zero}
 use Rattle.elimination.proofs.Solutions.{decide}
 use Rattle.cauchy.specs.Cauchy.{rowPoint, cauchy}
 use Rattle.cauchy.proofs.Coefficients.{cauchy-byte}
-use Rattle.inventory.specs.Recoverable.{State, isVolume, column}
+use Rattle.recovery.specs.Recoverable.{State, isVolume, column}
 use Rattle.inventory.specs.Model.{remove}
 use Rattle.inventory.proofs.ModelSets.{remove-here, remove-inside}
-use Rattle.inventory.proofs.Rows as R
-use Rattle.inventory.proofs.Rows.{K, mask}
+use Rattle.recovery.proofs.Rows as R
+use Rattle.recovery.proofs.Rows.{K, mask}
 use Rattle.inventory.proofs.Sizes.{size-shifted, size-remove}
 use Rattle.cauchy_recovery.specs.Claim.{volumesPresent, nonemptyMissing}
 use Rattle.cauchy_recovery.proofs.CauchyRows as C

@@ -14,7 +14,7 @@ use Rattle.codes.specs.declared.Code.the-variants.{Cauchy}
 use Rattle.parity.specs.Coefficient.{ruleOf}
 use Rattle.parity.specs.Parity.{isFile}
 use Rattle.number_sets.specs.Sets.{sizeBelow}
-use Rattle.inventory.specs.Recoverable.{State, Recoverable}
+use Rattle.recovery.specs.Recoverable.{State, Recoverable}
 use Rattle.inventory.specs.Model.{Call, change, addVolume, changed, numberOf, next, after}
 use Rattle.inventory.specs.Steps.{openStep}
 use Rattle.inventory.specs.declared.Inventory.{Inventory}

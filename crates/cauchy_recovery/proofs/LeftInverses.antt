@@ -22,10 +22,9 @@ use Rattle.elimination.specs.ByteField.{Byte}
 use Rattle.elimination.proofs.ByteField.{sum-value, δ-value}
 use Rattle.cauchy.specs.Cauchy.{cauchy}
 use Rattle.cauchy.proofs.Coefficients.{cauchy-byte}
-use Rattle.inventory.specs.Recoverable.{State, isVolume, column}
-use Rattle.inventory.proofs.Tests.{eqb-suc}
-use Rattle.inventory.proofs.Rows as R
-use Rattle.inventory.proofs.Rows.{K}
+use Rattle.recovery.specs.Recoverable.{State, isVolume, column}
+use Rattle.recovery.proofs.Rows as R
+use Rattle.recovery.proofs.Rows.{K, eqb-suc}
 use Rattle.inventory.proofs.Sizes.{size-same}
 use Rattle.cauchy_recovery.specs.Claim.{volumesPresent, nonemptyMissing, LeftInverses}
 use Rattle.cauchy_recovery.proofs.CauchyStates.{matrix, solution}

@@ -28,7 +28,7 @@ use Rattle.codes.specs.declared.Code.the-variants.{Cauchy}
 use Rattle.parity.specs.Coefficient.{ruleOf}
 use Rattle.parity.specs.Parity.{isFile}
 use Rattle.number_sets.specs.Sets.{sizeBelow}
-use Rattle.inventory.specs.Recoverable.{State, isVolume, column, Recoverable}
+use Rattle.recovery.specs.Recoverable.{State, isVolume, column, Recoverable}
 use Rattle.inventory.specs.Model.{Call, change, query, addVolume, Reply, queried, opened, after}
 use Rattle.inventory.specs.Steps.{openStep}
 use Rattle.inventory.specs.Claim.{Step, Run, sizeIn}

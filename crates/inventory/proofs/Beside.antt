@@ -15,7 +15,7 @@ use Rattle.codes.specs.Codes.{same}
 use Rattle.codes.specs.declared.Code.{Code}
 use Rattle.number_sets.specs.Sets.{sizeBelow}
 use Rattle.parity.specs.Parity.{isFile}
-use Rattle.inventory.specs.Recoverable.{State, isVolume, Recoverable, SumOfLower, weighted, IsWeights}
+use Rattle.recovery.specs.Recoverable.{State, isVolume, Recoverable, SumOfLower, weighted, IsWeights}
 use Rattle.inventory.specs.Model.{Change, addFile, removeFile, addVolume, removeVolume, quarantine, release, withVolumes, changed, numberOf}
 use Rattle.inventory.specs.Model.{Call, change, count, query, Reply, numbered, counts, next}
 use Rattle.inventory.specs.Model.{Gives, GivesQuery, GivesMissing, undetermined, noRoom, recoverable, GivesAll}

@@ -21,7 +21,7 @@ use Rattle.codes.specs.declared.Code.{Code}
 use Rattle.parity.proofs.Coefficients.{rule-byte}
 use Rattle.parity.specs.Coefficient.{ruleOf}
 use Rattle.parity.specs.Parity.{isFile}
-use Rattle.inventory.specs.Recoverable.{State, isVolume}
+use Rattle.recovery.specs.Recoverable.{State, isVolume}
 use Rattle.inventory.specs.Model.{Change, addFile, removeFile, addVolume, removeVolume, quarantine, release, changed, numberOf}
 use Rattle.inventory.specs.Steps.{inRange, whileQuarantined}
 use Rattle.inventory.proofs.ChangeNumbers.{accepted-tests}
@@ -29,7 +29,7 @@ use Rattle.inventory.proofs.ModelSets.{insert-inside, remove-inside, Ap
 use Rattle.inventory.specs.Model.{Call, change, count, query, Reply, reply, queried, opened, withFiles, withVolumes, next, after}
 use Rattle.inventory.specs.Model.{Gives, GivesQuery, GivesMissing, undetermined, noRoom, recoverable, GivesAll}
 use Rattle.inventory.specs.Claim.{OneReply}
-use Rattle.inventory.proofs.Weights.{one-weights}
+use Rattle.recovery.proofs.Weights.{one-weights}
 
 -- ---- calls keep the files, their sizes, and the code
 

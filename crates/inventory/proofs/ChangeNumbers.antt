@@ -9,7 +9,7 @@ use Prim.Native.Nat.{ℕ}
 use native.Mathlib.Omega.{arith}
 use Rattle.codes.specs.Codes.{same}
 use Rattle.parity.specs.Parity.{isFile}
-use Rattle.inventory.specs.Recoverable.{State, isVolume}
+use Rattle.recovery.specs.Recoverable.{State, isVolume}
 use Rattle.inventory.specs.Model.{Change, addFile, removeFile, addVolume, removeVolume, quarantine, release, numberOf}
 use Rattle.inventory.specs.Steps.{inRange, ofOtherCode, whileQuarantined, already, changeNumber}
 

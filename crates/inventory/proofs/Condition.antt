@@ -24,13 +24,13 @@ use Rattle.mul_add.specs.MulAdd.{mulAddAll}
 use Rattle.mul_add.specs.Once.{Once}
 use Rattle.parity.specs.Parity.{Contents, isFile}
 use Rattle.parity.proofs.Coefficients.{rule-byte}
-use Rattle.inventory.specs.Recoverable.{State, IsContents, Recoverable, IsWeights, place, present, ComeFrom}
+use Rattle.recovery.specs.Recoverable.{State, IsContents, Recoverable, IsWeights, place, present, ComeFrom}
 use Rattle.inventory.specs.Model.{Call, query, Reply, queried, opened, next, after}
 use Rattle.inventory.specs.Model.{Gives, GivesQuery, GivesMissing, undetermined, noRoom, recoverable, GivesAll}
 use Rattle.inventory.specs.Steps.{openStep}
 use Rattle.inventory.specs.Claim.{Step, Run, sizeIn, ConditionOverRules, Condition3}
 use Rattle.inventory.specs.declared.Inventory.{Inventory}
-use Rattle.inventory.proofs.Following.{follow}
+use Rattle.recovery.proofs.Following.{follow}
 use Rattle.inventory.proofs.Representation.{Represents, meets}
 use Rattle.inventory.proofs.Openings.{opened-represents}
 use Rattle.inventory.proofs.Told.{after-told}

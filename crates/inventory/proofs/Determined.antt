@@ -22,8 +22,8 @@ use Rattle.inventory.specs.Claim.{OneAnswer, OneCount}
 use Rattle.inventory.specs.declared.Inventory.{Inventory}
 use Rattle.inventory.specs.declared.Counted.{Counted}
 use Rattle.inventory.specs.declared.Counted.the-variants as counted
-use Rattle.inventory.specs.declared.Answer.{Answer}
-use Rattle.inventory.specs.declared.Answer.the-variants as answer
+use Rattle.recovery.specs.declared.Answer.{Answer}
+use Rattle.recovery.specs.declared.Answer.the-variants as answer
 use Rattle.inventory.proofs.ValidInventories.{few-files}
 use Rattle.inventory.proofs.Calls.{gives-one}
 

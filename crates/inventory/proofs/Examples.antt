@@ -11,10 +11,10 @@ use Prim.Native.Nat.{ℕ}
 use Rattle.codes.specs.declared.Code.{Code}
 use Rattle.codes.specs.declared.Code.the-variants.{Powers, Cauchy}
 use Rattle.inventory.specs.Model.{Change, addVolume, removeVolume, quarantine, release, Reply, numbered, counts}
-use Rattle.inventory.specs.Steps.{isInventory, within, apart, ifInventory, nonemptyOf, openStep, inRange, ofOtherCode, whileQuarantined, already, changeNumber}
+use Rattle.inventory.specs.Steps.{isInventory, ifInventory, nonemptyOf, openStep, inRange, ofOtherCode, whileQuarantined, already, changeNumber}
 use Rattle.inventory.specs.Steps.{afterChange, changeStep, countStep}
 use Rattle.inventory.specs.declared.Inventory.{Inventory}
-use Rattle.number_sets.specs.Sets.{member, inserted, removed, sizeBelow}
+use Rattle.number_sets.specs.Sets.{member, inserted, removed, sizeBelow, within, apart}
 
 replies : Inventory → List (Change × ℕ) → List Reply
 replies s [] = countStep s ∷ []

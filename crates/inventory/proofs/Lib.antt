@@ -1,13 +1,6 @@
-pub mod Tests
+pub mod Outside
 pub mod ValidInventories
 pub mod Outcomes
-pub mod Rows
-pub mod Recovery
-pub mod Weights
-pub mod EmptyFiles
-mod Following
-mod CoefficientRows
-mod QuerySteps
 mod Queries
 mod ChangeNumbers
 pub mod ModelSets
@@ -28,7 +21,6 @@ pub mod QuarantineCounts
 pub mod RangeRefusals
 pub mod OtherCode
 pub mod RecoverableAnswers
-pub mod Decided
 pub mod Answered
 pub mod Reachable
 mod Examples

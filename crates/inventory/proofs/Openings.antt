@@ -26,9 +26,9 @@ use Rattle.inventory.specs.Steps.{zeros, nonemptyOf, fresh, outcome, ref
 use Rattle.inventory.specs.Claim.{sizeIn, OpeningNumbers}
 use Rattle.inventory.specs.declared.Outcome.{Outcome}
 use Rattle.number_sets.proofs.Words.{member-inserted, member-none, words-none, words-inserted}
-use Rattle.inventory.proofs.Tests.{outside-exactly}
+use Rattle.inventory.proofs.Outside.{outside-exactly}
 use Rattle.inventory.proofs.Outcomes.{open-out-of-range, open-miscounted, open-too-large, open-accepted}
-use Rattle.inventory.proofs.ValidInventories.{within-by}
+use Rattle.number_sets.proofs.Ranges.{within-by}
 use Rattle.inventory.proofs.Representation.{Represents, IsSet, represents}
 
 -- ---- the files that are not empty

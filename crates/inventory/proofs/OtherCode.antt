@@ -15,7 +15,7 @@ use Rattle.codes.specs.declared.Code.{Code}
 use Rattle.codes.proofs.CodeLaws.{same-itself, same-only}
 use Rattle.parity.specs.Coefficient.{ruleOf}
 use Rattle.parity.specs.Parity.{isFile}
-use Rattle.inventory.specs.Recoverable.{State, isVolume}
+use Rattle.recovery.specs.Recoverable.{State, isVolume}
 use Rattle.inventory.specs.Model.{addFile, removeFile, addVolume, removeVolume, quarantine, release, numberOf}
 use Rattle.inventory.specs.Model.{Call, change, count, query, reply, numbered, opened, after, Gives, GivesQuery}
 use Rattle.inventory.specs.Claim.{sizeIn, AddsOther, OtherCodeRefusedFor, OtherCodeRefused}

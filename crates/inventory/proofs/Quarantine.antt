@@ -20,7 +20,7 @@ use Rattle.codes.specs.declared.Code.{Code}
 use Rattle.codes.proofs.CodeLaws.{same-itself}
 use Rattle.parity.specs.Coefficient.{ruleOf}
 use Rattle.parity.proofs.Coefficients.{rule-byte}
-use Rattle.inventory.specs.Recoverable.{State, isVolume}
+use Rattle.recovery.specs.Recoverable.{State, isVolume}
 use Rattle.inventory.specs.Model.{Change, addVolume, removeVolume, quarantine, release, insert, remove, withVolumes, changed, numberOf}
 use Rattle.inventory.specs.Model.{Call, change, Reply, numbered, next, Gives, GivesAll}
 use Rattle.inventory.specs.Steps.{inRange}

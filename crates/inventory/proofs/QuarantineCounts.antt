@@ -14,7 +14,7 @@ use Rattle.computed_tests.proofs.Tests.{oneTo-inside}
 use Rattle.codes.specs.declared.Code.{Code}
 use Rattle.number_sets.specs.Sets.{sizeBelow}
 use Rattle.parity.specs.Coefficient.{ruleOf}
-use Rattle.inventory.specs.Recoverable.{State, isVolume}
+use Rattle.recovery.specs.Recoverable.{State, isVolume}
 use Rattle.inventory.specs.Model.{Change, removeVolume, quarantine, release, remove, changed, numberOf}
 use Rattle.inventory.specs.Model.{change, count, Reply, numbered, counts, opened, next, after, Gives, GivesAll}
 use Rattle.inventory.specs.Claim.{sizeIn, OneAside, OneGone, QuarantineCountedFor, QuarantineCounted}

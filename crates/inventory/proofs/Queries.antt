@@ -1,41 +1,32 @@
 -- The reply to a query is the model's, whatever the sizes are, over any rules for the coefficients of the codes that give bytes.
 --
---   recovered, unrecovered     a file is recoverable exactly where weights are found for it
---   query-no-inventory, query-out-of-range, query-present, query-undetermined, query-no-room, query-recoverable     the cases of a query
+--   query-no-inventory, query-out-of-range     the queries that are refused with 10
+--   query-answered     any other: the answer on the sets of the inventory
 -- Assumes nothing.
-use mathlib.Core.Path.{_≡_, refl, sym, ap, ap₂, _∙_, subst}
+use mathlib.Core.Path.{_≡_, refl, sym, ap, _∙_, subst}
 use mathlib.Core.Logic.{_⊎_, inl, inr}
-use mathlib.Core.Bool.{Bool, true, false, not, cond, _&&_, true≢false, false≢true}
+use mathlib.Core.Bool.{Bool, true, false, true≢false}
 use mathlib.Core.List.{List, _++_}
-use Prim.Native.Nat.{ℕ, suc, _<_, _≤_, _+_, _-_}
-use native.Mathlib.Decide.{decLt}
+use Prim.Native.Nat.{ℕ, suc, _<_, _≤_, _-_}
 use native.Mathlib.Omega.{arith}
-use lib.ListN.{length, getD, take, drop, length-drop, take-append-drop, List·getD-eq-default}
-use lib.Seq.{ext-getD, getD-take, getD-drop, length-take-le}
-use borrow.Author.Tests.{leb-false}
+use lib.ListN.{length, take, drop}
 use Rattle.computed_tests.proofs.Tests.{oneTo-inside}
-use Rattle.gf256.specs.Field.{product}
-use Rattle.gf256.proofs.Polynomials.{sumBelow-same, sumBelow-none}
-use Rattle.gf256.proofs.Products.{product-zero-r}
 use Rattle.codes.specs.declared.Code.{Code}
 use Rattle.parity.specs.Parity.{isFile}
-use Rattle.elimination.specs.Matrix.{IsSolution, IsKernelVector}
-use Rattle.elimination.specs.ByteField.{Byte, byteField}
 use Rattle.number_sets.specs.Sets.{member}
-use Rattle.volume_weights.specs.Weights.{tableOf, solved, unsolved, fileWeight}
-use Rattle.volume_weights.proofs.Steps.{weight-below}
-use Rattle.inventory.specs.Recoverable.{State, column, place, weighted, Recoverable, IsWeights}
+use Rattle.recovery.specs.Recoverable.{Recoverable, IsWeights}
+use Rattle.recovery.specs.Answers as A
+use Rattle.recovery.specs.Answers.{Found, Written, Answers}
+use Rattle.recovery.specs.declared.Answer.{Answer}
+use Rattle.recovery.specs.declared.Answer.the-variants as answer
+use Rattle.recovery.proofs.Written.{written-rest}
+use Rattle.recovery.proofs.AnswerLaws.{recovered, unrecovered, written-weights}
 use Rattle.inventory.specs.Model.{Reply, queried, query, Gives, GivesQuery, undetermined, noRoom, recoverable}
 use Rattle.inventory.specs.Steps.{isInventory, answerNumber}
-use Rattle.inventory.specs.Query.{stateOf, Matches, Queried, Found, empty, notEmpty, Written}
+use Rattle.inventory.specs.Query.{stateOf, Matches, Queried}
 use Rattle.inventory.specs.declared.Inventory.{Inventory}
-use Rattle.inventory.specs.declared.Answer.{Answer}
-use Rattle.inventory.specs.declared.Answer.the-variants as answer
-use Rattle.inventory.proofs.Rows as R
-use Rattle.inventory.proofs.Recovery.{solution-recoverable, kernel-unrecoverable, empty-recoverable}
-use Rattle.inventory.proofs.Weights.{Weighs, solution-weighs, zero-weighs, is-weights}
-use Rattle.inventory.proofs.ValidInventories.{few-files}
-use Rattle.inventory.proofs.CoefficientRows.{table-matrix}
+use Rattle.number_sets.proofs.Ranges.{within-bits}
+use Rattle.inventory.proofs.ValidInventories.{few-files, nonempty-valid}
 
 -- ---- an answer and its number
 
@@ -84,184 +75,60 @@ module _ (rules : Code → ℕ → ℕ → ℕ) where
     query-out-of-range e =
         answered valid refused-out-of-range (λ size matches. as-model size false (member (s .files) f) (queried 10 room) e refl refl)
 
-    pub query-present : isFile (s .n) f ≡ true → member (s .files) f ≡ true → Queried rules s f room answer.Present room
-    unfolding answerNumber
-    query-present e h = answered valid not-refused-present (λ size matches. as-model size true true (queried 13 room) e h refl)
-
--- ---- missing
+-- ---- any other
 
 module _ (rules : Code → ℕ → ℕ → ℕ) (bytes : (c : Code) (f v : ℕ) → f < 256 → rules c f v < 256) (s : Inventory) (valid : isInventory s ≡ true)
-    (f : ℕ) (inRange : isFile (s .n) f ≡ true) (missing : member (s .files) f ≡ false) (room : List ℕ) where
-  -- the rule of the inventory's code
-  abbrev rule : ℕ → ℕ → ℕ
-  rule = rules (s .code)
+    (room : List ℕ) where
+  abbrev AnswerTo : ℕ → Answer → List ℕ → Type 0
+  AnswerTo i r room′ = Answers (rules (s .code)) (s .n) (s .files) (s .volumes) (s .nonempty) i room r room′
 
-  abbrev small : (f v : ℕ) → f < 256 → rule f v < 256
-  small = bytes (s .code)
+  module _ (i : ℕ) (inRange : isFile (s .n) (suc i) ≡ true) where
+    missing-model : (size : ℕ → ℕ) (r : Reply) → member (s .files) (suc i) ≡ false
+        → GivesQuery (rules (s .code)) (stateOf s size) (suc i) room true false r → Gives rules (stateOf s size) (query (suc i) room) r
+    missing-model size r m g = as-model rules s valid (suc i) room size true false r inRange m g
 
-  abbrev state : (ℕ → ℕ) → State
-  state size = stateOf s size
+    module _ (size : ℕ → ℕ) (matches : Matches s size) (missing : member (s .files) (suc i) ≡ false) (ws : List ℕ) where
+      abbrev found : Bool → Type 0
+      found b = Found (rules (s .code)) (s .n) (s .files) (s .volumes) (s .nonempty) i b ws
 
-  abbrev table : ℕ → ℕ → Byte
-  table = tableOf rule (s .nonempty) (s .files) (s .volumes)
+      below : i < s .n
+      below = oneTo-inside (s .n) (suc i) inRange .1
 
-  abbrev matrix : (ℕ → ℕ) → ℕ → ℕ → Byte
-  matrix size = R.matrix rule small (state size) (few-files s valid)
+      recovers : found true → Recoverable (rules (s .code)) (stateOf s size) (suc i)
+      recovers F =
+          recovered (rules (s .code)) (bytes (s .code)) (s .n) (few-files s valid) (s .files) (s .volumes) (s .nonempty)
+          (within-bits (s .n) (s .nonempty) (nonempty-valid s valid)) (member (s .quarantined)) (s .code) size matches i below missing ws F
 
-  -- file f is f - 1 and one
-  as-suc : f ≡ suc (f - 1)
-  as-suc = let l = oneTo-inside (s .n) f inRange in omega arith
+      recovers-not : found false → ¬ Recoverable (rules (s .code)) (stateOf s size) (suc i)
+      recovers-not F =
+          unrecovered (rules (s .code)) (bytes (s .code)) (s .n) (few-files s valid) (s .files) (s .volumes) (s .nonempty)
+          (within-bits (s .n) (s .nonempty) (nonempty-valid s valid)) (member (s .quarantined)) (s .code) size matches i below missing ws F
 
-  below : f - 1 < s .n
-  below = let l = oneTo-inside (s .n) f inRange in omega arith
+      weighs : found true → 255 ≤ length room → (room′ : List ℕ) → Written (rules (s .code)) (s .n) (s .files) ws room room′ 255
+          → IsWeights (rules (s .code)) (stateOf s size) (suc i) (take 255 room′)
+      weighs F l room′ W =
+          written-weights (rules (s .code)) (bytes (s .code)) (s .n) (few-files s valid) (s .files) (s .volumes) (s .nonempty)
+          (within-bits (s .n) (s .nonempty) (nonempty-valid s valid)) (member (s .quarantined)) (s .code) size matches i below missing room ws room′ l W F
 
-  is-column : (size : ℕ → ℕ) → Matches s size → member (s .nonempty) f ≡ true → column (state size) (suc (f - 1)) ≡ true
-  is-column size matches e =
-      ap (column (state size)) (sym as-suc)
-      ∙ ap₂ (λ (a b : Bool). not a && b) missing (sym (matches f inRange) ∙ e)
-
-  is-empty : (size : ℕ → ℕ) → Matches s size → member (s .nonempty) f ≡ false → size f ≡ 0
-  is-empty size matches e =
-      let b : size f < 1 = leb-false 1 (size f) (sym (matches f inRange) ∙ e) in
-      omega arith
-
-  solution-in : (size : ℕ → ℕ) → Matches s size → (w : ℕ → Byte) → IsSolution byteField table 256 (255 - s .n) (f - 1) w
-      → IsSolution byteField (matrix size) 256 (255 - s .n) (f - 1) w
-  solution-in size matches w W =
-      subst (λ (A : ℕ → ℕ → Byte). IsSolution byteField A 256 (255 - s .n) (f - 1) w) (table-matrix rule small s valid size matches) W
-
-  pub recovered : (ws : List ℕ) (found : Bool) → Found rule (s .n) (s .files) (s .volumes) (s .nonempty) f found ws → found ≡ true
-      → (size : ℕ → ℕ) → Matches s size → Recoverable rule (state size) f
-  recovered ws found (empty e y z) t size matches =
-      empty-recoverable rule (state size) f inRange (is-empty size matches e)
-  recovered ws found (notEmpty e (solved w W h)) t size matches =
-      subst (Recoverable rule (state size)) (sym as-suc)
-      (solution-recoverable rule small (state size) (few-files s valid) (f - 1) below w
-      (solution-in size matches w W))
-  recovered ws found (notEmpty e (unsolved x X z)) t size matches = absurd (false≢true t)
-
-  pub unrecovered : (ws : List ℕ) (found : Bool) → Found rule (s .n) (s .files) (s .volumes) (s .nonempty) f found ws → found ≡ false
-      → (size : ℕ → ℕ) → Matches s size → ¬ Recoverable rule (state size) f
-  unrecovered ws found (empty e y z) t size matches = absurd (true≢false (sym y ∙ t))
-  unrecovered ws found (notEmpty e (solved w W h)) t size matches = absurd (true≢false t)
-  unrecovered ws found (notEmpty e (unsolved x X z)) t size matches = λ r.
-      kernel-unrecoverable rule small (state size) (few-files s valid) (f - 1) below
-      (is-column size matches e) x
-      (subst (λ (A : ℕ → ℕ → Byte). IsKernelVector byteField A 256 (255 - s .n) (f - 1) x) (table-matrix rule small s valid size matches) X)
-      (subst (Recoverable rule (state size)) as-suc r)
-
-  pub query-undetermined : (ws : List ℕ) (found : Bool) → Found rule (s .n) (s .files) (s .volumes) (s .nonempty) f found ws → found ≡ false
-      → Queried rules s f room answer.Undetermined room
-  unfolding answerNumber
-  query-undetermined ws found S t =
-      answered rules valid not-refused-undetermined
-      (λ size matches.
-      as-model rules s valid f room size true false (queried 12 room) inRange missing (undetermined (unrecovered ws found S t size matches)))
-
-  pub query-no-room : (ws : List ℕ) (found : Bool) → Found rule (s .n) (s .files) (s .volumes) (s .nonempty) f found ws → found ≡ true
-      → length room < 255 → Queried rules s f room (answer.Refused 14) room
-  unfolding answerNumber
-  query-no-room ws found S t l =
-      answered rules valid refused-no-room
-      (λ size matches.
-      as-model rules s valid f room size true false (queried 14 room) inRange missing (noRoom (recovered ws found S t size matches) l))
-
-  -- ---- the weights in the room
-
-  module _ (ws room′ : List ℕ) (long : 255 ≤ length room) (W : Written rule (s .n) (s .files) ws room room′ 255)
-      (fit : (p : ℕ) → p < 255 → getD room′ p 0 < 256) where
-    written : List ℕ
-    written = take 255 room′
-
-    written-long : length written ≡ 255
-    unfolding written
-    written-long = let e = W .same-length in length-take-le 255 room′ (omega arith)
-
-    written-at : (p : ℕ) → p < 255 → getD written p 0 ≡ getD room′ p 0
-    unfolding written
-    written-at p l = getD-take 255 room′ p 0 l
-
-    written-bytes : (p : ℕ) → getD written p 0 < 256
-    written-bytes p =
-        elim (decLt p 255) [
-          | yes l ↦ subst (λ (x : ℕ). x < 256) (sym (written-at p l)) (fit p l)
-          | no q ↦
-              subst (λ (x : ℕ). x < 256) (sym (List·getD-eq-default written 0 (omega (arith, written-long)))) (omega arith)
-        ]
-
-    written-rest : room′ ≡ written ++ drop 255 room
-    unfolding written
-    written-rest =
-        let e = W .same-length in
-        sym (take-append-drop 255 room′)
-        ∙ ap (λ (l : List ℕ). take 255 room′ ++ l)
-        (ext-getD 0 (drop 255 room′) (drop 255 room) (simp length-drop (ap (λ (k : ℕ). k - 255) e))
-        (λ i l. getD-drop 255 room′ i 0 ∙ W .rest (255 + i) (omega arith) ∙ sym (getD-drop 255 room i 0)))
-
-    written-volume : (v : ℕ) → v < 255 - s .n → getD written (s .n + v) 0 ≡ getD ws (suc v) 0
-    written-volume v l =
-        written-at (s .n + v) (omega arith) ∙ W .of-volumes (s .n + v) (omega arith) (omega arith)
-        ∙ ap (λ (k : ℕ). getD ws k 0) (omega arith)
-
-    -- the weight of a file by its bit
-    file-term : (b : Bool) (i v : ℕ) → member (s .files) (suc i) ≡ b
-        → product (getD ws (suc v) 0) (cond (member (s .files) (suc i)) (rule (suc i) (suc v)) 0)
-        ≡ cond b (product (getD ws (suc v) 0) (rule (suc i) (suc v))) 0
-    file-term true i v e = ap (λ (b : Bool). product (getD ws (suc v) 0) (cond b (rule (suc i) (suc v)) 0)) e
-    file-term false i v e =
-        ap (λ (b : Bool). product (getD ws (suc v) 0) (cond b (rule (suc i) (suc v)) 0)) e
-        ∙ product-zero-r (getD ws (suc v) 0)
-
-    present-weight : (size : ℕ → ℕ) (i : ℕ) → i < s .n → member (s .files) (suc i) ≡ true
-        → getD written i 0 ≡ weighted rule (state size) written (suc i)
-    unfolding fileWeight weighted
-    present-weight size i l e =
-        let b = few-files s valid in
-        written-at i (omega arith) ∙ W .of-files i (omega arith) l
-        ∙ sumBelow-same (255 - s .n)
-        (λ v. product (getD ws (suc v) 0) (cond (member (s .files) (suc i)) (rule (suc i) (suc v)) 0))
-        (λ v. product (place written (s .n + suc v)) (rule (suc i) (suc v)))
-        (λ v h.
-        file-term true i v e
-        ∙ ap (λ (x : ℕ). product x (rule (suc i) (suc v)))
-        (sym (written-volume v h) ∙ ap (λ (k : ℕ). getD written k 0) (omega arith)))
-
-    missing-weight : (i : ℕ) → i < s .n → member (s .files) (suc i) ≡ false → getD written i 0 ≡ 0
-    unfolding fileWeight
-    missing-weight i l e =
-        let b = few-files s valid in
-        written-at i (omega arith) ∙ W .of-files i (omega arith) l
-        ∙ sumBelow-same (255 - s .n)
-        (λ v. product (getD ws (suc v) 0) (cond (member (s .files) (suc i)) (rule (suc i) (suc v)) 0)) (λ v. 0)
-        (λ v h. file-term false i v e)
-        ∙ sumBelow-none (255 - s .n)
-
-    weights-of : (size : ℕ → ℕ) (w : ℕ → Byte) → Weighs rule small (state size) (few-files s valid) f w
-        → ((v : ℕ) → v < 255 - s .n → getD ws (suc v) 0 ≡ w v .0) → IsWeights rule (state size) f written
-    weights-of size w weighs h =
-        is-weights rule small (state size) (few-files s valid) f w weighs written written-long written-bytes
-        (λ v l. written-volume v l ∙ h v l) (present-weight size) missing-weight
-
-    written-weights : (found : Bool) → Found rule (s .n) (s .files) (s .volumes) (s .nonempty) f found ws → found ≡ true
-        → (size : ℕ → ℕ) → Matches s size → IsWeights rule (state size) f written
-    written-weights found (empty e y z) t size matches =
-        weights-of size (λ v. byteField .𝟘)
-        (zero-weighs rule small (state size) (few-files s valid) f
-        (ap₂ (λ (a b : Bool). not a && b) missing (sym (matches f inRange) ∙ e)))
-        (λ v l. z (suc v))
-    written-weights found (notEmpty e (solved w X h)) t size matches =
-        weights-of size w
-        (subst (λ (k : ℕ). Weighs rule small (state size) (few-files s valid) k w) (sym as-suc)
-        (solution-weighs rule small (state size) (few-files s valid) (f - 1) w (solution-in size matches w X)))
-        (λ v l. h (suc v) (omega arith) ∙ weight-below (255 - s .n) w v l)
-    written-weights found (notEmpty e (unsolved x X z)) t size matches = absurd (false≢true t)
-
-    pub query-recoverable : (found : Bool) → Found rule (s .n) (s .files) (s .volumes) (s .nonempty) f found ws → found ≡ true
-        → Queried rules s f room answer.Recoverable room′
+    at-file : (r : Answer) (room′ : List ℕ) → AnswerTo i r room′ → Queried rules s (suc i) room r room′
     unfolding answerNumber
-    query-recoverable found S t =
+    at-file r room′ (A.present m) =
+        answered rules valid not-refused-present (λ size matches. as-model rules s valid (suc i) room size true true (queried 13 room) inRange m refl)
+    at-file r room′ (A.undetermined m ws F) =
+        answered rules valid not-refused-undetermined
+        (λ size matches. missing-model size (queried 12 room) m (undetermined (recovers-not size matches m ws F)))
+    at-file r room′ (A.noRoom m ws F l) =
+        answered rules valid refused-no-room (λ size matches. missing-model size (queried 14 room) m (noRoom (recovers size matches m ws F) l))
+    at-file r room′ (A.recoverable m ws F l _ W) =
         answered rules valid not-refused-recoverable
         (λ size matches.
-        subst (λ (l : List ℕ). Gives rules (state size) (query f room) (queried 0 l)) (sym written-rest)
-        (as-model rules s valid f room size true false (queried 0 (written ++ drop 255 room)) inRange missing
-        (recoverable (recovered ws found S t size matches) long written (written-weights found S t size matches))))
+        subst (λ (l : List ℕ). Gives rules (stateOf s size) (query (suc i) room) (queried 0 l))
+        (sym (written-rest (rules (s .code)) (s .n) (s .files) ws room room′ W))
+        (missing-model size (queried 0 (take 255 room′ ++ drop 255 room)) m
+        (recoverable (recovers size matches m ws F) l (take 255 room′) (weighs size matches m ws F l room′ W))))
+
+  pub query-answered : (f : ℕ) → isFile (s .n) f ≡ true → (r : Answer) (room′ : List ℕ) → AnswerTo (f - 1) r room′ → Queried rules s f room r room′
+  query-answered f inRange r room′ a =
+      let l = oneTo-inside (s .n) f inRange in
+      let z : suc (f - 1) ≡ f = omega arith in
+      subst (λ (k : ℕ). Queried rules s k room r room′) z (at-file (f - 1) (ap (isFile (s .n)) z ∙ inRange) r room′ a)

@@ -13,12 +13,12 @@ use native.Mathlib.Omega.{arith}
 use Rattle.codes.specs.declared.Code.{Code}
 use Rattle.parity.specs.Coefficient.{ruleOf}
 use Rattle.parity.specs.Parity.{isFile}
-use Rattle.inventory.specs.Recoverable.{State}
+use Rattle.recovery.specs.Recoverable.{State}
 use Rattle.inventory.specs.Model.{Change, addFile, removeFile, addVolume, removeVolume, quarantine, release, numberOf}
 use Rattle.inventory.specs.Model.{Call, change, count, query, reply, opened, after, Gives, GivesQuery}
 use Rattle.inventory.specs.Steps.{inRange, ofOtherCode, whileQuarantined, already, changeNumber}
 use Rattle.inventory.specs.Claim.{sizeIn, OutOfRange, RangeRefusedFor, RangeRefused}
-use Rattle.inventory.proofs.Tests.{outside-exactly}
+use Rattle.inventory.proofs.Outside.{outside-exactly}
 use Rattle.inventory.proofs.ChangeNumbers.{model-number}
 use Rattle.inventory.proofs.Representation.{meets}
 use Rattle.inventory.proofs.Calls.{after-same, missing-not}

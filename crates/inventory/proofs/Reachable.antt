@@ -19,18 +19,19 @@ use Rattle.codes.specs.declared.Code.{Code}
 use Rattle.parity.specs.Coefficient.{ruleOf}
 use Rattle.parity.specs.Parity.{isFile}
 use Rattle.parity.proofs.Coefficients.{rule-byte}
-use Rattle.number_sets.specs.Sets.{member, Words}
-use Rattle.inventory.specs.Recoverable.{State}
+use Rattle.number_sets.specs.Sets.{member, Words, within}
+use Rattle.recovery.specs.Recoverable.{State}
 use Rattle.inventory.specs.Model.{Change, addFile, removeFile, addVolume, removeVolume, quarantine, release}
 use Rattle.inventory.specs.Model.{Call, change, count, query, Reply, opened}
-use Rattle.inventory.specs.Steps.{isInventory, within, nonemptyOf, fresh, outcome, openStep, afterChange, changeStep}
+use Rattle.inventory.specs.Steps.{isInventory, nonemptyOf, fresh, outcome, openStep, afterChange, changeStep}
 use Rattle.inventory.specs.Query.{stateOf}
 use Rattle.inventory.specs.Claim.{TellsExactly, sizeIn, Step, Run, Given, ExactlyGivenFor, ExactlyGiven}
 use Rattle.inventory.specs.declared.Inventory.{Inventory}
 use Rattle.inventory.specs.declared.Outcome.{Outcome}
 use Rattle.number_sets.proofs.Words.{member-above, words-same, words-none, words-inserted, words-removed}
 use Rattle.inventory.proofs.Outcomes.{open-accepted}
-use Rattle.inventory.proofs.ValidInventories.{within-bits, n-valid, files-valid, nonempty-valid, volumes-valid, quarantined-valid, none-both}
+use Rattle.number_sets.proofs.Ranges.{within-bits}
+use Rattle.inventory.proofs.ValidInventories.{n-valid, files-valid, nonempty-valid, volumes-valid, quarantined-valid, none-both}
 use Rattle.inventory.proofs.Representation.{Represents}
 use Rattle.inventory.proofs.Openings.{opened-represents, nonempty-words, nonempty-member}
 use Rattle.inventory.proofs.Calls.{Ranged}

@@ -19,14 +19,14 @@ use Rattle.parity.specs.Parity.{isFile}
 use Rattle.parity.proofs.Coefficients.{rule-byte}
 use Rattle.number_sets.specs.Sets.{member}
 use Rattle.number_sets.proofs.Words.{member-none, words-same}
-use Rattle.inventory.specs.Recoverable.{State}
+use Rattle.recovery.specs.Recoverable.{State, RecoverableNow}
 use Rattle.inventory.specs.Model.{queried, opened, after, Gives, GivesQuery}
 use Rattle.inventory.specs.Steps.{isInventory, answerNumber}
 use Rattle.inventory.specs.Query.{stateOf, Queried}
-use Rattle.inventory.specs.RecoverableFiles.{RecoverableNow, RecoverableSet}
+use Rattle.inventory.specs.RecoverableFiles.{RecoverableSet}
 use Rattle.inventory.specs.Claim.{OneSet, RecoverableAfter, RecoverableAsQueried, sizeIn}
 use Rattle.inventory.specs.declared.Inventory.{Inventory}
-use Rattle.inventory.specs.declared.Answer.{Answer}
+use Rattle.recovery.specs.declared.Answer.{Answer}
 use Rattle.inventory.specs.declared.recoverable.RecoverableFiles.{RecoverableFiles}
 use Rattle.inventory.proofs.Representation.{Represents}
 use Rattle.inventory.proofs.Determined.{someSize, some-matches}

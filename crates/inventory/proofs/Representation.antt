@@ -17,22 +17,23 @@ use Rattle.computed_tests.specs.Numbers.{oneTo}
 use Rattle.computed_tests.proofs.Tests.{and-both, oneTo-inside}
 use Rattle.codes.specs.declared.Code.{Code}
 use Rattle.parity.specs.Parity.{isFile}
-use Rattle.number_sets.specs.Sets.{member, inserted, removed}
-use Rattle.inventory.specs.Recoverable.{State}
+use Rattle.number_sets.specs.Sets.{member, inserted, removed, within, apart}
+use Rattle.recovery.specs.Recoverable.{State}
 use Rattle.inventory.specs.Model as M
 use Rattle.inventory.specs.Model.{Change, addFile, removeFile, addVolume, removeVolume, quarantine, release}
 use Rattle.inventory.specs.Model.{insert, remove, changed}
 use Rattle.inventory.specs.Model.{Call, change, count, query, Reply, numbered, queried, next, Gives}
-use Rattle.inventory.specs.Steps.{within, apart, isInventory, ifInventory, inRange, ofOtherCode, whileQuarantined, already, changeNumber, unlessRefused}
+use Rattle.inventory.specs.Steps.{isInventory, ifInventory, inRange, ofOtherCode, whileQuarantined, already, changeNumber, unlessRefused}
 use Rattle.inventory.specs.Steps.{accepted, withFiles, withVolumes, afterChange, changeStep, countStep, answerNumber}
 use Rattle.inventory.proofs.ChangeNumbers.{model-number}
 use Rattle.inventory.specs.Query.{stateOf, Matches, Queried}
 use Rattle.inventory.specs.Claim.{Step}
 use Rattle.inventory.specs.declared.Inventory.{Inventory}
-use Rattle.inventory.specs.declared.Answer.{Answer}
+use Rattle.recovery.specs.declared.Answer.{Answer}
 use Rattle.number_sets.proofs.Words.{member-inserted, member-removed, length-inserted, length-removed}
 use Rattle.inventory.proofs.ModelSets.{Apart, apart-insert, apart-remove, apart-moved, apart-back}
-use Rattle.inventory.proofs.ValidInventories.{within-bits, within-by, apart-by, n-valid, few-files}
+use Rattle.number_sets.proofs.Ranges.{within-bits, within-by, apart-by}
+use Rattle.inventory.proofs.ValidInventories.{n-valid, few-files}
 use Rattle.inventory.proofs.ValidInventories.{files-valid, nonempty-valid, volumes-valid, quarantined-valid, none-both}
 
 pub record Represents (size : ℕ → ℕ) (t : State) (s : Inventory) : Type 0 where

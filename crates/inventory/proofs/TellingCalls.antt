@@ -13,7 +13,7 @@ use Rattle.codes.specs.Codes.{same}
 use Rattle.codes.specs.declared.Code.{Code}
 use Rattle.codes.proofs.CodeLaws.{same-itself}
 use Rattle.parity.specs.Parity.{isFile}
-use Rattle.inventory.specs.Recoverable.{State, isVolume}
+use Rattle.recovery.specs.Recoverable.{State, isVolume}
 use Rattle.inventory.specs.Model.{addFile, addVolume, quarantine, withFiles, withVolumes, insert, remove, changed, numberOf}
 use Rattle.inventory.specs.Model.{Call, change, next}
 use Rattle.inventory.proofs.ModelSets.{insert-here, insert-other, insert-inside}

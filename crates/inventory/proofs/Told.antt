@@ -13,7 +13,7 @@ use native.Mathlib.Omega.{arith}
 use native.Mathlib.Decide.{ℕ-discrete}
 use Rattle.codes.specs.declared.Code.{Code}
 use Rattle.computed_tests.proofs.Tests.{oneTo-inside}
-use Rattle.inventory.specs.Recoverable.{State, isVolume}
+use Rattle.recovery.specs.Recoverable.{State, isVolume}
 use Rattle.inventory.specs.Model.{addFile, removeFile, addVolume, removeVolume, quarantine, release}
 use Rattle.inventory.specs.Model.{Call, change, count, query, opened, next, after}
 use Rattle.inventory.specs.Claim.{Tells, Before, TellsExactly, Retold}

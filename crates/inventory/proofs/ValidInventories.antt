@@ -1,60 +1,23 @@
 -- Inventories that calls give: their parts are in range.
 --
---   within-bits, within-by     the numbers of a set in range are in range, and the other way
 --   n-valid, few-files         the number of files is 1 to 254
---   apart-by                   sets that share no number are apart
 --   files-valid, nonempty-valid, volumes-valid, quarantined-valid     the sets are in range
 --   none-both                  no volume is both present and quarantined
 -- Assumes nothing.
-use mathlib.Core.Path.{_≡_, refl, ap, subst}
-use mathlib.Core.Bool.{Bool, true, false, not, _&&_, _||_, false≢true}
-use mathlib.Core.List.{List}
-use Prim.Native.Nat.{ℕ, _<_, _≤_, _-_}
+use mathlib.Core.Path.{_≡_}
+use mathlib.Core.Bool.{true}
+use Prim.Native.Nat.{_≤_, _-_}
 use native.Mathlib.Omega.{arith}
 use native.Mathlib.Decide.{decLt}
 use lib.ListN.{length}
 use Rattle.computed_tests.specs.Numbers.{oneTo}
-use Rattle.computed_tests.proofs.Tests.{and-both, oneTo-inside, all-true, all-at}
-use Rattle.number_sets.specs.Sets.{member}
+use Rattle.computed_tests.proofs.Tests.{and-both, oneTo-inside}
+use Rattle.number_sets.specs.Sets.{member, within, apart}
+use Rattle.number_sets.proofs.Ranges.{apart-bits}
 use Rattle.number_sets.proofs.Words.{member-above}
-use Rattle.inventory.specs.Steps.{within, apart, isInventory}
+use Rattle.inventory.specs.Steps.{isInventory}
 use Rattle.inventory.specs.declared.Inventory.{Inventory}
 use Rattle.inventory.proofs.ModelSets.{Apart}
-
--- ---- sets in range
-
-pub within-bits : (m : ℕ) (ws : List ℕ) → within m ws ≡ true → (k : ℕ) → k < 256 → member ws k ≡ true → oneTo m k ≡ true
-unfolding within
-within-bits m ws h k l e =
-    subst (λ (b : Bool). (not b || oneTo m k) ≡ true) e (all-at 256 (λ k. not (member ws k) || oneTo m k) h k l)
-
-pub within-by : (m : ℕ) (ws : List ℕ) → ((k : ℕ) → k < 256 → member ws k ≡ true → oneTo m k ≡ true) → within m ws ≡ true
-unfolding within
-within-by m ws h = all-true 256 (λ k. not (member ws k) || oneTo m k) (λ k l. go k l (member ws k) refl)
-  where
-    go : (k : ℕ) → k < 256 → (b : Bool) → member ws k ≡ b → (not b || oneTo m k) ≡ true
-    go k l true e = h k l e
-    go k l false e = refl
-
--- ---- sets that share no number
-
-apart-bits : (ws ws′ : List ℕ) → apart ws ws′ ≡ true → (k : ℕ) → k < 256 → member ws k ≡ true → member ws′ k ≡ false
-unfolding apart
-apart-bits ws ws′ h k l e =
-    go (member ws k) (member ws′ k) e (all-at 256 (λ k. not (member ws k && member ws′ k)) h k l)
-  where
-    go : (a b : Bool) → a ≡ true → not (a && b) ≡ true → b ≡ false
-    go true true e h = absurd (false≢true h)
-    go true false e h = refl
-    go false b e h = absurd (false≢true e)
-
-pub apart-by : (ws ws′ : List ℕ) → ((k : ℕ) → k < 256 → member ws k ≡ true → member ws′ k ≡ false) → apart ws ws′ ≡ true
-unfolding apart
-apart-by ws ws′ h = all-true 256 (λ k. not (member ws k && member ws′ k)) (λ k l. go (member ws k) (member ws′ k) (h k l))
-  where
-    go : (a b : Bool) → (a ≡ true → b ≡ false) → not (a && b) ≡ true
-    go true b h = ap not (h refl)
-    go false b h = refl
 
 -- ---- the parts
 

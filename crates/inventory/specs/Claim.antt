@@ -45,7 +45,6 @@
 --   OthersRefused             every call of a list refuses any other inventory with 10, and changes nothing; that recoverable_files does so
 --                             stands in RecoverableSet
 --   ZerosRefused              so it does that of zeros
---   EmptyRecoverable          a missing empty file is recoverable, and its weights are zeros
 --   OneSet                    what is promised of the set of the recoverable files determines it
 --   RecoverableAfter          after any list of calls it has exactly the missing files that are recoverable by the model
 --   RecoverableAsQueried      and exactly those that a query calls recoverable
@@ -64,15 +63,15 @@ use Rattle.mul_add.specs.MulAdd.{mulAddAll}
 use Rattle.mul_add.specs.Once.{Once}
 use Rattle.parity.specs.Parity.{Contents, isFile}
 use Rattle.number_sets.specs.Sets.{member, Words}
-use Rattle.inventory.specs.Recoverable.{State, isVolume, IsContents, Recoverable, IsWeights, place, present, ComeFrom}
+use Rattle.recovery.specs.Recoverable.{State, isVolume, IsContents, Recoverable, RecoverableNow, place, present, ComeFrom}
 use Rattle.inventory.specs.Model.{Call, change, count, query, Reply, reply, numbered, counts, queried, opened, after, GivesAll}
 use Rattle.inventory.specs.Model.{addFile, removeFile, addVolume, removeVolume, quarantine, release}
 use Rattle.inventory.specs.Steps.{isInventory, zeros, openStep, changeStep, countReply, countStep, answerNumber}
 use Rattle.inventory.specs.Query.{Queried}
-use Rattle.inventory.specs.RecoverableFiles.{RecoverableNow, RecoverableSet}
+use Rattle.inventory.specs.RecoverableFiles.{RecoverableSet}
 use Rattle.inventory.specs.declared.Inventory.{Inventory}
 use Rattle.inventory.specs.declared.Counted.{Counted}
-use Rattle.inventory.specs.declared.Answer.{Answer}
+use Rattle.recovery.specs.declared.Answer.{Answer}
 use Rattle.inventory.specs.declared.recoverable.RecoverableFiles.{RecoverableFiles}
 
 -- ---- "a new sheet told what is in hand and what is set aside": "told only what is in hand now, in whatever order"; "Its tally and its new sheet
@@ -396,13 +395,6 @@ OthersRefused =
 -- proved: proofs/Refused.antt, `zeros-refused`
 abbrev pub ZerosRefused : Type 0
 ZerosRefused = (c : Call) (r : Reply) (s₁ : Inventory) → Step ruleOf zeros c r s₁ → (r ≡ reply 10 (roomOf c)) × (s₁ ≡ zeros)
-
--- "An empty file not in hand is always rebuildable", "its own recipe is all zeros"
--- proved: proofs/EmptyFiles.antt, `empty-file`
-abbrev pub EmptyRecoverable : Type 0
-EmptyRecoverable =
-    (t : State) (f : ℕ) → isFile (t .n) f ≡ true → t .files f ≡ false → t .size f ≡ 0
-    → Recoverable (ruleOf (t .code)) t f × IsWeights (ruleOf (t .code)) t f (replicate 255 0)
 
 -- ---- the recoverable files at once (document 02, 2026-11)
 

@@ -1,4 +1,3 @@
-pub mod Recoverable
 pub mod Model
 pub mod Steps
 pub mod Query

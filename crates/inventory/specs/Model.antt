@@ -27,7 +27,7 @@ use Rattle.parity.specs.Parity.{isFile}
 use Rattle.number_sets.specs.Sets.{sizeBelow}
 use Rattle.codes.specs.Codes.{same}
 use Rattle.codes.specs.declared.Code.{Code}
-use Rattle.inventory.specs.Recoverable.{State, isVolume, Recoverable, IsWeights}
+use Rattle.recovery.specs.Recoverable.{State, isVolume, Recoverable, IsWeights}
 
 -- ---- calls and replies
 

@@ -1,25 +1,19 @@
--- Which missing files are recoverable now (document 02, 2026-11), over any rule for the coefficients, or for those of each code.
+-- Which missing files are recoverable now (document 02, 2026-11), over any rule for the coefficients of each code.
 --
---   RecoverableNow rule t f      file f of the state t is missing, and recoverable
---   RecoverableSet rules s r     r is the set of these files of the inventory s, by the rule of its code, or its refusal
+--   RecoverableSet rules s r     r is the set of the files of the inventory s that are missing and recoverable, by the rule of its code, or its refusal
 -- Assumes nothing.
 use mathlib.Core.Path.{_≡_}
 use mathlib.Core.Logic.{_↔_}
 use mathlib.Core.Bool.{true, false}
 use Prim.Native.Nat.{ℕ}
 use lib.ListN.{replicate}
-use Rattle.parity.specs.Parity.{isFile}
 use Rattle.number_sets.specs.Sets.{member, Words}
 use Rattle.codes.specs.declared.Code.{Code}
-use Rattle.inventory.specs.Recoverable.{State, Recoverable}
+use Rattle.recovery.specs.Recoverable.{RecoverableNow}
 use Rattle.inventory.specs.Steps.{isInventory}
 use Rattle.inventory.specs.Query.{stateOf, Matches}
 use Rattle.inventory.specs.declared.Inventory.{Inventory}
 use Rattle.inventory.specs.declared.recoverable.RecoverableFiles.{RecoverableFiles}
-
--- "the file numbers that are rebuildable now"; a file in hand is not asked to be rebuilt, and an empty one not in hand always is
-abbrev pub RecoverableNow : (ℕ → ℕ → ℕ) → State → ℕ → Type 0
-RecoverableNow rule t f = (isFile (t .n) f ≡ true) × (t .files f ≡ false) × Recoverable rule t f
 
 pub record RecoverableSet (rules : Code → ℕ → ℕ → ℕ) (s : Inventory) (r : RecoverableFiles) : Type 0 where
   -- "Every call refuses with 10, first of all, a sheet that opening and accepted calls could not have given"

@@ -1,7 +1,5 @@
 -- What each call on an inventory does (document 01, "The sheet", "What comes back"; document 02, 2026-10, 2026-13), on its words.
 --
---   within m ws          whether each number of the set ws is one of 1 to m
---   apart ws ws′         whether no number is in both sets
 --   isInventory s        whether opening and accepted calls could have given s
 --   ifInventory s k      the number k, or 10 where s is no inventory
 --   zeros                the inventory of zeros
@@ -34,27 +32,21 @@ use lib.ListN.{length, getD, replicate}
 use Rattle.computed_tests.specs.Numbers.{oneTo, allBelow}
 use Rattle.refusals.specs.Limits.{maxFileSize, maxFiles}
 use Rattle.parity.specs.Parity.{isFile}
-use Rattle.number_sets.specs.Sets.{member, inserted, removed, sizeBelow}
+use Rattle.number_sets.specs.Sets.{member, inserted, removed, sizeBelow, within, apart}
 use Rattle.codes.specs.Codes.{same}
 use Rattle.codes.specs.declared.Code.{Code}
 use Rattle.codes.specs.declared.Code.the-variants.{Powers}
-use Rattle.inventory.specs.Recoverable.{isVolume}
+use Rattle.recovery.specs.Recoverable.{isVolume}
 use Rattle.inventory.specs.Model.{Change, addFile, removeFile, addVolume, removeVolume, quarantine, release}
 use Rattle.inventory.specs.Model.{Reply, numbered, counts}
 use Rattle.inventory.specs.declared.Inventory.{Inventory}
 use Rattle.inventory.specs.declared.Outcome.{Outcome}
 use Rattle.inventory.specs.declared.Counted.{Counted}
 use Rattle.inventory.specs.declared.Counted.the-variants as counted
-use Rattle.inventory.specs.declared.Answer.{Answer}
-use Rattle.inventory.specs.declared.Answer.the-variants as answer
+use Rattle.recovery.specs.declared.Answer.{Answer}
+use Rattle.recovery.specs.declared.Answer.the-variants as answer
 
 -- ---- an inventory that calls give
-
-unfoldable pub within : ℕ → List ℕ → Bool
-within m ws = allBelow 256 (λ k. not (member ws k) || oneTo m k)
-
-unfoldable pub apart : List ℕ → List ℕ → Bool
-apart ws ws′ = allBelow 256 (λ k. not (member ws k && member ws′ k))
 
 -- "A sheet needs n from 1 to 254"; bits of files, and of files that are not empty, in 1 to n, of volumes in 1 to 255 - n, and no volume
 -- both present and quarantined; of either code. It is exact: specs/Claim.antt, ExactlyGiven

@@ -14,12 +14,13 @@ use codes::Code;
 use codes::same;
 use number_sets::has;
 use number_sets::insert;
+use number_sets::one_to;
 use number_sets::remove;
 use number_sets::size;
 use ranges::is_inventory;
 use ranges::is_volume;
-use ranges::one_to;
 pub use recoverable::RecoverableFiles;
+pub use recovery::Answer;
 use refusals::ALREADY;
 use refusals::MAX_FILE_SIZE;
 use refusals::MAX_FILES;
@@ -48,14 +49,6 @@ pub struct Outcome {
 // How many files and how many volumes are present, and how many volumes are in quarantine.
 pub enum Counted {
     Counts(u32, u32, u32),
-    Refused(u32),
-}
-
-// What is known of a file; where it is recoverable its weights are in the lent bytes.
-pub enum Answer {
-    Present,
-    Recoverable,
-    Undetermined,
     Refused(u32),
 }
 

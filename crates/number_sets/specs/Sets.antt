@@ -5,17 +5,20 @@
 --   removed k ws      the words with the bit of k cleared
 --   gathered ws number test m     the words with `number i` more for each i below m that passes a test
 --   sizeBelow m set   how many numbers below m are in a set
+--   within m ws       whether each number of the set ws is one of 1 to m
+--   apart ws ws′      whether no number is in both sets
 --   Words ws          ws are four words of 64 bits
 --   Ones word r       r of the bits of a word are set
 -- Assumes nothing.
 use mathlib.Core.Path.{_≡_}
-use mathlib.Core.Bool.{Bool, cond}
+use mathlib.Core.Bool.{Bool, not, cond, _&&_, _||_}
 use mathlib.Core.List.{List}
 use Prim.Native.Nat.{ℕ, zero, suc, _+_, _-_, _/_, _%_, _^_, _<_, _≤_}
 use lib.Bits.{bitAnd, bitOr}
 use lib.Count.{ones}
 use lib.Dec.{eqb}
 use lib.ListN.{length, getD, set}
+use Rattle.computed_tests.specs.Numbers.{oneTo, allBelow}
 
 unfoldable pub member : List ℕ → ℕ → Bool
 member ws k = eqb (getD ws (k / 64) 0 / 2 ^ (k % 64) % 2) 1
@@ -33,6 +36,12 @@ gathered ws number test (suc i) = cond (test i) (inserted (number i) (gathered w
 unfoldable pub sizeBelow : ℕ → (ℕ → Bool) → ℕ
 sizeBelow zero set = 0
 sizeBelow (suc m) set = sizeBelow m set + cond (set m) 1 0
+
+unfoldable pub within : ℕ → List ℕ → Bool
+within m ws = allBelow 256 (λ k. not (member ws k) || oneTo m k)
+
+unfoldable pub apart : List ℕ → List ℕ → Bool
+apart ws ws′ = allBelow 256 (λ k. not (member ws k && member ws′ k))
 
 -- what an array of type [u64; 4] holds
 pub record Words (ws : List ℕ) : Type 0 where

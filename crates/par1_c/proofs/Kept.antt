@@ -46,7 +46,7 @@ use Rattle.md5sum_text.specs.Export.{exportInto}
 use Rattle.md5sum_text.specs.Import.{importInto}
 use Rattle.catalog.specs.Calls.{openOf, addOf, dropOf, loadingOf, filledBy}
 use Rattle.catalog.specs.declared.records.Row.{Row}
-use Rattle.inventory.specs.Recoverable.{State}
+use Rattle.recovery.specs.Recoverable.{State}
 use Rattle.inventory.specs.Model.{addVolume, Reply, reply, queried, Gives, GivesQuery, GivesMissing, undetermined, noRoom, recoverable}
 use Rattle.inventory.specs.Steps.{isInventory, changeStep, countStep, answerNumber}
 use Rattle.inventory.specs.Query.{stateOf}

@@ -15,7 +15,7 @@ use Rattle.refusals.specs.Tests.{bare}
 use Rattle.refusals.specs.declared.Refusal.{Refusal}
 use Rattle.lent_bytes.specs.Writing.{accepted, refused, written}
 use Rattle.lent_bytes.specs.declared.Writing.{Writing}
-use Rattle.inventory.specs.Recoverable.{State}
+use Rattle.recovery.specs.Recoverable.{State}
 use Rattle.replay.specs.Replay.{replayOf}
 use Rattle.replay.proofs.Determined.{decided}
 use Rattle.replay.proofs.EachReplayed.{each-replayed}

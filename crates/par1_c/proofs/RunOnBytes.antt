@@ -22,7 +22,7 @@ use Rattle.codes.specs.declared.Code.{Code}
 use Rattle.codes.proofs.CodeLaws.{back, number-code}
 use Rattle.parity.specs.Coefficient.{ruleOf}
 use Rattle.parity.proofs.Coefficients.{rule-byte}
-use Rattle.inventory.specs.Recoverable.{State}
+use Rattle.recovery.specs.Recoverable.{State}
 use Rattle.inventory.specs.Model as model
 use Rattle.inventory.specs.Model.{Change, Call, change, Reply, reply, numbered, numberOf, opened, next, after, Gives}
 use Rattle.inventory.specs.Steps.{openStep, refusedOpening, changeStep, countStep}

@@ -58,12 +58,12 @@ use Rattle.parity.specs.Parity.{Contents, isFile}
 use Rattle.par1_read.specs.Reading.{readOf}
 use Rattle.par1_write.specs.EntryWriting.{writeEntryOf}
 use Rattle.par1_write.specs.VolumeWriting.{writeVolumeOf}
-use Rattle.inventory.specs.Recoverable.{State, IsContents, Recoverable, place, present, ComeFrom}
+use Rattle.recovery.specs.Recoverable.{State, IsContents, Recoverable, place, present, ComeFrom}
 use Rattle.inventory.specs.Model.{Change, addVolume, Reply, opened}
 use Rattle.inventory.specs.Claim.{Run, TellsExactly, sizeIn}
 use Rattle.inventory.specs.Query.{Queried}
 use Rattle.inventory.specs.Steps.{openStep, changeStep, countStep, answerNumber}
-use Rattle.inventory.specs.declared.Answer.{Answer}
+use Rattle.recovery.specs.declared.Answer.{Answer}
 use Rattle.inventory.specs.declared.Inventory.{Inventory}
 use Rattle.inventory.specs.declared.Outcome.{Outcome}
 use Rattle.inventory_bytes.specs.Claim.{Held}

@@ -13,7 +13,7 @@ use Rattle.parity.specs.Coefficient.{ruleOf}
 use Rattle.inventory.specs.Model.{addVolume}
 use Rattle.inventory.specs.Steps.{changeStep, countStep, answerNumber}
 use Rattle.inventory.specs.Query.{Queried}
-use Rattle.inventory.specs.declared.Answer.{Answer}
+use Rattle.recovery.specs.declared.Answer.{Answer}
 use Rattle.inventory.specs.declared.Inventory.{Inventory}
 use Rattle.inventory.specs.declared.Outcome.{Outcome}
 use Rattle.inventory_bytes.specs.Inventories.{inventoryOf, openedBy, storedBy, countedInto}

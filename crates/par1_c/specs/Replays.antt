@@ -9,7 +9,7 @@ use mathlib.Core.List.{List}
 use Prim.Native.Nat.{ℕ}
 use Rattle.lent_bytes.specs.Writing.{written}
 use Rattle.parity.specs.Coefficient.{coefficient}
-use Rattle.inventory.specs.Recoverable.{State}
+use Rattle.recovery.specs.Recoverable.{State}
 use Rattle.replay.specs.Replay.{Decides, replayOf}
 use Rattle.par1_c.specs.Answers.{answeredLength}
 

@@ -17,7 +17,7 @@ use Prim.Native.Nat.{ℕ}
 use Rattle.codes.specs.Codes.{isCode, codeOf}
 use Rattle.codes.specs.declared.Code.{Code}
 use Rattle.parity.specs.Coefficient.{ruleOf}
-use Rattle.inventory.specs.Recoverable.{State}
+use Rattle.recovery.specs.Recoverable.{State}
 use Rattle.inventory.specs.Model as model
 use Rattle.inventory.specs.Model.{Call, change, Reply, reply, opened, numberOf, after, Gives}
 use Rattle.inventory.specs.Steps.{changeStep}

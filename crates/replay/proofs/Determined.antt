@@ -11,9 +11,8 @@ use Prim.Native.Nat.{ℕ, _≤_}
 use native.Mathlib.Decide.{decLe}
 use Rattle.parity.specs.Coefficient.{coefficient}
 use Rattle.parity.proofs.Coefficients.{coefficient-byte}
-use Rattle.inventory.specs.Recoverable.{State}
-use Rattle.inventory.specs.RecoverableFiles.{RecoverableNow}
-use Rattle.inventory.proofs.Decided.{recoverable-decided}
+use Rattle.recovery.specs.Recoverable.{State, RecoverableNow}
+use Rattle.recovery.proofs.Decided.{recoverable-decided}
 use Rattle.replay.specs.Events.{at-end, refused, no-inventory, files}
 use Rattle.replay.specs.Claim.{Decided, OneText, OneLine}
 use Rattle.replay.proofs.EventLines.{line-refused, line-end, line-none, line-files}

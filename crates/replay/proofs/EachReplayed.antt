@@ -17,7 +17,7 @@ use lib.ListN.{length, getD}
 use Rattle.codes.specs.declared.Code.the-variants.{Powers}
 use Rattle.lent_bytes.specs.Writing.{written}
 use Rattle.parity.specs.Coefficient.{coefficient}
-use Rattle.inventory.specs.Recoverable.{State}
+use Rattle.recovery.specs.Recoverable.{State}
 use Rattle.inventory.specs.Model.{change, opened, numberOf, next}
 use Rattle.inventory.specs.Claim.{sizeIn}
 use Rattle.inventory.proofs.Calls.{next-same}

@@ -23,7 +23,7 @@ use Rattle.gf256.proofs.Products.{product-assoc, product-one-l}
 use Rattle.parity.specs.Coefficient.{coefficient}
 use Rattle.parity.specs.Parity.{Contents, isFile, greatest, parityByte}
 use Rattle.codes.specs.declared.Code.the-variants.{Powers}
-use Rattle.inventory.specs.Recoverable.{State, IsContents, Alike, Recoverable}
+use Rattle.recovery.specs.Recoverable.{State, IsContents, Alike, Recoverable}
 use Rattle.inventory.specs.Model.{addFile, addVolume, change, opened, insert, numberOf, changed, next}
 use Rattle.inventory.specs.Steps.{openStep}
 use Rattle.inventory.specs.Claim.{sizeIn}

@@ -18,7 +18,7 @@ use lib.Seq.{getD-append-seam}
 use borrow.Author.Tests.{eq-eqb, ne-eqb}
 use Rattle.computed_tests.specs.Numbers.{oneTo}
 use Rattle.computed_tests.proofs.Tests.{oneTo-in, oneTo-inside}
-use Rattle.inventory.specs.Recoverable.{State}
+use Rattle.recovery.specs.Recoverable.{State}
 use Rattle.inventory.specs.Model.{change, numberOf, next}
 use Rattle.inventory.proofs.Calls.{next-same}
 use Rattle.text.specs.Ascii.{ascii}

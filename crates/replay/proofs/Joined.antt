@@ -13,7 +13,7 @@ use native.Mathlib.Nat.{not-suc-le-zero}
 use native.Mathlib.Omega.{arith}
 use lib.ListN.{length}
 use Rattle.parity.specs.Coefficient.{coefficient, ruleOf}
-use Rattle.inventory.specs.Recoverable.{State}
+use Rattle.recovery.specs.Recoverable.{State}
 use Rattle.replay.specs.Replay.{Decides, replayOf}
 use Rattle.replay.specs.Events.{opening, nextEvent, Prints, ends, goes-on}
 use Rattle.replay.specs.Claim.{LogPrints, at-once, by-events, LinesThere, LinesJoined}

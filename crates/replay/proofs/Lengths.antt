@@ -20,7 +20,7 @@ use Rattle.cut_lists.proofs.CutLaws.{cut-count}
 use Rattle.parity.specs.Parity.{isFile}
 use Rattle.codes.specs.Codes.{same}
 use Rattle.codes.specs.declared.Code.the-variants.{Powers}
-use Rattle.inventory.specs.Recoverable.{State, isVolume}
+use Rattle.recovery.specs.Recoverable.{State, isVolume}
 use Rattle.inventory.specs.Model.{Change, addFile, removeFile, addVolume, removeVolume, quarantine, release, change, opened, numberOf, next}
 use Rattle.computed_tests.specs.Numbers.{oneTo, allBelow}
 use Rattle.inventory.specs.Steps.{openStep, outcome, fresh, refusedOpening}

@@ -14,7 +14,7 @@ use Rattle.cut_lists.specs.All.{All, all-none, all-more}
 use Rattle.number_sets.specs.Sets.{member}
 use Rattle.parity.specs.Coefficient.{ruleOf}
 use Rattle.codes.specs.declared.Code.the-variants.{Powers}
-use Rattle.inventory.specs.Recoverable.{State}
+use Rattle.recovery.specs.Recoverable.{State}
 use Rattle.inventory.specs.Model.{Change}
 use Rattle.inventory.specs.Steps.{isInventory, ifInventory, inRange, ofOtherCode, whileQuarantined, already, changeNumber, changeStep, openStep}
 use Rattle.inventory.specs.declared.Inventory.{Inventory}

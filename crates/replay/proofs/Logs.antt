@@ -21,7 +21,7 @@ use borrow.Author.Tests.{le-leb, lt-leb, eq-eqb, ne-eqb}
 use Rattle.cut_lists.specs.Pieces.{Cut, none, before, cut}
 use Rattle.cut_lists.proofs.CutLaws.{cut-none, cut-stop, cut-more}
 use Rattle.codes.specs.declared.Code.the-variants.{Powers}
-use Rattle.inventory.specs.Recoverable.{State}
+use Rattle.recovery.specs.Recoverable.{State}
 use Rattle.inventory.specs.Model.{Change, change, opened, next}
 use Rattle.inventory.specs.Steps.{openStep}
 use Rattle.inventory.specs.Claim.{sizeIn}

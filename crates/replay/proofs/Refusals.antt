@@ -8,7 +8,7 @@ use mathlib.Core.Logic.{inr}
 use Prim.Native.Nat.{ℕ, _^_, _≤_}
 use native.Mathlib.Omega.{arith}
 use Rattle.codes.specs.declared.Code.the-variants.{Powers}
-use Rattle.inventory.specs.Recoverable.{State}
+use Rattle.recovery.specs.Recoverable.{State}
 use Rattle.inventory.specs.Model.{addFile, removeFile, addVolume, removeVolume, numberOf}
 use Rattle.inventory.specs.Claim.{OutOfRange}
 use Rattle.inventory.proofs.Openings.{opening-numbers}

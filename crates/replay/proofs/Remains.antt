@@ -10,7 +10,7 @@ use mathlib.Core.List.{List}
 use Prim.Native.Nat.{ℕ, _≤_}
 use lib.ListN.{length}
 use Rattle.parity.specs.Coefficient.{coefficient, ruleOf}
-use Rattle.inventory.specs.Recoverable.{State}
+use Rattle.recovery.specs.Recoverable.{State}
 use Rattle.inventory.specs.declared.Inventory.{Inventory}
 use Rattle.text.specs.Buffer.{Buffer, usizeMax, put}
 use Rattle.text.proofs.BufferLaws.{put-rest}

@@ -25,11 +25,11 @@ use Rattle.number_sets.specs.Sets.{member}
 use Rattle.parity.specs.Coefficient.{coefficient, ruleOf}
 use Rattle.codes.specs.declared.Code.{Code}
 use Rattle.codes.specs.declared.Code.the-variants.{Powers}
-use Rattle.inventory.specs.Recoverable.{State}
+use Rattle.recovery.specs.Recoverable.{State, RecoverableNow}
 use Rattle.inventory.specs.Model.{Change, change, numbered, opened, numberOf, next, Gives}
 use Rattle.inventory.specs.Steps.{isInventory, openStep, changeStep}
 use Rattle.inventory.specs.Claim.{Step, sizeIn}
-use Rattle.inventory.specs.RecoverableFiles.{RecoverableNow, RecoverableSet}
+use Rattle.inventory.specs.RecoverableFiles.{RecoverableSet}
 use Rattle.inventory.specs.declared.Inventory.{Inventory}
 use Rattle.inventory.specs.declared.Outcome.{Outcome}
 use Rattle.inventory.specs.declared.recoverable.RecoverableFiles.{RecoverableFiles}

@@ -49,11 +49,10 @@ use Rattle.lent_bytes.specs.declared.Writing.{Writing}
 use Rattle.parity.specs.Coefficient.{coefficient, ruleOf}
 use Rattle.codes.specs.declared.Code.{Code}
 use Rattle.codes.specs.declared.Code.the-variants.{Powers}
-use Rattle.inventory.specs.Recoverable.{State}
+use Rattle.recovery.specs.Recoverable.{State, RecoverableNow}
 use Rattle.inventory.specs.Model.{Change, addFile, removeFile, addVolume, removeVolume, change, opened, numberOf, next}
 use Rattle.inventory.specs.Steps.{openStep}
 use Rattle.inventory.specs.Claim.{sizeIn}
-use Rattle.inventory.specs.RecoverableFiles.{RecoverableNow}
 use Rattle.text.specs.Ascii.{ascii}
 use Rattle.text.specs.Decimal.{decimal}
 use Rattle.replay.specs.Log.{isFirstLine, numbersOf, changeOf, isEventLine, numberIn}

@@ -22,11 +22,10 @@ use Rattle.lent_bytes.specs.Writing.{written}
 use Rattle.lent_bytes.specs.declared.Writing.{Writing}
 use Rattle.cut_lists.specs.Pieces.{Cut, cut}
 use Rattle.codes.specs.declared.Code.the-variants.{Powers}
-use Rattle.inventory.specs.Recoverable.{State}
+use Rattle.recovery.specs.Recoverable.{State, RecoverableNow}
 use Rattle.inventory.specs.Model.{Change, change, opened, numberOf, next}
 use Rattle.inventory.specs.Steps.{openStep}
 use Rattle.inventory.specs.Claim.{sizeIn}
-use Rattle.inventory.specs.RecoverableFiles.{RecoverableNow}
 use Rattle.text.specs.TextLines.{lineLength}
 use Rattle.replay.specs.Log.{bodyOf, isFirstLine, numbersOf, changeOf, isEventLine, numberIn}
 use Rattle.replay.specs.Lines.{refusedLine, filesOf, numbersLine}

@@ -1,6 +1,6 @@
 // The replay of a log of arrivals (document 02, 2026-11): after each event the missing files that are recoverable.
 ghost use mathlib.Core.Path.{_≡_};
-ghost use Rattle.inventory.specs.Recoverable.{State};
+ghost use Rattle.recovery.specs.Recoverable.{State};
 ghost use Rattle.parity.specs.Coefficient.{coefficient};
 ghost use Rattle.text.specs.Buffer.{buffer, put as putOf};
 ghost use mathlib.Core.Bool.{Bool};

@@ -18,7 +18,7 @@ use Rattle.cauchy_recovery.specs.Claim.{volumesPresent, nonemptyMissing}
 use Rattle.cauchy_recovery.proofs.Called.{any-will-do-called}
 use Rattle.codes.specs.declared.Code.the-variants.{Cauchy}
 use Rattle.cut_lists.specs.All.{All, all-none, all-more}
-use Rattle.inventory.specs.Recoverable.{State, place, present}
+use Rattle.recovery.specs.Recoverable.{State, place, present}
 use Rattle.inventory.specs.Model.{Call, change, query, addFile, addVolume, Reply, reply, queried, opened, insert, changed, numberOf, next, after}
 use Rattle.inventory.specs.Steps.{openStep}
 use Rattle.inventory.specs.Claim.{Step, Run, sizeIn}

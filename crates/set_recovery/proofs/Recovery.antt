@@ -17,7 +17,7 @@ use native.Mathlib.Omega.{arith}
 use lib.ListN.{length, getD, take, drop, replicate, length-drop, length-replicate, List·getD-eq-default}
 use lib.Seq.{take-all}
 use Rattle.codes.specs.declared.Code.{Code}
-use Rattle.inventory.specs.Recoverable.{State, isVolume, IsContents, ComeFrom, place}
+use Rattle.recovery.specs.Recoverable.{State, isVolume, IsContents, ComeFrom, place}
 use Rattle.inventory.specs.Model.{Call, query, Reply, queried, opened, GivesQuery, Gives}
 use Rattle.inventory.specs.Claim.{Step, sizeIn}
 use Rattle.inventory.specs.declared.Inventory.{Inventory}

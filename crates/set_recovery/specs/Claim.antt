@@ -30,7 +30,7 @@ use Rattle.cut_lists.specs.All.{All}
 use Rattle.entries.specs.Entry.{fileSizeOf}
 use Rattle.entries.specs.Numbering.{savedOf}
 use Rattle.entries.specs.Walk.{entriesOf}
-use Rattle.inventory.specs.Recoverable.{State, isVolume, place, present}
+use Rattle.recovery.specs.Recoverable.{State, isVolume, place, present}
 use Rattle.inventory.specs.Model.{Call, query, Reply, queried, opened, after}
 use Rattle.inventory.specs.Steps.{openStep}
 use Rattle.inventory.specs.Claim.{Step, Run, sizeIn}

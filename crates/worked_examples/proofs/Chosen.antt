@@ -19,8 +19,8 @@ use Rattle.parity.specs.Coefficient.{coefficient}
 use Rattle.parity.proofs.Coefficients.{coefficient-byte}
 use Rattle.elimination.specs.Field.{Field}
 use Rattle.elimination.specs.ByteField.{Byte}
-use Rattle.inventory.specs.Recoverable.{State, column, Recoverable, Used}
-use Rattle.inventory.proofs.Rows.{K}
+use Rattle.recovery.specs.Recoverable.{State, column, Recoverable, Used}
+use Rattle.recovery.proofs.Rows.{K}
 use Rattle.worked_examples.specs.Examples.{listed}
 use Rattle.worked_examples.proofs.Tests.{every, every-at, allListed, each-listed}
 use Rattle.worked_examples.proofs.Determined as Determined

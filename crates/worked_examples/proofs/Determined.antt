@@ -22,12 +22,11 @@ use Rattle.elimination.proofs.Sums as S
 use Rattle.elimination.proofs.Solutions as Solutions
 use Rattle.elimination.specs.ByteField.{Byte, byte-eq}
 use Rattle.elimination.proofs.ByteField.{is-zero, sum-value, δ-value}
-use Rattle.inventory.specs.Recoverable.{State, column, Recoverable, Used}
-use Rattle.inventory.proofs.Tests.{eqb-suc}
-use Rattle.inventory.proofs.Rows as R
-use Rattle.inventory.proofs.Rows.{K}
-use Rattle.inventory.proofs.Recovery as Recovery
-use Rattle.inventory.proofs.Weights as Weights
+use Rattle.recovery.specs.Recoverable.{State, column, Recoverable, Used}
+use Rattle.recovery.proofs.Rows as R
+use Rattle.recovery.proofs.Rows.{K, eqb-suc}
+use Rattle.recovery.proofs.Recovery as Recovery
+use Rattle.recovery.proofs.Weights as Weights
 open Field K using (𝟘, mul as _⊗_)
 
 infixl 70 _⊗_

@@ -24,8 +24,8 @@ use Rattle.parity.specs.Parity.{isFile}
 use Rattle.parity.proofs.Coefficients.{coefficient-byte}
 use Rattle.elimination.specs.Field.{Field}
 use Rattle.elimination.specs.ByteField.{Byte, byte-eq}
-use Rattle.inventory.specs.Recoverable.{State, column, Recoverable}
-use Rattle.inventory.proofs.Rows.{K}
+use Rattle.recovery.specs.Recoverable.{State, column, Recoverable}
+use Rattle.recovery.proofs.Rows.{K}
 use Rattle.worked_examples.specs.Examples.{listed, stateOf, NoneEmpty}
 use Rattle.worked_examples.proofs.Determined as Determined
 use Rattle.worked_examples.proofs.Tests.{every, every-at, allListed, each-listed}

@@ -26,7 +26,7 @@ use Rattle.gf256.proofs.Products.{product-zero-l}
 use Rattle.parity.specs.Coefficient.{coefficient}
 use Rattle.parity.specs.Parity.{isFile}
 use Rattle.elimination.proofs.Reductions.{zeros-at}
-use Rattle.inventory.specs.Recoverable.{State, isVolume, column, place, Used, weighted, IsWeights}
+use Rattle.recovery.specs.Recoverable.{State, isVolume, column, place, Used, weighted, IsWeights}
 use Rattle.worked_examples.proofs.Tests.{every, every-at}
 use Rattle.worked_examples.proofs.Chosen.{usedBy, chosen-used}
 

@@ -23,7 +23,7 @@ use Rattle.codes.specs.declared.Code.{Code}
 use Rattle.codes.specs.declared.Code.the-variants.{Powers}
 use Rattle.parity.specs.Coefficient.{ruleOf}
 use Rattle.parity.specs.Parity.{Contents, isFile, greatest, parity}
-use Rattle.inventory.specs.Recoverable.{State, Recoverable, IsWeights}
+use Rattle.recovery.specs.Recoverable.{State, Recoverable, IsWeights}
 
 -- files 1, 2, .. as a list has them
 unfoldable pub contentsOf : List (List ℕ) → Contents

@@ -5,7 +5,7 @@ use mathlib.Core.Logic.{⊎-elim}
 use Prim.Native.Nat.{ℕ, _≤_, _<_, _-_}
 use native.Mathlib.Omega.{arith}
 use lib.ListN.{length, getD, replicate}
-use Rattle.inventory.proofs.Tests.{one-more}
+use Rattle.number_sets.proofs.Ranges.{one-more}
 use Rattle.inventory.specs.Steps.{nonemptyOf, outcome}
 use Rattle.inventory.proofs.Outcomes.{open-out-of-range, open-miscounted, open-too-large, open-accepted, nonempty-more, nonempty-same}
 use native.Mathlib.Nat.{not-suc-le-zero}

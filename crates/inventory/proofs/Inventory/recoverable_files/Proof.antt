@@ -20,14 +20,12 @@ returns : tie.Need-returns
 returns c =
     set-refused ruleOf _ (sym (c .before .is-inventory .ensures) ∙ not-true (c .before .is-inventory .result) (c .if1 .taken))
 
-sub-solved-columns : tie.Need-sub-solved-columns
-sub-solved-columns c = omega (arith, few-files _ (valid (c .before .before .before .before)))
+cast-recoverable-files : tie.Need-cast-recoverable-files
+cast-recoverable-files c = let l = few-files _ (valid (c .before .before .before .before)) in omega arith
 
 returns-2 : tie.Need-returns-2
-returns-2 c =
-    set-gathered ruleOf rule-byte _ (valid (c .before .before .before .before .before .before)) _ (c .before .solved-columns .ensures) _ (c .with-empty .ensures)
+returns-2 c = set-gathered ruleOf rule-byte _ (valid (c .before .before .before .before .before)) _ (c .recoverable-files .ensures)
 
 pub recoverable-files-spec : {M : Type 1} → statement M
 recoverable-files-spec =
-    tie.close
-    (tie.spec (λ c κs. search needs) returns sub-solved-columns (λ c. search needs) (λ c κs. search needs) (λ c κs. search needs) returns-2)
+    tie.close (tie.spec (λ c κs. search needs) returns cast-recoverable-files (λ c κs. search needs) returns-2)

@@ -6,7 +6,8 @@ use Prim.Native.Nat.{_≤_, _-_}
 use native.Mathlib.Omega.{arith}
 use Rattle.computed_tests.proofs.Tests.{oneTo-inside}
 use Rattle.inventory.proofs.Outcomes.{first-fails, first-holds}
-use Rattle.inventory.specs.Steps.{within, apart, isInventory}
+use Rattle.number_sets.specs.Sets.{within, apart}
+use Rattle.inventory.specs.Steps.{isInventory}
 use Rattle.inventory.specs.declared.Inventory.{Inventory}
 use borrow.Author.Tests.{not-true, not-false}
 use borrow.Author.Needs.{needs}

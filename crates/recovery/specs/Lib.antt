@@ -1,0 +1,3 @@
+pub mod Recoverable
+pub mod Answers
+pub mod Claim
