@@ -19,6 +19,7 @@ pub mod Condition
 pub mod Quarantine
 pub mod QuarantineCounts
 pub mod RangeRefusals
+pub mod ChangeRefusals
 pub mod OtherCode
 pub mod RecoverableAnswers
 pub mod Answered

@@ -1,5 +1,6 @@
 -- Which calls are refused with 10 after an accepted opening (document 01, "The sheet"; document 02, 2026-10).
 --
+--   range-exactly             what is out of range
 --   change-10                 the model's number of a change is 10 exactly where it is out of range
 --   query-10                  so is that of a query
 --   range-refused-for, range-refused     the claim over any rules, and at those of the two codes
@@ -34,7 +35,7 @@ number-10 true false false true = (λ e. absurd (omega arith), λ z. absurd (tru
 number-10 true false false false = (λ e. absurd (omega arith), λ z. absurd (true≢false z))
 number-10 false other aside done = (λ e. refl, λ e. refl)
 
-range-exactly : (n : ℕ) (c : Change) (k : ℕ) → (inRange c n k ≡ false) ↔ OutOfRange n (change c k)
+pub range-exactly : (n : ℕ) (c : Change) (k : ℕ) → (inRange c n k ≡ false) ↔ OutOfRange n (change c k)
 unfolding inRange OutOfRange
 range-exactly n addFile f = outside-exactly n f
 range-exactly n removeFile f = outside-exactly n f

@@ -18,12 +18,13 @@
 --   Outside m k               the number k is not 1 to m
 --   OutOfRange n c            the number of the file or the volume of the call c is out of its range, of n files
 --   AddsOther d n c           the call c adds a volume in range, of n files, of another code than d
+--   ChangeFails t c j k       test k, one of 10, 29, 27 and 11, holds of the change c of number j in the state t
 --   Agrees c r r′             the replies r and r′ to the call c are the same, but for how many volumes are quarantined
 --   AllAgree cs rs rs′        so are those to the calls cs
 --   Condition rules d n size o cs rs s     what holds after the calls cs on the inventory o opened for the code d and n files of these sizes
 --   ConditionFor rules        it holds for every accepted opening and every list of calls
 --   AnsweredFor rules, ExactlyGivenFor rules, QuarantineAsRemovalFor rules, ReleaseAsAddingFor rules, QuarantineCountedFor rules,
---   QuarantineRefusalsFor rules, RangeRefusedFor rules, OtherCodeRefusedFor rules     claims, over any rules
+--   QuarantineRefusalsFor rules, RangeRefusedFor rules, OtherCodeRefusedFor rules, ChangeRefusedFor rules     claims, over any rules
 -- The claims:
 --   ConditionOverRules        the condition, over any rule of bytes for each code
 -- and at the rules of the two codes:
@@ -39,6 +40,7 @@
 --   OpeningNumbers            the number of each opening, for either code: 10, 1 or 0
 --   RangeRefused              after any list of calls a call is refused with 10 exactly where the number of its file or volume is out of range
 --   OtherCodeRefused          after any list of calls a call is refused with 29 exactly where it adds a volume in range of the other code
+--   ChangeRefused             after any list of calls a change is refused by the first test that holds, in the document's order, and for nothing else
 --   OneReply                  the model has one reply at most to each call
 --   OneAnswer, OneCount       what a query and a count promise determines the answer and the room
 --   ExactlyGiven              calls give what isInventory says, and nothing else
@@ -63,9 +65,10 @@ use Rattle.mul_add.specs.MulAdd.{mulAddAll}
 use Rattle.mul_add.specs.Once.{Once}
 use Rattle.parity.specs.Parity.{Contents, isFile}
 use Rattle.number_sets.specs.Sets.{member, Words}
+use Rattle.refusals.specs.Order.{First}
 use Rattle.recovery.specs.Recoverable.{State, isVolume, IsContents, Recoverable, RecoverableNow, place, present, ComeFrom}
 use Rattle.inventory.specs.Model.{Call, change, count, query, Reply, reply, numbered, counts, queried, opened, after, GivesAll}
-use Rattle.inventory.specs.Model.{addFile, removeFile, addVolume, removeVolume, quarantine, release}
+use Rattle.inventory.specs.Model.{Change, addFile, removeFile, addVolume, removeVolume, quarantine, release}
 use Rattle.inventory.specs.Steps.{isInventory, zeros, openStep, changeStep, countReply, countStep, answerNumber}
 use Rattle.inventory.specs.Query.{Queried}
 use Rattle.inventory.specs.RecoverableFiles.{RecoverableSet}
@@ -171,6 +174,21 @@ AddsOther d n (change quarantine v) = ⊥
 AddsOther d n (change release v) = ⊥
 AddsOther d n count = ⊥
 AddsOther d n (query f room) = ⊥
+
+-- ---- "Note file f: 10 if f is not 1 to n, 11 if f is in hand; else accepted", "Withdraw file f: 10 the same, 11 if f is not in hand", "Volume v: the
+-- same"; "27 noted while set aside; 11 for setting aside what is not in hand, or taking back what is not set aside; number checks first",
+-- "Withdrawing a set-aside volume is accepted"; "29 a volume of the other code noted, after 10, before 27 and 11"
+
+pub data ChangeFails (t : State) : Change → ℕ → ℕ → Type 0 where
+  out-of-range : {c : Change} {j : ℕ} → OutOfRange (t .n) (change c j) → ChangeFails t c j 10
+  other-code : {c : Code} {v : ℕ} → c ≢ t .code → ChangeFails t (addVolume c) v 29
+  set-aside : {c : Code} {v : ℕ} → t .quarantined v ≡ true → ChangeFails t (addVolume c) v 27
+  file-here : {f : ℕ} → t .files f ≡ true → ChangeFails t addFile f 11
+  file-missing : {f : ℕ} → t .files f ≡ false → ChangeFails t removeFile f 11
+  volume-here : {c : Code} {v : ℕ} → t .volumes v ≡ true → ChangeFails t (addVolume c) v 11
+  volume-missing : {v : ℕ} → t .volumes v ≡ false → t .quarantined v ≡ false → ChangeFails t removeVolume v 11
+  not-here : {v : ℕ} → t .volumes v ≡ false → ChangeFails t quarantine v 11
+  not-aside : {v : ℕ} → t .quarantined v ≡ false → ChangeFails t release v 11
 
 module _ (rules : Code → ℕ → ℕ → ℕ) where
   -- ---- what the calls do
@@ -297,6 +315,17 @@ module _ (rules : Code → ℕ → ℕ → ℕ) where
       → (cs : List Call) (rs : List Reply) (s : Inventory) → Run (openStep d n sizes .next) cs rs s
       → (c : Call) (k : ℕ) (values : List ℕ) (e : Inventory) → Step s c (reply k values) e → (k ≡ 29) ↔ AddsOther d n c
 
+  -- ---- every refusal of a change
+
+  -- by the model's state after the list; and a change of which none of the tests holds is accepted
+  abbrev pub ChangeRefusedFor : Type 0
+  ChangeRefusedFor =
+      (d : Code) (n : ℕ) (sizes : List ℕ) → openStep d n sizes .number ≡ 0
+      → (cs : List Call) (rs : List Reply) (s : Inventory) → Run (openStep d n sizes .next) cs rs s
+      → (c : Change) (j k : ℕ) (e : Inventory) → Step s (change c j) (numbered k) e
+      → (k ≢ 0 → First (ChangeFails (after (opened d n (sizeIn sizes)) cs) c j) (10 ∷ 29 ∷ 27 ∷ 11 ∷ []) k)
+      × ((m : ℕ) → First (ChangeFails (after (opened d n (sizeIn sizes)) cs) c j) (10 ∷ 29 ∷ 27 ∷ 11 ∷ []) m → k ≡ m)
+
 -- ---- the claims
 
 -- "condition 3 is shown once over the factor rule": whatever coefficients the codes have, so long as those of files are bytes
@@ -362,6 +391,10 @@ RangeRefused = RangeRefusedFor ruleOf
 -- proved: proofs/OtherCode.antt, `other-code-refused`
 abbrev pub OtherCodeRefused : Type 0
 OtherCodeRefused = OtherCodeRefusedFor ruleOf
+
+-- proved: proofs/ChangeRefusals.antt, `change-refused`
+abbrev pub ChangeRefused : Type 0
+ChangeRefused = ChangeRefusedFor ruleOf
 
 -- proved: proofs/Calls.antt, `one-reply`
 abbrev pub OneReply : Type 0
