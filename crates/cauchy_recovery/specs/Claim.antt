@@ -29,9 +29,9 @@ use Rattle.parity.specs.Coefficient.{ruleOf}
 use Rattle.parity.specs.Parity.{isFile}
 use Rattle.number_sets.specs.Sets.{sizeBelow}
 use Rattle.recovery.specs.Recoverable.{State, isVolume, column, Recoverable}
-use Rattle.inventory.specs.Model.{Call, change, query, addVolume, Reply, queried, opened, after}
-use Rattle.inventory.specs.Steps.{openStep}
-use Rattle.inventory.specs.Claim.{Step, Run, sizeIn}
+use Rattle.inventory.specs.Model.{Call, change, query, addVolume, queried}
+use Rattle.inventory.specs.Claim as calls
+use Rattle.inventory.specs.Claim.{Step, sizeIn}
 use Rattle.inventory.specs.declared.Inventory.{Inventory}
 use Rattle.worked_examples.specs.Examples.{stateOf, NoneEmpty}
 
@@ -54,15 +54,12 @@ pub record AnyWillDo : Type 0 where
 
 -- ---- over the calls
 
--- "Its tally and its new sheet have the code of the opening"
-abbrev pub stateAfter : ℕ → List ℕ → List Call → State
-stateAfter n sizes cs = after (opened Cauchy n (sizeIn sizes)) cs
-
 -- "A sheet is opened for one code or the other", here for this one
-pub record Reached (n : ℕ) (sizes : List ℕ) (cs : List Call) (s : Inventory) : Type 0 where
-  pub accepted : openStep Cauchy n sizes .number ≡ 0
-  pub replies : List Reply
-  pub run : Run ruleOf (openStep Cauchy n sizes .next) cs replies s
+abbrev pub stateAfter : ℕ → List ℕ → List Call → State
+stateAfter n sizes cs = calls.stateAfter Cauchy n sizes cs
+
+abbrev pub Reached : ℕ → List ℕ → List Call → Inventory → Type 0
+Reached n sizes cs s = calls.Reached ruleOf Cauchy n sizes cs s
 
 -- a query of each missing file, after any list of calls; proved: proofs/Called.antt, `any-will-do-called`
 pub record AnyWillDoCalled : Type 0 where

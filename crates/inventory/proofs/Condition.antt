@@ -2,7 +2,6 @@
 --
 --   sound        the replies are the model's, and the inventory stands for the model's state
 --   missing-exactly      what the model's reply to a query of a missing file says
---   afterCalls d n sizes cs     the model's state after the calls cs on an opening
 --   calls-fit, calls-file       its number of files is that of the opening
 --   calls-sound, asked   the replies to these calls, and that to a query of a missing file then, are the model's
 --   condition-for    the claim over any rules of bytes
@@ -28,7 +27,7 @@ use Rattle.recovery.specs.Recoverable.{State, IsContents, Recoverable, IsWeight
 use Rattle.inventory.specs.Model.{Call, query, Reply, queried, opened, next, after}
 use Rattle.inventory.specs.Model.{Gives, GivesQuery, GivesMissing, undetermined, noRoom, recoverable, GivesAll}
 use Rattle.inventory.specs.Steps.{openStep}
-use Rattle.inventory.specs.Claim.{Step, Run, sizeIn, ConditionOverRules, Condition3}
+use Rattle.inventory.specs.Claim.{Step, Run, sizeIn, stateAfter, ConditionOverRules, Condition3}
 use Rattle.inventory.specs.declared.Inventory.{Inventory}
 use Rattle.recovery.proofs.Following.{follow}
 use Rattle.inventory.proofs.Representation.{Represents, meets}
@@ -76,25 +75,22 @@ module _ (rule : ℕ → ℕ → ℕ) (small : (f v : ℕ) → f < 256 → rule 
 
 -- ---- after an accepted opening and calls
 
-abbrev pub afterCalls : Code → ℕ → List ℕ → List Call → State
-afterCalls d n sizes cs = after (opened d n (sizeIn sizes)) cs
-
 module _ (d : Code) (n : ℕ) (sizes : List ℕ) (cs : List Call) where
-  pub calls-fit : openStep d n sizes .number ≡ 0 → afterCalls d n sizes cs .n ≤ 254
+  pub calls-fit : openStep d n sizes .number ≡ 0 → stateAfter d n sizes cs .n ≤ 254
   calls-fit accepted =
       subst (λ (k : ℕ). k ≤ 254) (sym (after-same (opened d n (sizeIn sizes)) cs .same-n)) (opened-represents d n sizes accepted .0)
 
-  pub calls-file : (f : ℕ) → isFile n f ≡ true → isFile (afterCalls d n sizes cs .n) f ≡ true
+  pub calls-file : (f : ℕ) → isFile n f ≡ true → isFile (stateAfter d n sizes cs .n) f ≡ true
   calls-file f r = subst (λ (k : ℕ). isFile k f ≡ true) (sym (after-same (opened d n (sizeIn sizes)) cs .same-n)) r
 
 module _ (rules : Code → ℕ → ℕ → ℕ) (d : Code) (n : ℕ) (sizes : List ℕ) (accepted : openStep d n sizes .number ≡ 0) (cs : List Call)
     (rs : List Reply) (s : Inventory) (run : Run rules (openStep d n sizes .next) cs rs s) where
-  pub calls-sound : GivesAll rules (opened d n (sizeIn sizes)) cs rs × Represents (sizeIn sizes) (afterCalls d n sizes cs) s
+  pub calls-sound : GivesAll rules (opened d n (sizeIn sizes)) cs rs × Represents (sizeIn sizes) (stateAfter d n sizes cs) s
   calls-sound =
       sound rules (sizeIn sizes) (opened d n (sizeIn sizes)) (openStep d n sizes .next) cs rs s (opened-represents d n sizes accepted .1) run
 
-  pub asked : (f : ℕ) → isFile n f ≡ true → afterCalls d n sizes cs .files f ≡ false
-      → (room : List ℕ) (r : Reply) (e : Inventory) → Step rules s (query f room) r e → GivesMissing (rules d) (afterCalls d n sizes cs) f room r
+  pub asked : (f : ℕ) → isFile n f ≡ true → stateAfter d n sizes cs .files f ≡ false
+      → (room : List ℕ) (r : Reply) (e : Inventory) → Step rules s (query f room) r e → GivesMissing (rules d) (stateAfter d n sizes cs) f room r
   unfolding Gives
   asked f q m room r e did =
       subst (λ (b : Bool). GivesQuery (rules d) now f room true b r) m
@@ -104,7 +100,7 @@ module _ (rules : Code → ℕ → ℕ → ℕ) (d : Code) (n : ℕ) (sizes : Li
       (meets rules (sizeIn sizes) now s (query f room) r e (calls-sound .1) did .0)))
     where
       now : State
-      now = afterCalls d n sizes cs
+      now = stateAfter d n sizes cs
 
 -- ---- the claim
 
@@ -128,7 +124,7 @@ condition-for rules small d n sizes accepted cs rs s run = record {
     size = sizeIn sizes
 
     now : State
-    now = afterCalls d n sizes cs
+    now = stateAfter d n sizes cs
 
     whole : GivesAll rules (opened d n size) cs rs × Represents size now s
     whole = calls-sound rules d n sizes accepted cs rs s run

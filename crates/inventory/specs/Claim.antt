@@ -11,6 +11,8 @@
 --   Before c d cs             the call c stands in cs, and the call d after it
 --   TellsExactly t cs         the calls cs tell what is present and what is quarantined in t and nothing else, in whatever order
 --   sizeIn sizes f            the size of file f in the sizes of an opening
+--   stateAfter d n sizes cs   the model's state after the calls cs on an inventory opened for the code d and n files of these sizes
+--   Reached rules d n sizes cs s     the calls cs on an inventory so opened, which is accepted, lead to the inventory s; refused ones are among them
 --   roomOf c                  the room lent to the call c
 --   Elsewhere v c             the call c changes nothing of volume v
 --   OneAside r r′             the replies r and r′ to counts: in the second a volume less is present, and one more quarantined
@@ -104,6 +106,10 @@ pub record TellsExactly (t : State) (cs : List Call) : Type 0 where
 -- the sizes of an opening, by file number
 abbrev pub sizeIn : List ℕ → ℕ → ℕ
 sizeIn sizes f = getD sizes (f - 1) 0
+
+-- "Its tally and its new sheet have the code of the opening"
+abbrev pub stateAfter : Code → ℕ → List ℕ → List Call → State
+stateAfter d n sizes cs = after (opened d n (sizeIn sizes)) cs
 
 abbrev pub roomOf : Call → List ℕ
 roomOf (change c k) = []
@@ -212,6 +218,12 @@ module _ (rules : Code → ℕ → ℕ → ℕ) where
       (d : Code) × (n : ℕ) × (sizes : List ℕ) × (cs : List Call) × (rs : List Reply)
       × (openStep d n sizes .number ≡ 0) × Run (openStep d n sizes .next) cs rs s
 
+  -- "The list starts from the sheet of an accepted opening."
+  pub record Reached (d : Code) (n : ℕ) (sizes : List ℕ) (cs : List Call) (s : Inventory) : Type 0 where
+    pub accepted : openStep d n sizes .number ≡ 0
+    pub replies : List Reply
+    pub run : Run (openStep d n sizes .next) cs replies s
+
   abbrev pub AnsweredFor : Type 0
   AnsweredFor = (s : Inventory) (cs : List Call) → (rs : List Reply) × (e : Inventory) × Run s cs rs e
 
@@ -279,7 +291,7 @@ module _ (rules : Code → ℕ → ℕ → ℕ) where
       → (v : ℕ) (r r′ : Reply) (e : Inventory)
       → (Run s (count ∷ change quarantine v ∷ count ∷ []) (r ∷ numbered 0 ∷ r′ ∷ []) e → OneAside r r′)
       × (Run s (count ∷ change release v ∷ count ∷ []) (r ∷ numbered 0 ∷ r′ ∷ []) e → OneAside r′ r)
-      × (after (opened d n (sizeIn sizes)) cs .quarantined v ≡ true
+      × (stateAfter d n sizes cs .quarantined v ≡ true
       → (a : Reply) → Run s (count ∷ change removeVolume v ∷ count ∷ []) (r ∷ a ∷ r′ ∷ []) e → (a ≡ numbered 0) × OneGone r r′)
 
   -- a volume that is set aside is noted, and set aside again; one that is withdrawn is set aside, and taken back; one that is set aside is
@@ -323,8 +335,8 @@ module _ (rules : Code → ℕ → ℕ → ℕ) where
       (d : Code) (n : ℕ) (sizes : List ℕ) → openStep d n sizes .number ≡ 0
       → (cs : List Call) (rs : List Reply) (s : Inventory) → Run (openStep d n sizes .next) cs rs s
       → (c : Change) (j k : ℕ) (e : Inventory) → Step s (change c j) (numbered k) e
-      → (k ≢ 0 → First (ChangeFails (after (opened d n (sizeIn sizes)) cs) c j) (10 ∷ 29 ∷ 27 ∷ 11 ∷ []) k)
-      × ((m : ℕ) → First (ChangeFails (after (opened d n (sizeIn sizes)) cs) c j) (10 ∷ 29 ∷ 27 ∷ 11 ∷ []) m → k ≡ m)
+      → (k ≢ 0 → First (ChangeFails (stateAfter d n sizes cs) c j) (10 ∷ 29 ∷ 27 ∷ 11 ∷ []) k)
+      × ((m : ℕ) → First (ChangeFails (stateAfter d n sizes cs) c j) (10 ∷ 29 ∷ 27 ∷ 11 ∷ []) m → k ≡ m)
 
 -- ---- the claims
 
@@ -442,7 +454,7 @@ RecoverableAfter =
     (d : Code) (n : ℕ) (sizes : List ℕ) → openStep d n sizes .number ≡ 0
     → (cs : List Call) (rs : List Reply) (s : Inventory) → Run ruleOf (openStep d n sizes .next) cs rs s
     → (r : RecoverableFiles) → RecoverableSet ruleOf s r
-    → (f : ℕ) → (member (r .files) f ≡ true) ↔ RecoverableNow (ruleOf d) (after (opened d n (sizeIn sizes)) cs) f
+    → (f : ℕ) → (member (r .files) f ≡ true) ↔ RecoverableNow (ruleOf d) (stateAfter d n sizes cs) f
 
 -- of any inventory, with room for the weights
 -- proved: proofs/RecoverableAnswers.antt, `as-queried`

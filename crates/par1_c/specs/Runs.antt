@@ -19,9 +19,9 @@ use Rattle.codes.specs.declared.Code.{Code}
 use Rattle.parity.specs.Coefficient.{ruleOf}
 use Rattle.recovery.specs.Recoverable.{State}
 use Rattle.inventory.specs.Model as model
-use Rattle.inventory.specs.Model.{Call, change, Reply, reply, opened, numberOf, after, Gives}
+use Rattle.inventory.specs.Model.{Call, change, Reply, reply, numberOf, after, Gives}
 use Rattle.inventory.specs.Steps.{changeStep}
-use Rattle.inventory.specs.Claim.{sizeIn}
+use Rattle.inventory.specs.Claim as calls
 use Rattle.inventory_bytes.specs.Inventories.{countedInto}
 use Rattle.par1_c.specs.Inventories.{changedBy, addedBy, countInto, QueryInto}
 
@@ -70,7 +70,7 @@ callsOf [] = []
 callsOf (c ∷ cs) = callOf c ++ callsOf cs
 
 abbrev pub stateAfter : Code → ℕ → List ℕ → List CallOnBytes → State
-stateAfter d n sizes cs = after (opened d n (sizeIn sizes)) (callsOf cs)
+stateAfter d n sizes cs = calls.stateAfter d n sizes (callsOf cs)
 
 -- the model's own replies; but 10 for what is the number of no code, and the three numbers of a count as bytes in its room, or 14
 unfoldable pub GivesInto : State → CallOnBytes → ℕ × List ℕ → Type 0

@@ -94,8 +94,7 @@ asked s reached = go (answered s (query 2 room ∷ []))
     go ([], e, q) = absurd q
     go (reply k room′ ∷ [], e, (s₁, did, q)) =
         let number : k ≡ 0 =
-        any-will-do-called .enough 2 (listedSizes p6) calls s
-        (record { accepted = reached .accepted; replies = reached .replies; run = reached .run })
+        any-will-do-called .enough 2 (listedSizes p6) calls s reached
         (subst (λ (sizes : List ℕ). nonemptyMissing (after (opened Cauchy 2 (sizeIn sizes)) calls) ≤ volumesPresent (after (opened Cauchy 2 (sizeIn sizes)) calls))
         (sym p6-sizes) as-many) 2 refl missing room (omega (arith, length-replicate {A = ℕ} 255 0)) k room′ s₁ did in
         (room′, s₁, subst (λ (k : ℕ). Step ruleOf s (query 2 room) (queried k room′) s₁) number did)

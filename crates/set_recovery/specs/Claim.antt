@@ -31,9 +31,10 @@ use Rattle.entries.specs.Entry.{fileSizeOf}
 use Rattle.entries.specs.Numbering.{savedOf}
 use Rattle.entries.specs.Walk.{entriesOf}
 use Rattle.recovery.specs.Recoverable.{State, isVolume, place, present}
-use Rattle.inventory.specs.Model.{Call, query, Reply, queried, opened, after}
+use Rattle.inventory.specs.Model.{Call, query, queried}
 use Rattle.inventory.specs.Steps.{openStep}
-use Rattle.inventory.specs.Claim.{Step, Run, sizeIn}
+use Rattle.inventory.specs.Claim as calls
+use Rattle.inventory.specs.Claim.{Step, sizeIn}
 use Rattle.inventory.specs.declared.Inventory.{Inventory}
 use Rattle.little_endian.specs.Bytes.{Bytes}
 use Rattle.mul_add.specs.Once.{Once}
@@ -71,14 +72,12 @@ listedSizes fs = map (λ e. fileSizeOf e) (savedEntries fs)
 
 -- ---- the calls
 
-abbrev pub stateAfter : Code → List File → List Call → State
-stateAfter code fs cs = after (opened code (fileCount fs) (sizeIn (listedSizes fs))) cs
-
 -- "It is opened with n sizes", those listed
-pub record Reached (code : Code) (fs : List File) (cs : List Call) (s : Inventory) : Type 0 where
-  pub accepted : openStep code (fileCount fs) (listedSizes fs) .number ≡ 0
-  pub replies : List Reply
-  pub run : Run ruleOf (openStep code (fileCount fs) (listedSizes fs) .next) cs replies s
+abbrev pub stateAfter : Code → List File → List Call → State
+stateAfter code fs cs = calls.stateAfter code (fileCount fs) (listedSizes fs) cs
+
+abbrev pub Reached : Code → List File → List Call → Inventory → Type 0
+Reached code fs cs s = calls.Reached ruleOf code (fileCount fs) (listedSizes fs) cs s
 
 -- ---- the fragments
 
