@@ -26,12 +26,12 @@ use Rattle.inventory.specs.declared.Inventory.{Inventory}
 use Rattle.inventory.proofs.Openings.{refused-next}
 use Rattle.little_endian.specs.Bytes.{toLe, leAt, numbers, numbersAt}
 use Rattle.little_endian.proofs.NumberLists.{length-numbers, numbers-append, numbers-back, numbers-read}
-use Rattle.inventory_bytes.specs.Inventories.{codeIn, inventoryIn, inventoryOf, inventoryBytes}
+use Rattle.inventory_bytes.specs.Inventories.{codeNumberIn, inventoryIn, inventoryOf, inventoryBytes}
 use Rattle.inventory_bytes.specs.Claim.{Held, LoadedBack, StoredBack, OtherBytes, RefusedZeros}
 
 -- ---- the length and the code
 
-pub inventory-of : (b : List ℕ) → length b ≡ 144 → isCode (codeIn b) ≡ true → inventoryOf b ≡ inventoryIn b
+pub inventory-of : (b : List ℕ) → length b ≡ 144 → isCode (codeNumberIn b) ≡ true → inventoryOf b ≡ inventoryIn b
 unfolding inventoryOf
 inventory-of b h k = simp (eq-eqb (length b) 144 h, k)
 
@@ -39,7 +39,7 @@ pub other-length : (b : List ℕ) → length b ≢ 144 → inventoryOf b ≡ zer
 unfolding inventoryOf
 other-length b h = simp (ne-eqb (length b) 144 h)
 
-pub other-number : (b : List ℕ) → isCode (codeIn b) ≡ false → inventoryOf b ≡ zeros
+pub other-number : (b : List ℕ) → isCode (codeNumberIn b) ≡ false → inventoryOf b ≡ zeros
 unfolding inventoryOf
 other-number b h = ap (λ (k : Bool). cond (eqb (length b) 144 && k) (inventoryIn b) zeros) h ∙ simp and-false
 
@@ -110,7 +110,7 @@ loaded-back s h = let n : List ℕ = s .n ∷ [] in
     (sym (append-nil (all s)))
     (simp (length-append, h .files .four, h .volumes .four, h .nonempty .four, h .quarantined .four)) refl
     (one-number (codeNumber (s .code)) (omega (arith, number-small (s .code)))) in
-    let number : codeIn (inventoryBytes s) ≡ codeNumber (s .code) = ap (λ (l : List ℕ). getD l 0 0) ks in
+    let number : codeNumberIn (inventoryBytes s) ≡ codeNumber (s .code) = ap (λ (l : List ℕ). getD l 0 0) ks in
     inventory-of (inventoryBytes s) (length-inventory s h) (ap isCode number ∙ number-code (s .code))
     ∙ same-parts (ap (λ (l : List ℕ). getD l 0 0) ns) fs vs es qs (ap codeOf number ∙ back (s .code))
 
@@ -119,7 +119,7 @@ pub stored-back : StoredBack
 unfolding inventoryBytes numbersAt
 stored-back b bytes size code =
     ap inventoryBytes (inventory-of b size code)
-    ∙ ap (λ (k : ℕ). numbers (leAt 8 b 0 ∷ numbersAt 4 b 8 ++ numbersAt 4 b 40 ++ numbersAt 4 b 72 ++ numbersAt 4 b 104 ++ (k ∷ []))) (number-back (codeIn b) code)
+    ∙ ap (λ (k : ℕ). numbers (leAt 8 b 0 ∷ numbersAt 4 b 8 ++ numbersAt 4 b 40 ++ numbersAt 4 b 72 ++ numbersAt 4 b 104 ++ (k ∷ []))) (number-back (codeNumberIn b) code)
     ∙ numbers-read 18 b 0 bytes (omega arith) ∙ take-all 144 b (omega arith)
 
 -- ---- a refused opening

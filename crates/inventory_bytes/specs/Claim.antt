@@ -18,7 +18,7 @@ use Rattle.little_endian.specs.Bytes.{Bytes}
 use Rattle.number_sets.specs.Sets.{Words}
 use Rattle.inventory.specs.Steps.{zeros, openStep}
 use Rattle.inventory.specs.declared.Inventory.{Inventory}
-use Rattle.inventory_bytes.specs.Inventories.{codeIn, inventoryOf, inventoryBytes}
+use Rattle.inventory_bytes.specs.Inventories.{codeNumberIn, inventoryOf, inventoryBytes}
 
 pub record Held (s : Inventory) : Type 0 where
   pub small : s .n < 2 ^ 64
@@ -33,12 +33,12 @@ LoadedBack = (s : Inventory) → Held s → inventoryOf (inventoryBytes s) ≡ s
 
 -- proved: proofs/BackLaws.antt, `stored-back`
 abbrev pub StoredBack : Type 0
-StoredBack = (b : List ℕ) → Bytes b → length b ≡ 144 → isCode (codeIn b) ≡ true → inventoryBytes (inventoryOf b) ≡ b
+StoredBack = (b : List ℕ) → Bytes b → length b ≡ 144 → isCode (codeNumberIn b) ≡ true → inventoryBytes (inventoryOf b) ≡ b
 
 -- of another length, or whose last number is that of no code
 -- proved: proofs/BackLaws.antt, `other-bytes`
 abbrev pub OtherBytes : Type 0
-OtherBytes = (b : List ℕ) → (length b ≢ 144) ⊎ (isCode (codeIn b) ≡ false) → inventoryOf b ≡ zeros
+OtherBytes = (b : List ℕ) → (length b ≢ 144) ⊎ (isCode (codeNumberIn b) ≡ false) → inventoryOf b ≡ zeros
 
 -- document 01: "Where a refused opening must hand back a sheet, every part of it is 0"
 -- proved: proofs/BackLaws.antt, `refused-zeros`

@@ -1,7 +1,7 @@
 -- Inventories in lent bytes: 18 numbers of 64 bits (n; files present, volumes present, files of size 1 or more, volumes in quarantine, four
 -- words each; the code).
 --
---   codeIn b            the number of the code in the bytes b
+--   codeNumberIn b      the number of the code in the bytes b
 --   inventoryIn b       the inventory in the 18 numbers of the bytes b
 --   inventoryOf b       the inventory that the bytes b are, if they are 144 and their code is one, else zeros
 --   inventoryBytes s    the bytes of the inventory s
@@ -25,8 +25,8 @@ use Rattle.inventory.specs.declared.Outcome.{Outcome}
 use Rattle.refusals.specs.Limits.{maxFiles}
 use Rattle.little_endian.specs.Bytes.{leAt, numbers, numbersAt}
 
-abbrev pub codeIn : List ℕ → ℕ
-codeIn b = leAt 8 b 136
+abbrev pub codeNumberIn : List ℕ → ℕ
+codeNumberIn b = leAt 8 b 136
 
 abbrev pub inventoryIn : List ℕ → Inventory
 inventoryIn b = record {
@@ -35,12 +35,12 @@ inventoryIn b = record {
   volumes = numbersAt 4 b 40;
   nonempty = numbersAt 4 b 72;
   quarantined = numbersAt 4 b 104;
-  code = codeOf (codeIn b);
+  code = codeOf (codeNumberIn b);
 }
 
 -- bytes of another length, or of another code, are no inventory: zeros, which every call refuses with 10
 unfoldable pub inventoryOf : List ℕ → Inventory
-inventoryOf b = cond (eqb (length b) 144 && isCode (codeIn b)) (inventoryIn b) zeros
+inventoryOf b = cond (eqb (length b) 144 && isCode (codeNumberIn b)) (inventoryIn b) zeros
 
 unfoldable pub inventoryBytes : Inventory → List ℕ
 inventoryBytes s = numbers (s .n ∷ s .files ++ s .volumes ++ s .nonempty ++ s .quarantined ++ (codeNumber (s .code) ∷ []))

@@ -19,6 +19,7 @@ use lent_bytes::write;
 use little_endian::read_numbers;
 use little_endian::read64;
 use little_endian::write_numbers;
+use refusals::MAX_FILES;
 use refusals::OUT_OF_RANGE;
 use refusals::PRESENT;
 use refusals::UNDETERMINED;
@@ -30,20 +31,20 @@ pub const LENGTH: usize = 144;
 const COUNT_LENGTH: usize = 24;
 
 // The greatest number of files.
-const MAX_FILES: usize = 254;
+const MOST_FILES: usize = MAX_FILES as usize;
 
 // Opens an inventory for volumes of this code, of n files with the sizes in these bytes.
 pub fn opened(code: Code, n: u64, sizes: &[u8]) -> Outcome
     ensures { λ r. ⌜ r ≡ openedBy code n (now (sizes .entry)) ⌝ }
 {
     let count = n as usize;
-    if MAX_FILES < count {
+    if MOST_FILES < count {
         return refused_opening(OUT_OF_RANGE);
     }
     if sizes.len() != 8 * count {
         return refused_opening(OUT_OF_RANGE);
     }
-    let mut numbers = [0u64; MAX_FILES];
+    let mut numbers = [0u64; MOST_FILES];
     opened_by(code, n, sizes, &mut numbers[..count])
 }
 

@@ -67,7 +67,7 @@ use Rattle.recovery.specs.declared.Answer.{Answer}
 use Rattle.inventory.specs.declared.Inventory.{Inventory}
 use Rattle.inventory.specs.declared.Outcome.{Outcome}
 use Rattle.inventory_bytes.specs.Claim.{Held}
-use Rattle.inventory_bytes.specs.Inventories.{codeIn, inventoryBytes, storedBy, countedInto}
+use Rattle.inventory_bytes.specs.Inventories.{codeNumberIn, inventoryBytes, storedBy, countedInto}
 use Rattle.little_endian.specs.Bytes.{numbers, numbersAt}
 use Rattle.amending.specs.Amending as amending
 use Rattle.amending.specs.Call.{amendOf}
@@ -226,7 +226,7 @@ RetoldOnBytes =
 -- "10: .. a sheet that no calls give": bytes that are no inventory are none; proved: proofs/OtherBytes.antt, `others-refused`
 abbrev pub OthersRefused : Type 0
 OthersRefused =
-    (b : List ℕ) → (length b ≢ 144) ⊎ (isCode (codeIn b) ≡ false)
+    (b : List ℕ) → (length b ≢ 144) ⊎ (isCode (codeNumberIn b) ≡ false)
     → ((c : Change) (k : ℕ) → changedBy (changeStep c) k b ≡ (10, b))
     × ((out : List ℕ) → countInto b out ≡ (10, out))
     × ((f : ℕ) (out : List ℕ) (r : ℕ) (out′ : List ℕ) → QueryInto b f out r out′ → (r ≡ 10) × (out′ ≡ out))

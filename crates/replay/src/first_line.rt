@@ -5,13 +5,14 @@ use codes::Code;
 use inventory::Inventory;
 use inventory::Outcome;
 use refusals::EVENT;
+use refusals::MAX_FILES;
 use refusals::OUT_OF_RANGE;
 use text::is_decimal;
 use text::value_of;
 use text::word_length;
 
-// The most numbers that an accepted first line has: the number of files, and 254 sizes.
-const MOST: usize = 255;
+// The most numbers that an accepted first line has: the number of files, and a size of each.
+const MOST: usize = MAX_FILES as usize + 1;
 
 // Whether a first line has its shape, and what opening by its numbers gives.
 pub struct LineOpening {

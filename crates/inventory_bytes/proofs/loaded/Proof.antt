@@ -4,7 +4,7 @@ use mathlib.Core.Path.{_≡_, sym, ap, _∙_}
 use mathlib.Core.Bool.{true}
 use borrow.Author.Tests.{not-true, not-false}
 use Rattle.codes.specs.Codes.{isCode}
-use Rattle.inventory_bytes.specs.Inventories.{codeIn}
+use Rattle.inventory_bytes.specs.Inventories.{codeNumberIn}
 use denote.Ref.{now}
 use Rattle.inventory_bytes.proofs.BackLaws.{inventory-of, other-length, other-number}
 use borrow.Author.Needs.{needs}
@@ -23,7 +23,7 @@ returns-3 : tie.Need-returns-3
 returns-3 c = let coded = c .before .before .before .before .before .before in
     let read = coded .before .before in
     let b = now (read .before .before .before .args .bytes) in
-    let one : isCode (codeIn b) ≡ true =
+    let one : isCode (codeNumberIn b) ≡ true =
     ap isCode (sym (read .read64 .ensures)) ∙ sym (coded .before .is-code .ensures) ∙ not-false _ (coded .if2 .left) in
     cc (inventory-of b (read .before .if1 .left) one)
 
