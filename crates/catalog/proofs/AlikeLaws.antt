@@ -6,22 +6,20 @@
 --   same-catalog     bytes that are those of a catalog but for the hashes are a catalog
 -- Assumes nothing.
 use mathlib.Core.Path.{_≡_, refl, sym, ap, ap₂, _∙_, subst}
-use mathlib.Core.Bool.{Bool, true, false, cond, not, _&&_, true≢false}
+use mathlib.Core.Bool.{Bool, true, false, cond, not, true≢false}
 use mathlib.Core.List.{List, [], _∷_, map, foldr}
 use Prim.Native.Nat.{ℕ, zero, suc, _+_, _-_, _*_, _≤_, _<_, max}
 use native.Mathlib.Decide.{decLt}
 use native.Mathlib.Omega.{arith}
-use lib.Dec.{ltb, eqb}
+use lib.Dec.{eqb}
 use lib.ListN.{length, take, drop}
 use lib.Seq.{take-take, drop-drop}
 use Rattle.cut_lists.specs.All.{All, all-none, all-more}
 use Rattle.little_endian.specs.Bytes.{leAt}
 use Rattle.lent_bytes.proofs.PartLaws.{number-take}
-use Rattle.entries.specs.Entry.{fileSizeAllowed}
-use Rattle.par1_rules.specs.Rules.{numberAllowed}
 use Rattle.catalog.specs.Rows.{numberOf, sizeOf}
 use Rattle.catalog.specs.Catalog.{entryCount, volumeCount, catalogLength, rowsIn, entryRows, volumeRows}
-use Rattle.catalog.specs.Catalog.{isSavedRow, savedRows, greatestSize, inTurn, entryRowsAllowed, volumeRowsAllowed}
+use Rattle.catalog.specs.Catalog.{isSavedRow, savedRows, greatestSize, entryRowsAllowed, volumeRowsAllowed}
 use Rattle.catalog.specs.Claim.{SameButHashes}
 use Rattle.catalog.specs.Runs.{Ascend, ascend-none, ascend-more}
 use Rattle.catalog.proofs.CatalogLaws.{Catalog}
@@ -41,9 +39,7 @@ size-alike r s e = sym (number-take 8 4 12 r (omega arith)) ∙ ap (λ (l : List
 alike-entries : {rs ss : List (List ℕ)} → Alike rs ss → (k : ℕ) → entryRowsAllowed k rs ≡ entryRowsAllowed k ss
 unfolding entryRowsAllowed
 alike-entries alike-none k = refl
-alike-entries (alike-more {r} {s} {rs} {ss} e a) k =
-    ap₂ (λ (n m : ℕ). inTurn k n && fileSizeAllowed m && entryRowsAllowed (cond (not (eqb n 0)) (k + 1) k) rs) (number-alike r s e) (size-alike r s e)
-    ∙ ap (λ (t : Bool). inTurn k (numberOf s) && fileSizeAllowed (sizeOf s) && t) (alike-entries a (cond (isSavedRow s) (k + 1) k))
+alike-entries (alike-more {r} {s} {rs} {ss} e a) k = simp (number-alike r s e, size-alike r s e, alike-entries a (cond (isSavedRow s) (k + 1) k))
 
 pub alike-length : {rs ss : List (List ℕ)} → Alike rs ss → length rs ≡ length ss
 alike-length alike-none = refl
@@ -73,9 +69,7 @@ alike-greatest a = sizes-alike (saved-alike a)
 alike-volumes : {rs ss : List (List ℕ)} → Alike rs ss → (n g v : ℕ) → volumeRowsAllowed n g v rs ≡ volumeRowsAllowed n g v ss
 unfolding volumeRowsAllowed
 alike-volumes alike-none n g v = refl
-alike-volumes (alike-more {r} {s} {rs} {ss} e a) n g v =
-    ap₂ (λ (k m : ℕ). ltb v k && numberAllowed k n && eqb m g && volumeRowsAllowed n g k rs) (number-alike r s e) (size-alike r s e)
-    ∙ ap (λ (t : Bool). ltb v (numberOf s) && numberAllowed (numberOf s) n && eqb (sizeOf s) g && t) (alike-volumes a n g (numberOf s))
+alike-volumes (alike-more {r} {s} {rs} {ss} e a) n g v = simp (number-alike r s e, size-alike r s e, alike-volumes a n g (numberOf s))
 
 above-alike : (x y : ℕ) {rs ss : List (List ℕ)} → x ≡ y → Alike rs ss → All (λ s. y < numberOf s) ss → All (λ r. x < numberOf r) rs
 above-alike x y e alike-none all-none = all-none
@@ -101,8 +95,7 @@ alike-rows : (n : ℕ) (s t : List ℕ) → Alike (rowsIn n s) (rowsIn n t) → 
 unfolding rowsIn
 alike-rows zero s t a i h = absurd (omega arith)
 alike-rows (suc n) s t (alike-more e a) zero h = sym (take-take 12 28 s (omega arith)) ∙ e ∙ take-take 12 28 t (omega arith)
-alike-rows (suc n) s t (alike-more e a) (suc i) h =
-    sym (ap (take 12) (next-row s i)) ∙ alike-rows n (drop 28 s) (drop 28 t) a i (omega arith) ∙ ap (take 12) (next-row t i)
+alike-rows (suc n) s t (alike-more e a) (suc i) h = cc (next-row s i, alike-rows n (drop 28 s) (drop 28 t) a i (omega arith), next-row t i)
 
 -- ---- a catalog
 
@@ -152,8 +145,7 @@ module _ (c b : List ℕ) where
     where
       by : Alike (rowsIn (entryCount b) (drop 16 c)) (entryRows b) → Alike (rowsIn (volumeCount b) (drop (16 + 28 * entryCount b) c)) (volumeRows b)
           → (i : ℕ) → i < entryCount b + volumeCount b → Dec (i < entryCount b) → take 12 (drop (16 + 28 * i) c) ≡ take 12 (drop (16 + 28 * i) b)
-      by x y i h (yes l) =
-          sym (ap (take 12) (drop-drop (28 * i) 16 c)) ∙ alike-rows (entryCount b) (drop 16 c) (drop 16 b) x i l ∙ ap (take 12) (drop-drop (28 * i) 16 b)
+      by x y i h (yes l) = cc (drop-drop (28 * i) 16 c, alike-rows (entryCount b) (drop 16 c) (drop 16 b) x i l, drop-drop (28 * i) 16 b)
       by x y i h (no l) = let at : ℕ = 16 + 28 * entryCount b in
           let j : ℕ = i - entryCount b in
           let sum : entryCount b + j ≡ i = omega (arith, l) in

@@ -84,13 +84,10 @@ module _ (b : List ℕ) where
         let e₁₁ : t₁₁ ≡ test 11 (not (holds (volumeNumberOf vol) (volumeRows b))) 0 = eleven ∙ ap (λ (q : Place). test 11 (not (q .present)) 0) at in
         let e₂₆ : t₂₆ ≡ test 26 (leb (length (entriesIn vol)) maxEntries) _ =
         twenty-six ∙ ap₂ (λ (a m : ℕ). test 26 (leb a 1024) m) (told .entries-are) e₁₁ in
-        let e-rows : rows ≡ flatten (entryRows b) =
-        rows-are ∙ ap (λ (q : Counts). take (28 * q .entries) (drop 16 b)) counts ∙ sym (flatten-rows (entryCount b) (drop 16 b)) in
-        let e-same : g ≡ equal (flatten (rowsFor (entriesIn vol))) (flatten (entryRows b)) =
-        same ∙ ap₂ (λ (a c : List ℕ). equal (flatten (rowsFor (entriesOf a .pieces))) c) (list-is ∙ told .list-is) e-rows in
+        let e-rows : rows ≡ flatten (entryRows b) = simp (rows-are, counts, flatten-rows) in
+        let e-same : g ≡ equal (flatten (rowsFor (entriesIn vol))) (flatten (entryRows b)) = cc in
         let e₂₅ = twenty-five ∙ ap₂ (λ (a : Bool) (m : ℕ). test 25 a m) e-same e₂₆ in
-        let e₁₀ : r ≡ volumeInRange (volumeNumberOf vol) b =
-        range ∙ ap₂ (λ (q : Counts) (v : ℕ). oneTo (255 - q .saved) v) counts (told .number-is) in
+        let e₁₀ : r ≡ volumeInRange (volumeNumberOf vol) b = cc in
         let number : n ≡ addNumber b vol = ten ∙ ap₂ (λ (a : Bool) (m : ℕ). test 10 a m) e₁₀ e₂₅ ∙ simp yes in
         plan ∙ ap₂ planBy number at
 
@@ -185,12 +182,10 @@ module _ (b : List ℕ) (v : ℕ) where
       let c = d .catalog-is in
       let less = held-within b c v (d .held) in
       let down′ : t ≡ closed (placeIn b v .at) (placeIn b v .to) b = down ∙ ap (λ (q : Place). closed (q .at) (q .to) b) (d .place-is) in
-      let put′ : u ≡ sets t 0 (catalogHead (entryCount b) (volumeCount b - 1)) =
-      put ∙ ap (λ (q : Place). sets t 0 (catalogHead (q .entries) (q .volumes - 1))) (d .place-is) in
+      let put′ : u ≡ sets t 0 (catalogHead (entryCount b) (volumeCount b - 1)) = simp (put, d .place-is) in
       let made = removed-over b c v (d .held) less down′ put′ in
       let over : length (droppedBytes b v) ≤ length b = omega (arith, c .within, length-dropped b c v (d .held) less) in
-      ap (λ (q : Place). (writing.Written (q .to - 28), u)) (d .place-is) ∙ made
-      ∙ sym (unless-accepted (bare (dropNumber b v)) (droppedBytes b v) b (d .number-none) over)
+      simp (d .place-is, made, unless-accepted (bare (dropNumber b v)) (droppedBytes b v) b (d .number-none) over)
 
   pub drop-refuses : {n : ℕ} {r : Refusal} → planDrop b v ≡ Refused n → r ≡ bare n → (writing.Refused r, b) ≡ dropOf b v
   unfolding planDrop dropOf
@@ -248,10 +243,8 @@ module _ (b vol : List ℕ) {parts : Parts} (read : readOf vol ≡ reading.Accep
       let i = told vol read in
       let n : numberOf (volumeRow vol) ≡ volumeNumberOf vol = volume-row-number vol i in
       let up′ : t ≡ spread (16 + 28 * (entryCount b + placeOf (numberOf (volumeRow vol)) (volumeRows b))) (catalogLength b) (volumeRow vol) b =
-      up ∙ ap (λ (l : List ℕ). spread (p .at) (p .to) l b) is ∙ ap (λ (q : Place). spread (q .at) (q .to) (volumeRow vol) b) (d .place-is)
-      ∙ ap (λ (k : ℕ). spread (16 + 28 * (entryCount b + placeOf k (volumeRows b))) (catalogLength b) (volumeRow vol) b) (sym n) in
-      let put′ : u ≡ sets t 0 (catalogHead (entryCount b) (volumeCount b + 1)) =
-      put ∙ ap (λ (q : Place). sets t 0 (catalogHead (q .entries) (q .volumes + 1))) (d .place-is) in
+      cc in
+      let put′ : u ≡ sets t 0 (catalogHead (entryCount b) (volumeCount b + 1)) = cc in
       let made = inserted-over b c (volumeRow vol) (length-volume-row vol i) (omega (arith, d .to-is)) up′ put′ in
       ap (λ (q : Place). (writing.Written (q .to + 28), u)) (d .place-is) ∙ made
       ∙ sym (unless-accepted (addRefusal b vol (readOf vol)) (addedBytes b vol) b (add-none (d .number-none)) (omega (arith, added-length c, d .to-is)))
@@ -311,9 +304,7 @@ module _ (f out : List ℕ) where
         let hd : List ℕ = catalogHead (parts .entries) 0 in
         let size : length hd ≡ 16 = length-head (parts .entries) 0 in
         let at : 0 + length hd ≡ 16 = omega arith in
-        let over : u ≡ sets out 0 (hd ++ flatten es) =
-        rows ∙ ap₂ (λ (l : List ℕ) (q : List ℕ). sets l 16 (flatten (rowsFor (entriesOf q .pieces)))) head (list-is ∙ told f read .list-is)
-        ∙ sym (sets-append out 0 hd (flatten es) ∙ ap (λ (k : ℕ). sets (sets out 0 hd) k (flatten es)) at) in
+        let over : u ≡ sets out 0 (hd ++ flatten es) = simp (rows, head, list-is, told f read .list-is, sets-append, at) in
         let whole : opened ≡ hd ++ flatten es =
         ap₂ (λ (k : ℕ) (l : List ℕ). catalogHead k 0 ++ l) n (append-nil (flatten es)) in
         let sized : length opened ≡ 16 + 28 * parts .entries = omega (arith, length-opened, entries-are) in

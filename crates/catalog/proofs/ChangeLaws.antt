@@ -103,8 +103,7 @@ module _ (b : List ℕ) (c : Catalog b) where
   back : (p : ℕ) → p ≤ m → take (28 * (m - p)) (drop (16 + 28 * (n + p)) b) ≡ flatten (drop p (volumeRows b))
   back p h = let vs : List ℕ = drop (16 + 28 * n) b in
       let e : 16 + 28 * n + 28 * p ≡ 16 + 28 * (n + p) = omega arith in
-      sym (ap flatten (drop-rows p m vs) ∙ flatten-rows (m - p) (drop (28 * p) vs)
-      ∙ ap (take (28 * (m - p))) (drop-drop (28 * p) (16 + 28 * n) b ∙ ap (λ (k : ℕ). drop k b) e))
+      simp (drop-rows, flatten-rows, drop-drop, e)
 
   -- the head put over what stands there
   headed : (at v : ℕ) (rest : List ℕ) {t u : List ℕ} → 16 ≤ at → at ≤ length b → t ≡ take at b ++ rest → u ≡ sets t 0 (catalogHead n v)
@@ -112,8 +111,7 @@ module _ (b : List ℕ) (c : Catalog b) where
   headed at v rest {t} {u} low fits e put = let h : List ℕ = catalogHead n v in
       let size : length h ≡ 16 = length-head n v in
       let a : length (take at b) ≡ at = length-take-le at b fits in
-      let after : drop (length h) t ≡ drop 16 (take at b) ++ rest =
-      ap₂ (λ (k : ℕ) (l : List ℕ). drop k l) size e ∙ drop-append-le 16 (take at b) rest (omega arith) in
+      let after : drop (length h) t ≡ drop 16 (take at b) ++ rest = simp (size, e, drop-append-le 16 (take at b) rest (omega arith)) in
       put ∙ sets-over t h (omega (arith, ap length e, length-append (take at b) rest)) ∙ ap (λ (l : List ℕ). h ++ l) after
 
   abbrev Place : ℕ → ℕ
@@ -133,14 +131,11 @@ module _ (b : List ℕ) (c : Catalog b) where
   rows-over p v k z vs {t} {u} h e put count rows size = let head : List ℕ = catalogHead n v in
       let es : List ℕ = flatten (entryRows b) in
       let x : List ℕ = flatten (take p (volumeRows b)) in
-      let whole-is : catalogBytes (entryRows b) vs ≡ head ++ (es ++ (x ++ z)) =
-      ap₂ (λ (a j : ℕ). catalogHead a j ++ (es ++ flatten vs)) length-entries count ∙ ap (λ (l : List ℕ). head ++ (es ++ l)) rows in
+      let whole-is : catalogBytes (entryRows b) vs ≡ head ++ (es ++ (x ++ z)) = simp (length-entries, count, rows) in
       let u-is : u ≡ head ++ ((es ++ x) ++ (z ++ drop k b)) =
-      headed (16 + 28 * (n + p)) v (z ++ drop k b) (omega arith) (omega (arith, c .within)) e put
-      ∙ ap (λ (a : List ℕ). head ++ (a ++ (z ++ drop k b))) (front p h) in
+      simp (headed (16 + 28 * (n + p)) v (z ++ drop k b) (omega arith) (omega (arith, c .within)) e put, front) in
       let joined : head ++ ((es ++ x) ++ (z ++ drop k b)) ≡ (head ++ (es ++ (x ++ z))) ++ drop k b = simp append-assoc in
-      ap₂ (λ (j : ℕ) (l : List ℕ). (Written j, l)) (sym size)
-      (u-is ∙ joined ∙ ap₂ (λ (a : List ℕ) (j : ℕ). a ++ drop j b) (sym whole-is) (sym size))
+      cc
 
   -- ---- added
 
@@ -190,8 +185,7 @@ module _ (b : List ℕ) (c : Catalog b) where
       let to : ℕ = catalogLength b in
       let k : to - (at + 28) ≡ 28 * (m - (p + 1)) = omega arith in
       let a′ : at + 28 ≡ 16 + 28 * (n + (p + 1)) = omega arith in
-      let moved : take (to - (at + 28)) (drop (at + 28) b) ≡ flatten (drop (p + 1) vs) =
-      ap₂ (λ (i j : ℕ). take i (drop j b)) k a′ ∙ back (p + 1) (omega arith) in
+      let moved : take (to - (at + 28)) (drop (at + 28) b) ≡ flatten (drop (p + 1) vs) = cc (back (p + 1) (omega arith)) in
       let regrouped = ap (λ (l : List ℕ). take at b ++ (l ++ drop (to - 28) b)) moved in
       rows-over p (m - 1) (to - 28) (flatten (drop (p + 1) vs)) (removeRow v vs) (omega arith) (down ∙ regrouped) put
       (omega (arith, length-removed v held less))
@@ -201,9 +195,7 @@ module _ (b : List ℕ) (c : Catalog b) where
 
   pub present-is : (v : ℕ) {at to : ℕ} → at ≡ 16 + 28 * (n + Place v) → to ≡ catalogLength b
       → (ltb at to && eqb (leAt 4 b at) v) ≡ holds v (volumeRows b)
-  present-is v {at} {to} at-is to-is =
-      sym (holds-place _ _ 0 (volumeRows b) v (c .volumes-right) ∙ ap (λ (k : ℕ). ltb (Place v) k && eqb (numberOf (getD (volumeRows b) (Place v) [])) v) count
-      ∙ by (ltb (Place v) m) refl)
+  present-is v {at} {to} at-is to-is = simp (holds-place _ _ 0 (volumeRows b) v (c .volumes-right), count, by (ltb (Place v) m) refl)
     where
       count : length (volumeRows b) ≡ m
       count = length-rows m (drop (16 + 28 * n) b)
@@ -211,10 +203,7 @@ module _ (b : List ℕ) (c : Catalog b) where
       by : (t : Bool) → t ≡ ltb (Place v) m → (t && eqb (numberOf (getD (volumeRows b) (Place v) [])) v) ≡ (ltb at to && eqb (leAt 4 b at) v)
       by true e = let less = ltb-true (Place v) m (sym e) in
           let sum : 16 + 28 * n + 28 * Place v ≡ at = omega arith in
-          let there : getD (volumeRows b) (Place v) [] ≡ take 28 (drop at b) =
-          row-at (Place v) m (drop (16 + 28 * n) b) less
-          ∙ ap (take 28) (drop-drop (28 * Place v) (16 + 28 * n) b ∙ ap (λ (k : ℕ). drop k b) sum) in
-          ap (λ (r : List ℕ). eqb (numberOf r) v) there ∙ ap (λ (k : ℕ). eqb k v) (sym (number-at b at))
-          ∙ ap (λ (t : Bool). t && eqb (leAt 4 b at) v) (sym (lt-ltb at to (omega arith)))
+          let there : getD (volumeRows b) (Place v) [] ≡ take 28 (drop at b) = simp (row-at, drop-drop, sum) in
+          simp (there, number-at b at, lt-ltb at to (omega arith))
       by false e = let past = ltb-false (Place v) m (sym e) in
           ap (λ (t : Bool). t && eqb (leAt 4 b at) v) (sym (le-ltb at to (omega arith)))

@@ -87,10 +87,7 @@ module _ (k g : ℕ) where
         → enteredFrom k′ g′ (rowsIn (left - 1) (drop (at + 28) s)) ≡ enteredFrom k g (rowsIn left (drop at s))
     entered-more {k′} {g′} h f e = let rest : List (List ℕ) = rowsIn (left - 1) (drop (at + 28) s) in
         let right = ap₂ (λ (a b : ℕ). inTurn k a && fileSizeAllowed b) first-number first-size ∙ h in
-        sym (ap (enteredFrom k g) (rows-more s at left some)
-        ∙ more-by (eqb number 0) (take 28 (drop at s)) rest (ap (λ (n : ℕ). eqb n 0) first-number) right
-        ∙ ap₂ (λ (a b : ℕ). enteredFrom a b rest) (sym f)
-        (ap (λ (m : ℕ). cond (eqb number 0) g (max g m)) first-size ∙ sym e))
+        simp (rows-more, more-by (eqb number 0) (take 28 (drop at s)) rest (ap (λ (n : ℕ). eqb n 0) first-number) right, f, first-size, e)
 
 pub saved-most : (b : Bool) (k : ℕ) → cond b k (k + 1) ≤ k + 1
 saved-most true k = omega arith
@@ -104,10 +101,7 @@ pub volumes-more : (n g v : ℕ) (s : List ℕ) (at left : ℕ) {number size : �
 unfolding volumeRowsAllowed
 volumes-more n g v s at left {number} {size} {b} some number-is size-is test-is =
     let rest : List (List ℕ) = rowsIn (left - 1) (drop (at + 28) s) in
-    ap (volumeRowsAllowed n g v) (rows-more s at left some)
-    ∙ ap₂ (λ (k m : ℕ). (ltb v k && numberAllowed k n && eqb m g) && volumeRowsAllowed n g k rest)
-    (sym (number-is ∙ number-at s at)) (sym (size-is ∙ size-at s at))
-    ∙ ap (λ (t : Bool). t && volumeRowsAllowed n g number rest) (sym test-is)
+    simp (rows-more s at left some, number-is, number-at s at, size-is, size-at s at, test-is)
 
 -- ---- the place of a volume
 

@@ -22,7 +22,7 @@ use Rattle.lent_bytes.specs.declared.Writing.the-variants.{Written}
 use Rattle.lent_bytes.proofs.PartLaws.{split-number}
 use Rattle.par1_read.specs.Reading.{entriesIn}
 use Rattle.catalog.specs.Rows.{numberOf, rowsFor, catalogHead, catalogBytes}
-use Rattle.catalog.specs.Catalog.{entryCount, volumeCount, entryRows, volumeRows, rowsIn, entryRowsAllowed, volumeRowsAllowed, isCatalog, insertRow}
+use Rattle.catalog.specs.Catalog.{entryCount, volumeCount, entryRows, volumeRows, rowsIn, entryRowsAllowed, volumeRowsAllowed, isCatalog}
 use Rattle.catalog.specs.Calls.{openOf, addOf}
 use Rattle.catalog.specs.Runs.{Call, opening, adding, answers, roomAfter, Held, newlyOpened, heldAfter, heldLength, Ascend, ascend-none, ascend-more}
 use Rattle.catalog.specs.Claim.{IsWritten, is-written, SameButHashes, Given, Exactly30}
@@ -89,8 +89,7 @@ ascend-distinct (ascend-more {r} h d) = distinct-more (all-map (λ x l (z : numb
 
 sort-ascending : {rs : List (List ℕ)} → Ascend rs → sortRows rs ≡ rs
 sort-ascending ascend-none = refl
-sort-ascending (ascend-more {r} {rs} h d) =
-    ap (λ (l : List (List ℕ)). insertRow r l) (sort-ascending d) ∙ insert-front r (all-map (λ x l. omega arith) h)
+sort-ascending (ascend-more {r} {rs} h d) = simp (sort-ascending d, insert-front r (all-map (λ x l. omega arith) h))
 
 all-images : {P : List ℕ → Type 0} (g : List ℕ → List ℕ) {xs : List (List ℕ)} → All (λ x. P (g x)) xs → All P (map g xs)
 all-images g all-none = all-none
@@ -106,8 +105,7 @@ catalog-head b bytes c = let e : ℕ = entryCount b in
     ∙ ap (λ (l : List ℕ). toLe 4 e ++ l) (split-number 4 4 b bytes (omega (arith, c .within))
     ∙ ap (λ (l : List ℕ). toLe 4 v ++ l) (split-number 4 8 b bytes (omega (arith, c .within))
     ∙ ap (λ (l : List ℕ). toLe 4 (leAt 4 b 8) ++ l) (split-number 4 12 b bytes (omega (arith, c .within))))) in
-    let numbers : b ≡ toLe 4 e ++ (toLe 4 v ++ (toLe 4 16 ++ (toLe 4 (16 + 28 * e) ++ drop 16 b))) =
-    split ∙ ap₂ (λ (x y : ℕ). toLe 4 e ++ (toLe 4 v ++ (toLe 4 x ++ (toLe 4 y ++ drop 16 b)))) (c .starts) (c .volumes-start) in
+    let numbers : b ≡ toLe 4 e ++ (toLe 4 v ++ (toLe 4 16 ++ (toLe 4 (16 + 28 * e) ++ drop 16 b))) = cc in
     let joined : b ≡ catalogHead e v ++ drop 16 b = numbers ∙ simp append-assoc in
     ap (take 16) joined ∙ take-at (catalogHead e v) (drop 16 b) 16 (length-head e v)
 

@@ -97,9 +97,7 @@ module _ (b : List ℕ) (c : Catalog b) (ws : List (List ℕ)) (sized : All Size
 
     rows-same : take (28 * entryCount b) (drop 16 (catalogBytes es ws ++ t)) ≡ take (28 * entryCount b) (drop 16 b)
     rows-same =
-        ap (take (28 * entryCount b)) (after-head es ws t)
-        ∙ take-at (flatten es) (flatten ws ++ t) (28 * entryCount b) (omega (arith, length-flatten es-sized, count))
-        ∙ flatten-rows (entryCount b) (drop 16 b)
+        rw (after-head, take-at (flatten es) (flatten ws ++ t) (28 * entryCount b) (omega (arith, length-flatten es-sized, count)), flatten-rows)
 
   changed : {m : Refusal} {n : ℕ} {room : List ℕ} → Accepted m (catalogBytes es ws) b n room → Changed b room n ws
   changed {m} {n} {room} w = let s : List ℕ = catalogBytes es ws in

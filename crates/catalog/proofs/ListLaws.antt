@@ -6,7 +6,7 @@
 --   compare-next, compare-within, compare-end     a row compared, and the others
 --   length-rows-after, rows-sized-for     as many rows as entries, of 28 bytes each
 -- Assumes nothing.
-use mathlib.Core.Path.{_≡_, refl, sym, ap, ap₂, _∙_}
+use mathlib.Core.Path.{_≡_, refl, sym, ap, _∙_}
 use mathlib.Core.Bool.{Bool, true, false, _&&_}
 use mathlib.Core.List.{List, [], _∷_, _++_, flatten}
 use Prim.Native.Nat.{ℕ, suc, _+_, _≤_}
@@ -20,7 +20,7 @@ use Rattle.little_endian.proofs.Stores.{sets-append}
 use Rattle.lent_bytes.specs.Equal.{equal}
 use Rattle.lent_bytes.proofs.EqualLaws.{equal-true}
 use Rattle.cut_lists.proofs.CutLaws.{cut-all}
-use Rattle.entries.specs.Entry.{statusOf, fileSizeOf, md5Of, savedCount, lengthOf}
+use Rattle.entries.specs.Entry.{statusOf, md5Of, savedCount, lengthOf}
 use Rattle.entries.specs.Walk.{entriesOf}
 use Rattle.entries.proofs.EntryLaws.{EntryAt, length-sized}
 use Rattle.entries.proofs.WalkLaws.{entries-more}
@@ -46,10 +46,7 @@ module _ (k : ℕ) (s : List ℕ) (from : ℕ) {n status size : ℕ} (i : EntryA
   rows-next {number} {hash} number-is hash-is = let e : List ℕ = take n (drop from s) in
       let j = i .entry in
       let h : hash ≡ md5Of e = hash-is ∙ hash-part s from n (omega (arith, i .low)) in
-      ap (λ c. rowsAfter k (c .pieces)) (entries-more j)
-      ∙ ap (λ (st : ℕ). row (fileNumberAfter k st) (fileSizeOf e) (md5Of e) ∷ rowsAfter (k + savedCount st) (entriesOf (drop n (drop from s)) .pieces)) (sym (j .status-is))
-      ∙ ap₂ (λ (m : ℕ) (q : List ℕ). row (fileNumberAfter k status) m (md5Of e) ∷ rowsAfter (k + savedCount status) (entriesOf q .pieces)) (sym (j .size-is)) (i .next)
-      ∙ ap₂ (λ (x : ℕ) (y : List ℕ). row x size y ∷ restRows (k + savedCount status) s (from + n)) (sym number-is) (sym h)
+      simp (entries-more j, j .status-is, j .size-is, i .next, number-is, h)
 
   pub entries-next : length (entriesOf (drop from s) .pieces) ≡ suc (length (entriesOf (drop (from + n) s) .pieces))
   entries-next = ap (λ c. length (c .pieces)) (entries-more (i .entry)) ∙ ap (λ (q : List ℕ). suc (length (entriesOf q .pieces))) (i .next)
@@ -63,9 +60,7 @@ module _ (k : ℕ) (s : List ℕ) (from : ℕ) {n status size : ℕ} (i : EntryA
 pub store-next : {rs : List (List ℕ)} (out r : List ℕ) (at : ℕ) (more : List (List ℕ)) {t : List ℕ} → length r ≡ 28 → rs ≡ r ∷ more
     → t ≡ sets out at r → sets t (at + 28) (flatten more) ≡ sets out at (flatten rs)
 unfolding flatten
-store-next out r at more {t} n e put =
-    ap₂ (λ (l : List ℕ) (k : ℕ). sets l (at + k) (flatten more)) put (sym n) ∙ sym (sets-append out at r (flatten more))
-    ∙ ap (λ (l : List (List ℕ)). sets out at (flatten l)) (sym e)
+store-next out r at more {t} n e put = simp (put, n, sets-append, e)
 
 -- ---- compared one after another
 
@@ -84,10 +79,7 @@ module _ {rs : List (List ℕ)} (r : List ℕ) (more : List (List ℕ)) (t : Lis
     (e : rs ≡ r ∷ more) (p : part ≡ take 28 (drop at t)) (same : b ≡ equal r part) where
   pub compare-next : equal (flatten rs) (drop at t) ≡ (b && equal (flatten more) (drop (at + 28) t))
   unfolding flatten
-  compare-next =
-      ap (λ (l : List (List ℕ)). equal (flatten l) (drop at t)) e ∙ equal-append r (flatten more) (drop at t)
-      ∙ ap (λ (k : ℕ). equal r (take k (drop at t)) && equal (flatten more) (drop k (drop at t))) n
-      ∙ ap₂ (λ (c : Bool) (q : List ℕ). c && equal (flatten more) q) (ap (equal r) (sym p) ∙ sym same) (drop-drop 28 at t)
+  compare-next = simp (e, equal-append, n, p, same, drop-drop)
 
   -- so there was a whole row
   pub compare-within : b ≡ true → at + 28 ≤ length t

@@ -55,9 +55,7 @@ abbrev pub Plain : List ℕ → Type 0
 Plain r = take 12 r ≡ toLe 4 (numberOf r) ++ toLe 8 (sizeOf r)
 
 plain-row : (r : List ℕ) → Bytes r → 12 ≤ length r → Plain r
-plain-row r b h =
-    take-add 4 8 r
-    ∙ ap₂ (λ (x y : List ℕ). x ++ y) (sym (to-leAt 4 r 0 b (omega arith))) (sym (to-leAt 8 r 4 b (omega arith)))
+plain-row r b h = simp (take-add 4 8 r, to-leAt 4 r 0 b (omega arith), to-leAt 8 r 4 b (omega arith))
 
 pub plain-rows : (n : ℕ) (s : List ℕ) → Bytes s → 28 * n ≤ length s → All Plain (rowsIn n s)
 unfolding rowsIn
@@ -149,8 +147,7 @@ entries-made all-none = cut-none lengthOf
 entries-made (all-more {x} {xs} m ms) = m .entries-are (madeList xs) ∙ ap (before (madeEntry x)) (entries-made ms)
 
 saved-made : {rs : List (List ℕ)} → All Made rs → savedOf (madeEntries rs) ≡ madeEntries (savedRows rs)
-saved-made {rs} ms =
-    keep-map (λ e. isSaved (statusOf e)) (λ r. madeEntry r) rs ∙ ap madeEntries (keep-same (all-map (λ r m. m .saved-is) ms))
+saved-made {rs} ms = simp (keep-map (λ e. isSaved (statusOf e)) (λ r. madeEntry r) rs, keep-same (all-map (λ r m. m .saved-is) ms))
 
 sizes-made : {rs : List (List ℕ)} → All Made rs → foldr max 0 (map (λ e. fileSizeOf e) (madeEntries rs)) ≡ foldr max 0 (map (λ r. sizeOf r) rs)
 sizes-made all-none = refl
@@ -158,8 +155,7 @@ sizes-made (all-more m ms) = ap₂ max (m .size-is) (sizes-made ms)
 
 greatest-made : {rs : List (List ℕ)} → All Made rs → greatestOf (madeEntries rs) ≡ greatestSize rs
 unfolding isCounted
-greatest-made {rs} ms =
-    ap (λ (es : List (List ℕ)). foldr max 0 (map (λ e. fileSizeOf e) es)) (saved-made ms) ∙ sizes-made (all-keep (λ r. isSavedRow r) ms)
+greatest-made {rs} ms = simp (saved-made, sizes-made (all-keep (λ r. isSavedRow r) ms))
 
 -- ---- rows that may stand in a catalog
 
@@ -203,10 +199,8 @@ pub rows-made : (k : ℕ) {rs : List (List ℕ)} → All Made rs → All Plain r
 unfolding rowsAfter
 rows-made k all-none all-none e = alike-none
 rows-made k (all-more {x = r} {xs = rs} m ms) (all-more p ps) e = let f = first-entry k r rs e in
-    let number : fileNumberAfter k (statusOf (madeEntry r)) ≡ numberOf r =
-    ap (λ (t : Bool). cond t (k + 1) 0) (m .saved-is) ∙ turn-number k (numberOf r) (f .turn) in
-    let next : k + savedCount (statusOf (madeEntry r)) ≡ cond (isSavedRow r) (k + 1) k =
-    ap (λ (t : Bool). k + cond t 1 0) (m .saved-is) ∙ one-more (isSavedRow r) k in
+    let number : fileNumberAfter k (statusOf (madeEntry r)) ≡ numberOf r = simp (m .saved-is, turn-number k (numberOf r) (f .turn)) in
+    let next : k + savedCount (statusOf (madeEntry r)) ≡ cond (isSavedRow r) (k + 1) k = simp (m .saved-is, one-more) in
     alike-more (made-alike _ _ (md5Of (madeEntry r)) r p number (m .size-is))
     (rows-made (k + savedCount (statusOf (madeEntry r))) ms ps (ap (λ (j : ℕ). entryRowsAllowed j rs) next ∙ f .others))
 

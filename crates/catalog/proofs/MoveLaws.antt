@@ -4,7 +4,7 @@
 --   up-more, up-spread         bytes moved up from the last to the first, and the row between
 --   down-more, down-closed     bytes moved down from the first to the last
 -- Assumes nothing.
-use mathlib.Core.Path.{_≡_, refl, sym, ap, ap₂, _∙_}
+use mathlib.Core.Path.{_≡_, refl, ap, _∙_}
 use mathlib.Core.List.{List, [], _∷_, _++_, append-assoc}
 use Prim.Native.Nat.{ℕ, suc, _+_, _-_, _≤_, _<_}
 use native.Mathlib.Omega.{arith}
@@ -18,9 +18,7 @@ use Rattle.catalog.specs.Plan.{spread, closed}
 
 set-below : (s v : List ℕ) (m k a : ℕ) → k < m → set (sets s m v) k a ≡ sets (set s k a) m v
 set-below s [] m k a h = refl
-set-below s (b ∷ v) m k a h =
-    set-below (set s m b) v (suc m) k a (omega arith)
-    ∙ ap (λ (t : List ℕ). sets t (suc m) v) (set-comm s m k b a (λ e. omega arith))
+set-below s (b ∷ v) m k a h = simp (set-below (set s m b) v (suc m) k a (omega arith), set-comm s m k b a (λ e. omega arith))
 
 getD-below : (s v : List ℕ) (m j : ℕ) → j < m → getD (sets s m v) j 0 ≡ getD s j 0
 getD-below s [] m j h = refl
@@ -40,12 +38,8 @@ module _ (s : List ℕ) (to : ℕ) where
       let k : to - j ≡ suc (to - (j + 1)) = omega arith in
       let same : getD t j 0 ≡ getD s j 0 = ap (λ (l : List ℕ). getD l j 0) e ∙ getD-below s v (j + 1 + 28) j (omega arith) in
       let up : j + 1 + 28 ≡ suc (j + 28) = omega arith in
-      let front : take (to - j) (drop j s) ≡ getD s j 0 ∷ v =
-      ap₂ (λ (n : ℕ) (l : List ℕ). take n l) k (drop-cons s j 0 (omega arith))
-      ∙ ap (λ (n : ℕ). getD s j 0 ∷ take (to - (j + 1)) (drop n s)) (sym (add-one j)) in
-      ap₂ (λ (l : List ℕ) (x : ℕ). set l (j + 28) x) (e ∙ ap (λ (n : ℕ). sets s n v) up) same
-      ∙ set-below s v (suc (j + 28)) (j + 28) (getD s j 0) (omega arith)
-      ∙ ap (sets s (j + 28)) (sym front)
+      let front : take (to - j) (drop j s) ≡ getD s j 0 ∷ v = simp (k, drop-cons s j 0 (omega arith), add-one) in
+      cc (set-below s v (suc (j + 28)) (j + 28) (getD s j 0) (omega arith))
 
   -- and the row between
   pub up-spread : (at : ℕ) (row : List ℕ) {t u : List ℕ} → at ≤ to → to + 28 ≤ length s → length row ≡ 28
@@ -55,16 +49,12 @@ module _ (s : List ℕ) (to : ℕ) where
       let front : List ℕ = take (at + 28) s in
       let end : at + 28 + length v ≡ to + 28 = omega arith in
       let sized : length front ≡ at + 28 = length-take-le (at + 28) s (omega arith) in
-      let t-is : t ≡ front ++ (v ++ drop (to + 28) s) =
-      up ∙ sets-eq v s (at + 28) (omega arith) ∙ append-assoc front v (drop (at + 28 + length v) s)
-      ∙ ap (λ (k : ℕ). front ++ (v ++ drop k s)) end in
+      let t-is : t ≡ front ++ (v ++ drop (to + 28) s) = simp (up, sets-eq v s (at + 28) (omega arith), append-assoc, end) in
       let t-size : length t ≡ length s = ap length up ∙ length-sets s (at + 28) v in
       let before : take at t ≡ take at s =
       ap (take at) t-is ∙ take-append-le at front (v ++ drop (to + 28) s) (omega arith) ∙ take-take at (at + 28) s (omega arith) in
-      let after : drop (at + length row) t ≡ v ++ drop (to + 28) s =
-      ap₂ (λ (k : ℕ) (l : List ℕ). drop k l) (ap (λ (k : ℕ). at + k) size) t-is ∙ drop-at front (v ++ drop (to + 28) s) (at + 28) sized in
-      put ∙ sets-eq row t at (omega arith) ∙ append-assoc (take at t) row (drop (at + length row) t)
-      ∙ ap₂ (λ (x y : List ℕ). x ++ (row ++ y)) before after
+      let after : drop (at + length row) t ≡ v ++ drop (to + 28) s = simp (size, t-is, drop-at) in
+      simp (put, sets-eq row t at (omega arith), append-assoc, before, after)
 
 -- ---- down
 
@@ -77,11 +67,8 @@ module _ (s : List ℕ) (at : ℕ) where
       let place : i ≡ at + k = omega arith in
       let there : i + 28 ≡ at + 28 + k = omega arith in
       let next : k + 1 ≡ i + 1 - at = omega arith in
-      let same : getD t (i + 28) 0 ≡ getD b k 0 =
-      ap (λ (l : List ℕ). getD l (i + 28) 0) e ∙ getD-past s (take k b) at (i + 28) (omega arith) ∙ ap (λ (n : ℕ). getD s n 0) there
-      ∙ sym (getD-drop (at + 28) s k 0) in
-      ap₂ (λ (n x : ℕ). set t n x) place same ∙ sets-more s b at k (omega (arith, length-drop (at + 28) s)) e
-      ∙ ap (λ (n : ℕ). sets s at (take n b)) next
+      let same : getD t (i + 28) 0 ≡ getD b k 0 = cc (getD-past s (take k b) at (i + 28) (omega arith), getD-drop (at + 28) s k 0) in
+      cc (sets-more s b at k (omega (arith, length-drop (at + 28) s)) e)
 
   pub down-closed : (to : ℕ) {t : List ℕ} → at + 28 ≤ to → to ≤ length s → t ≡ sets s at (take (to - 28 - at) (drop (at + 28) s))
       → t ≡ closed at to s
@@ -89,5 +76,4 @@ module _ (s : List ℕ) (at : ℕ) where
       let v : List ℕ = take (to - (at + 28)) (drop (at + 28) s) in
       let n : length v ≡ to - (at + 28) = length-take-le (to - (at + 28)) (drop (at + 28) s) (omega (arith, length-drop (at + 28) s)) in
       let end : at + length v ≡ to - 28 = omega arith in
-      e ∙ ap (λ (k : ℕ). sets s at (take k (drop (at + 28) s))) same ∙ sets-eq v s at (omega arith)
-      ∙ append-assoc (take at s) v (drop (at + length v) s) ∙ ap (λ (k : ℕ). take at s ++ (v ++ drop k s)) end
+      simp (e, same, sets-eq v s at (omega arith), append-assoc, end)

@@ -95,8 +95,7 @@ module _ (n g : ℕ) where
           simp (ne-eqb _ _ other)
           (h ∙ ap (λ (t : Bool). t && eqb (numberOf (getD rs (placeOf v rs) [])) v) (sym (leb·suc-suc (suc (placeOf v rs)) (length rs))))
       by false z h g =
-          or-false (eqb (numberOf r) v) (holds v rs) (g (ltb-false (numberOf r) v (sym z)))
-          ∙ ap (λ (t : Bool). t && eqb (numberOf r) v) (sym (lt-ltb 0 (suc (length rs)) (omega arith)))
+          simp (or-false (eqb (numberOf r) v) (holds v rs) (g (ltb-false (numberOf r) v (sym z))), lt-ltb 0 (suc (length rs)) (omega arith))
 
   pub remove-at : (u : ℕ) (rs : List (List ℕ)) (v : ℕ) → volumeRowsAllowed n g u rs ≡ true → holds v rs ≡ true
       → removeRow v rs ≡ take (placeOf v rs) rs ++ drop (placeOf v rs + 1) rs

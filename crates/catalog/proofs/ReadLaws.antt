@@ -2,7 +2,7 @@
 --
 --   Told f p     what reading tells of a file f with the parts p
 -- Assumes nothing.
-use mathlib.Core.Path.{_≡_, refl, sym, ap, ap₂, _∙_}
+use mathlib.Core.Path.{_≡_, refl, sym, ap, _∙_}
 use mathlib.Core.Bool.{Bool, true, false, _&&_, _||_}
 use mathlib.Core.List.{List}
 use Prim.Native.Nat.{ℕ, _+_, _^_, _≤_, _<_}
@@ -79,5 +79,4 @@ module _ (f : List ℕ) {p : Parts} (t : Told f p) where
   volume-row-size = size-row _ (dataSizeOf f) _ (t .short)
 
   pub made-row : {r hash : List ℕ} → hash ≡ controlHashOf f → r ≡ row (p .number) (p .«data_size») hash → r ≡ volumeRow f
-  made-row {r} {hash} h e =
-      e ∙ ap₂ (λ (a b : ℕ). row a b hash) (t .number-is) (t .size-is) ∙ ap (λ (l : List ℕ). row (volumeNumberOf f) (dataSizeOf f) l) h
+  made-row {r} {hash} h e = cc

@@ -47,8 +47,7 @@ module _ (b : List ℕ) (i : ℕ) where
       ∙ same ∙ sym (whole h)
     where
       stored : (part : List ℕ) → length part ≡ 16 → sets (replicate 16 0) 0 part ≡ part
-      stored part n =
-          sets-over (replicate 16 0) part (omega (arith, n)) ∙ ap (λ (k : ℕ). part ++ drop k (replicate {A = ℕ} 16 0)) n ∙ append-nil part
+      stored part n = simp (sets-over (replicate 16 0) part (omega (arith, n)), n, append-nil)
 
 -- ---- filled one after another
 
@@ -83,8 +82,7 @@ rows-last : (n : ℕ) (s : List ℕ) → rowsIn (suc n) s ≡ rowsIn n s ++ (tak
 unfolding rowsIn
 rows-last zero s = refl
 rows-last (suc n) s = let e : 28 + 28 * n ≡ 28 * suc n = omega arith in
-    ap (λ (l : List (List ℕ)). take 28 s ∷ l) (rows-last n (drop 28 s))
-    ∙ ap (λ (q : List ℕ). take 28 s ∷ (rowsIn n (drop 28 s) ++ (take 28 q ∷ []))) (drop-drop (28 * n) 28 s ∙ ap (λ (k : ℕ). drop k s) e)
+    simp (rows-last n (drop 28 s), drop-drop (28 * n) 28 s, e)
 
 map-append : (f : List ℕ → Row) (xs ys : List (List ℕ)) → map f (xs ++ ys) ≡ map f xs ++ map f ys
 map-append f [] ys = refl
@@ -95,8 +93,7 @@ records-are : (b : List ℕ) (n : ℕ) → 16 + 28 * n ≤ length b → recordsT
 unfolding recordsTo rowsIn
 records-are b zero h = refl
 records-are b (suc n) h = let e : 28 * n + 16 ≡ 16 + 28 * n = omega arith in
-    let here : rowAt b n ≡ recordOf (take 28 (drop (28 * n) (drop 16 b))) =
-    whole b n (omega arith) ∙ ap (λ (q : List ℕ). recordOf (take 28 q)) (sym (drop-drop (28 * n) 16 b)) in
+    let here : rowAt b n ≡ recordOf (take 28 (drop (28 * n) (drop 16 b))) = simp (whole b n (omega arith), drop-drop) in
     ap₂ (λ (l : List Row) (r : Row). l ++ (r ∷ [])) (records-are b n (omega arith)) here
     ∙ sym (ap (map (λ r. recordOf r)) (rows-last n (drop 16 b)) ∙ map-append (λ r. recordOf r) (rowsIn n (drop 16 b)) (take 28 (drop (28 * n) (drop 16 b)) ∷ []))
 

@@ -13,7 +13,7 @@ use Prim.Native.Nat.{ℕ, zero, suc, _+_, _-_, _*_, _%_, _^_, _≤_, _<_}
 use native.Mathlib.Nat.{add-zero}
 use native.Mathlib.Omega.{arith}
 use lib.ListN.{length, take, drop, length-append, length-drop, drop-of-length-le}
-use lib.Seq.{sets, length-take-le, take-at, drop-at, take-add, drop-drop}
+use lib.Seq.{length-take-le, take-at, drop-at, take-add, drop-drop}
 use Rattle.cut_lists.specs.All.{All, all-none, all-more}
 use Rattle.little_endian.specs.Bytes.{toLe, leAt}
 use Rattle.little_endian.proofs.Numbers.{length-toLe, to-mod}
@@ -68,9 +68,7 @@ pub rows-back : {rs : List (List ℕ)} → All Sized rs → (t : List ℕ) → r
 unfolding rowsIn flatten
 rows-back all-none t = refl
 rows-back (all-more {x} {xs} p ps) t = let joined = append-assoc x (flatten xs) t in
-    ap₂ (λ (a : List ℕ) (b : List (List ℕ)). a ∷ b)
-    (ap (take 28) joined ∙ take-at x (flatten xs ++ t) 28 p)
-    (ap (λ (q : List ℕ). rowsIn (length xs) q) (ap (drop 28) joined ∙ drop-at x (flatten xs ++ t) 28 p) ∙ rows-back ps t)
+    simp (joined, take-at x (flatten xs ++ t) 28 p, drop-at x (flatten xs ++ t) 28 p, rows-back ps t)
 
 pub length-flatten : {rs : List (List ℕ)} → All Sized rs → length (flatten rs) ≡ 28 * length rs
 unfolding flatten
@@ -104,5 +102,4 @@ module _ (number size : ℕ) (hash : List ℕ) where
   row-over {s} {u} {low} e h k stores = let r : List ℕ = row number size hash in
       let same : toLe 4 low ≡ toLe 4 number = ap (toLe 4) e ∙ to-mod 4 number in
       let n : length r ≡ 28 = length-row h in
-      stores-flatten stores ∙ ap (λ (l : List ℕ). sets s 0 (l ++ (toLe 8 size ++ (hash ++ [])))) same
-      ∙ sets-over s r (omega arith) ∙ ap (λ (l : List ℕ). r ++ l) (drop-of-length-le s {i = length r} (omega arith)) ∙ append-nil r
+      simp (stores-flatten stores, same, sets-over s r (omega arith), drop-of-length-le s {i = length r} (omega arith), append-nil r)

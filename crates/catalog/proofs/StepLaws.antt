@@ -181,8 +181,7 @@ module _ {h : Held} {room : List ℕ} (i : Invariant h room) (v : ℕ) where
 
   without-bytes : droppedBytes room v ≡ catalogOf Without
   without-bytes = let b = read-back i in
-      ap₂ (λ (x y : List (List ℕ)). catalogBytes x (removeRow v y)) (b .entries-are) (b .volumes-are)
-      ∙ ap (catalogBytes (entriesOf h)) (sort-remove v (i .inside .once) ∙ ap sortRows remaining)
+      simp (b .entries-are, b .volumes-are, sort-remove v (i .inside .once), remaining)
 
   without-in : In Without
   without-in = let j = i .inside in

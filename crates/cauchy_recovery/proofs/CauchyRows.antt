@@ -60,10 +60,7 @@ module _ {F : Type 0} (K : Field F) where
   -- u and z are the entries of rows p and q, G and H their inverses
   term : (x C E A B G H u z : F) → C ⊗ E ≡ A ⊗ G ⊕ B ⊗ H → u ⊗ G ≡ 𝟙 → z ⊗ H ≡ 𝟙
       → E ⊗ (x ⊗ (C ⊗ u) ⊗ z) ≡ A ⊗ (x ⊗ z) ⊕ B ⊗ (x ⊗ u)
-  term x C E A B G H u z e hu hz =
-      grouped ∙ ap (λ (y : F). x ⊗ (u ⊗ z) ⊗ y) e ∙ mul-add (x ⊗ (u ⊗ z)) (A ⊗ G) (B ⊗ H)
-      ∙ ap₂ _⊕_ (first ∙ ap (λ (y : F). y ⊗ (A ⊗ (x ⊗ z))) hu ∙ one-mul (A ⊗ (x ⊗ z)))
-      (second ∙ ap (λ (y : F). y ⊗ (B ⊗ (x ⊗ u))) hz ∙ one-mul (B ⊗ (x ⊗ u)))
+  term x C E A B G H u z e hu hz = simp (grouped, e, mul-add, first, hu, one-mul, second, hz)
     where
       grouped : E ⊗ (x ⊗ (C ⊗ u) ⊗ z) ≡ x ⊗ (u ⊗ z) ⊗ (C ⊗ E)
       grouped = simp (mul-assoc, mul-comm, S.mul-left-comm K)

@@ -133,9 +133,7 @@ module _ (t : State) (fits : t .n ≤ 254) where
 
         each : (s i : ℕ) → isRow s ≡ true → (b : Bool) → inColumn i ≡ b → mask b (x i) ⊗ entry s i ≡ matrix s i ⊗ x i
         each s i p true q = ap (λ (y : Byte). x i ⊗ y) (entry-matrix s i p q) ∙ K .mul-comm (x i) (matrix s i)
-        each s i p false q =
-            S.zero-mul K (entry s i) ∙ sym (S.zero-mul K (x i))
-            ∙ ap (λ (y : Byte). y ⊗ x i) (sym (R.matrix-off cauchy cauchy-byte t fits s i q))
+        each s i p false q = simp (S.zero-mul K (entry s i), S.zero-mul K (x i), R.matrix-off cauchy cauchy-byte t fits s i q)
 
         row : (s : ℕ) → isRow s ≡ true → sum K 256 (λ i. mask (inColumn i) (x i) ⊗ entry s i) ≡ 𝟘
         row s e =

@@ -87,8 +87,7 @@ module _ (n : ℕ) (fits : n ≤ 254) (files volumes : ℕ → Bool)
   each : (w : ℕ → Byte) (s g : ℕ) → inColumn g ≡ true → (b : Bool) → volumes (suc s) ≡ b
       → (w s ⊗ matrix t fits s g) .0 ≡ cond b (product (w s .0) (cauchy (suc g) (suc s))) 0
   each w s g h true e = let l = oneTo-inside n (suc g) (and-both (isFile n (suc g)) (column t (suc g)) h .0) in
-      ap (λ (x : Byte). (w s ⊗ x) .0) (R.matrix-present cauchy cauchy-byte t fits s g e h)
-      ∙ ap (product (w s .0)) (R.coef-value cauchy cauchy-byte t fits g s (omega arith))
+      simp (R.matrix-present cauchy cauchy-byte t fits s g e h, R.coef-value cauchy cauchy-byte t fits g s (omega arith))
   each w s g h false e = ap (λ (x : Byte). (w s ⊗ x) .0) (R.matrix-absent cauchy cauchy-byte t fits s g e) ∙ product-zero-r (w s .0)
 
   left-sums : (f g : ℕ) → isFile n f ≡ true → files f ≡ true → isFile n g ≡ true → files g ≡ true

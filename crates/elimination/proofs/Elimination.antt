@@ -10,7 +10,7 @@
 --   reduced-independent        one row more, that takes the column k with no owner, where it times D is not 0
 --   solve                      a row that times D is 0 in each column with no owner is a sum of multiples of rows of A
 -- Assumes nothing.
-use mathlib.Core.Path.{_≡_, refl, sym, ap, ap₂, _∙_, subst}
+use mathlib.Core.Path.{_≡_, refl, sym, ap, _∙_, subst}
 use mathlib.Core.Logic.{_≢_}
 use Prim.Native.Nat.{ℕ, zero, suc, _<_}
 use native.Mathlib.Nat.{not-suc-le-zero, suc-ne-zero, suc-inj}
@@ -151,9 +151,7 @@ module _ {F : Type 0} (K : Field F) where
         v i = sum K t (λ s. w s ⊗ A s i)
 
         both : (j : ℕ) → j < n → timesD (λ i. u i ⊕ v i) j ≡ 𝟘
-        both j m =
-            rowTimes-add n u v D j
-            ∙ S.sum-of-eq K (timesD u j) (timesD v j) (sym (rowTimes-sum n t w A D j ∙ back (timesD u) h j m))
+        both j m = simp (rowTimes-add n u v D j, S.sum-of-eq K (timesD u j) (timesD v j) (sym (rowTimes-sum n t w A D j ∙ back (timesD u) h j m)))
 
     -- ---- a row that is a sum of multiples of those before it
 
@@ -202,24 +200,16 @@ module _ {F : Type 0} (K : Field F) where
           ∙ ap (λ (x : F). x ⊗ p j) (S.sum-mul K n q (λ i. u i ⊗ D i k)))
         where
           term : (i : ℕ) → u i ⊗ (D i j ⊕ q ⊗ D i k ⊗ p j) ≡ u i ⊗ D i j ⊕ q ⊗ (u i ⊗ D i k) ⊗ p j
-          term i =
-              mul-add (u i) (D i j) (q ⊗ D i k ⊗ p j)
-              ∙ ap (λ (x : F). u i ⊗ D i j ⊕ x)
-              (sym (mul-assoc (u i) (q ⊗ D i k) (p j)) ∙ ap (λ (x : F). x ⊗ p j) (S.mul-left-comm K (u i) q (D i k)))
+          term i = simp (mul-add, mul-assoc, S.mul-left-comm)
 
       -- the new row is 1 in its column and 0 in the others
       new-row : (j : ℕ) → j < n → timesD′ (A t) j ≡ δ K k j
       unfolding q p
-      new-row j l =
-          times-swept (A t) j l ∙ ap (λ (x : F). timesD (A t) j ⊕ x ⊗ p j) (inv-mul (timesD (A t) k) yk)
-          ∙ ap (λ (x : F). timesD (A t) j ⊕ x) (one-mul (p j)) ∙ S.add-twice K (timesD (A t) j) (δ K k j)
+      new-row j l = simp (times-swept, inv-mul, one-mul, S.add-twice)
 
       -- a row that is 0 in column k stays as it was
       old-row : (u : ℕ → F) → timesD u k ≡ 𝟘 → (j : ℕ) → j < n → timesD′ u j ≡ timesD u j
-      old-row u e j l =
-          times-swept u j l
-          ∙ ap (λ (x : F). timesD u j ⊕ x ⊗ p j) (ap (λ (x : F). q ⊗ x) e ∙ S.mul-zero K q)
-          ∙ ap (λ (x : F). timesD u j ⊕ x) (S.zero-mul K (p j)) ∙ S.add-zero K (timesD u j)
+      old-row u e j l = simp (times-swept, e, S.mul-zero, S.zero-mul, S.add-zero)
 
       -- a row that is 0 everywhere now was 0 in column k
       zero-before : (u : ℕ → F) → ((j : ℕ) → j < n → timesD′ u j ≡ 𝟘) → timesD u k ≡ 𝟘
@@ -233,15 +223,10 @@ module _ {F : Type 0} (K : Field F) where
           x = timesD u k
 
           column-k : timesD′ u k ≡ q ⊗ x
-          column-k =
-              times-swept u k lk ∙ ap (λ (z : F). x ⊕ q ⊗ x ⊗ (y ⊕ z)) (S.δ-same K k k refl)
-              ∙ ap (λ (z : F). x ⊕ z) (mul-add (q ⊗ x) y 𝟙 ∙ ap₂ _⊕_ cancelled (S.mul-one K (q ⊗ x)))
-              ∙ S.add-twice K x (q ⊗ x)
+          column-k = simp (times-swept, S.δ-same, mul-add, cancelled, S.mul-one, S.add-twice)
             where
               cancelled : q ⊗ x ⊗ y ≡ x
-              cancelled =
-                  ap (λ (z : F). z ⊗ y) (K .mul-comm q x) ∙ mul-assoc x q y
-                  ∙ ap (λ (z : F). x ⊗ z) (inv-mul y yk) ∙ S.mul-one K x
+              cancelled = simp (K .mul-comm q x, mul-assoc, inv-mul, S.mul-one)
 
       -- the new row is no sum of multiples of those before it: it is not 0 in column k, and they are
       fresh : Dependent K A n t → ⊥

@@ -109,9 +109,7 @@ module _ {F : Type 0} (K : Field F) where
         ∙ ap (λ (x : F). w s ⊗ x) (R .owned k s m p k m ∙ S.δ-same K k k refl) ∙ S.mul-one K (w s))
       where
         off : (r : ℕ) → r < t → r ≢ s → Owns r → w r ⊗ timesD (A r) k ≡ 𝟘
-        off r h q (inl (i, a, b)) =
-            ap (λ (x : F). w r ⊗ x) (R .owned i r a b k m ∙ S.δ-other K i k (λ c. q (suc-inj (sym b ∙ ap owner c ∙ p))))
-            ∙ S.mul-zero K (w r)
+        off r h q (inl (i, a, b)) = simp (R .owned i r a b k m, S.δ-other K i k (λ c. q (suc-inj (sym b ∙ ap owner c ∙ p))), S.mul-zero)
         off r h q (inr none) = ap (λ (x : F). x ⊗ timesD (A r) k) (z r h (R .dependent r h none)) ∙ S.zero-mul K (timesD (A r) k)
 
     -- two choices of weights with the same sums, with no weight for rows that are sums of earlier ones, are the same

@@ -73,15 +73,11 @@ pub record Swept (w n : ℕ) (y : List ℕ) (k scale : ℕ) (m m′ : List ℕ) 
 -- a list with ys in the place of its elements from a to b
 module _ (a b : ℕ) (xs ys : List ℕ) (ha : a ≤ b) (hb : b ≤ length xs) (hy : length ys ≡ b - a) where
   put-before : (p : ℕ) → p < a → getD (putMid a (b - a) xs ys) p 0 ≡ getD xs p 0
-  put-before p l =
-      sym (getD-take a (putMid a (b - a) xs ys) p 0 l)
-      ∙ ap (λ (zs : List ℕ). getD zs p 0) (take-put a (b - a) xs ys (omega arith)) ∙ getD-take a xs p 0 l
+  put-before p l = cc (getD-take a (putMid a (b - a) xs ys) p 0 l, take-put a (b - a) xs ys (omega arith), getD-take a xs p 0 l)
 
   put-after : (p : ℕ) → b ≤ p → getD (putMid a (b - a) xs ys) p 0 ≡ getD xs p 0
   put-after p l = let e : p ≡ b + (p - b) = omega arith in
-      ap (λ (i : ℕ). getD (putMid a (b - a) xs ys) i 0) e ∙ sym (getD-drop b (putMid a (b - a) xs ys) (p - b) 0)
-      ∙ ap (λ (zs : List ℕ). getD zs (p - b) 0) (drop-put a b xs ys ha hb hy)
-      ∙ getD-drop b xs (p - b) 0 ∙ ap (λ (i : ℕ). getD xs i 0) (sym e)
+      cc (getD-drop b (putMid a (b - a) xs ys) (p - b) 0, drop-put a b xs ys ha hb hy, getD-drop b xs (p - b) 0)
 
   put-inside : (j : ℕ) → j < length ys → getD (putMid a (b - a) xs ys) (a + j) 0 ≡ getD ys j 0
   put-inside j l =
@@ -185,6 +181,4 @@ weight-more m owners weights f k e h o q v l = elim (ℕ-discrete v o) [
   where
     step : (x : ℕ) → cond (eqb (getD owners k 0) v) (entry m f k) 0 ≡ x
         → bitXor (getD weights v 0) x ≡ sumBelow (k + 1) (λ k. cond (eqb (getD owners k 0) v) (entry m f k) 0)
-    step x z =
-        ap₂ bitXor (h v l) (sym z)
-        ∙ ap (λ (n : ℕ). sumBelow n (λ k. cond (eqb (getD owners k 0) v) (entry m f k) 0)) (sym (add-one k))
+    step x z = simp (h, z, add-one)

@@ -37,9 +37,7 @@ module _ {F : Type 0} (K : Field F) where
   add-twice a b = sym (add-assoc a a b) ∙ ap (λ (x : F). x ⊕ b) (add-self a) ∙ zero-add b
 
   pub mul-zero : (a : F) → a ⊗ 𝟘 ≡ 𝟘
-  mul-zero a =
-      sym (add-twice (a ⊗ 𝟘) (a ⊗ 𝟘))
-      ∙ ap (λ (x : F). a ⊗ 𝟘 ⊕ x) (sym (mul-add a 𝟘 𝟘) ∙ ap (λ (x : F). a ⊗ x) (zero-add 𝟘)) ∙ add-self (a ⊗ 𝟘)
+  mul-zero a = cc (add-twice (a ⊗ 𝟘) (a ⊗ 𝟘), mul-add a 𝟘 𝟘, zero-add 𝟘, add-self (a ⊗ 𝟘))
 
   pub zero-mul : (a : F) → 𝟘 ⊗ a ≡ 𝟘
   zero-mul a = mul-comm 𝟘 a ∙ mul-zero a
@@ -56,10 +54,7 @@ module _ {F : Type 0} (K : Field F) where
   mul-left-comm a b c = sym (mul-assoc a b c) ∙ ap (λ (x : F). x ⊗ c) (mul-comm a b) ∙ mul-assoc b a c
 
   pub add-swap : (a b c d : F) → (a ⊕ b) ⊕ (c ⊕ d) ≡ (a ⊕ c) ⊕ (b ⊕ d)
-  add-swap a b c d =
-      add-assoc a b (c ⊕ d)
-      ∙ ap (λ (x : F). a ⊕ x) (sym (add-assoc b c d) ∙ ap (λ (x : F). x ⊕ d) (add-comm b c) ∙ add-assoc c b d)
-      ∙ sym (add-assoc a c (b ⊕ d))
+  add-swap a b c d = cc (add-assoc a b (c ⊕ d), add-assoc b c d, add-comm b c, add-assoc c b d, add-assoc a c (b ⊕ d))
 
   -- ---- 0
 
@@ -70,9 +65,7 @@ module _ {F : Type 0} (K : Field F) where
   sum-of-eq a b e = ap (λ (x : F). x ⊕ b) e ∙ add-self b
 
   pub zero-of-mul : (a b : F) → a ≢ 𝟘 → a ⊗ b ≡ 𝟘 → b ≡ 𝟘
-  zero-of-mul a b h e =
-      sym (one-mul b) ∙ ap (λ (x : F). x ⊗ b) (sym (inv-mul a h)) ∙ mul-assoc (inv a) a b
-      ∙ ap (λ (x : F). inv a ⊗ x) e ∙ mul-zero (inv a)
+  zero-of-mul a b h e = cc (one-mul b, inv-mul a h, mul-assoc (inv a) a b, mul-zero (inv a))
 
   pub inv-ne-zero : (a : F) → a ≢ 𝟘 → inv a ≢ 𝟘
   inv-ne-zero a h e = one-ne-zero (sym (inv-mul a h) ∙ ap (λ (x : F). x ⊗ a) e ∙ zero-mul a)
@@ -113,22 +106,17 @@ module _ {F : Type 0} (K : Field F) where
   pub sum-swap : (n m : ℕ) (g : ℕ → ℕ → F) → sum K n (λ i. sum K m (λ j. g i j)) ≡ sum K m (λ j. sum K n (λ i. g i j))
   unfolding sum
   sum-swap zero m g = sym (sum-none m (λ j. 𝟘) (λ j l. refl))
-  sum-swap (suc n) m g =
-      ap (λ (x : F). x ⊕ sum K m (λ j. g n j)) (sum-swap n m g) ∙ sym (sum-add m (λ j. sum K n (λ i. g i j)) (λ j. g n j))
+  sum-swap (suc n) m g = cc (sum-swap n m g, sum-add m (λ j. sum K n (λ i. g i j)) (λ j. g n j))
 
   pub sum-split : (n m : ℕ) (g : ℕ → F) → sum K (n + m) g ≡ sum K n g ⊕ sum K m (λ j. g (n + j))
   unfolding sum
   sum-split n zero g = ap (λ (k : ℕ). sum K k g) (Nat.add-zero n) ∙ sym (add-zero (sum K n g))
-  sum-split n (suc m) g =
-      ap (λ (k : ℕ). sum K k g) (Nat.add-suc n m) ∙ ap (λ (x : F). x ⊕ g (n + m)) (sum-split n m g)
-      ∙ add-assoc (sum K n g) (sum K m (λ j. g (n + j))) (g (n + m))
+  sum-split n (suc m) g = cc (Nat.add-suc n m, sum-split n m g, add-assoc (sum K n g) (sum K m (λ j. g (n + j))) (g (n + m)))
 
   -- terms past n that are 0 may be left out
   pub sum-first : (n m : ℕ) (g : ℕ → F) → n ≤ m → ((i : ℕ) → n ≤ i → i < m → g i ≡ 𝟘) → sum K m g ≡ sum K n g
   sum-first n m g l h = let e : m ≡ n + (m - n) = omega arith in
-      ap (λ (k : ℕ). sum K k g) e ∙ sum-split n (m - n) g
-      ∙ ap (λ (x : F). sum K n g ⊕ x) (sum-none (m - n) (λ j. g (n + j)) (λ j b. h (n + j) (omega arith) (omega arith)))
-      ∙ add-zero (sum K n g)
+      cc (sum-split n (m - n) g, sum-none (m - n) (λ j. g (n + j)) (λ j b. h (n + j) (omega arith) (omega arith)), add-zero (sum K n g))
 
   -- ---- the identity
 
@@ -142,10 +130,8 @@ module _ {F : Type 0} (K : Field F) where
 
   pub sum-δ : (n k : ℕ) (g : ℕ → F) → k < n → sum K n (λ i. δ K k i ⊗ g i) ≡ g k
   sum-δ n k g l =
-      sum-one n k (λ i. δ K k i ⊗ g i) l (λ i h q. ap (λ (x : F). x ⊗ g i) (δ-other k i (λ e. q (sym e))) ∙ zero-mul (g i))
-      ∙ ap (λ (x : F). x ⊗ g k) (δ-same k k refl) ∙ one-mul (g k)
+      rw (sum-one n k (λ i. δ K k i ⊗ g i) l (λ i h q. ap (λ (x : F). x ⊗ g i) (δ-other k i (λ e. q (sym e))) ∙ zero-mul (g i)), δ-same, one-mul)
 
   pub sum-δ-right : (n k : ℕ) (g : ℕ → F) → k < n → sum K n (λ i. g i ⊗ δ K i k) ≡ g k
   sum-δ-right n k g l =
-      sum-one n k (λ i. g i ⊗ δ K i k) l (λ i h q. ap (λ (x : F). g i ⊗ x) (δ-other i k q) ∙ mul-zero (g i))
-      ∙ ap (λ (x : F). g k ⊗ x) (δ-same k k refl) ∙ mul-one (g k)
+      simp (sum-one n k (λ i. g i ⊗ δ K i k) l (λ i h q. ap (λ (x : F). g i ⊗ x) (δ-other i k q) ∙ mul-zero (g i)), δ-same, mul-one)

@@ -70,10 +70,7 @@ module _ (rule : ℕ → ℕ → ℕ) (nonempty present : List ℕ) where
 -- the files present, as columns
 pub present-entry : (rule : ℕ → ℕ → ℕ) (present : List ℕ) (v i : ℕ) → i < 255
     → cond (member present (suc i)) (rule (suc i) v) 0 ≡ entryOf rule present (replicate 4 0) v i
-present-entry rule present v i l =
-    ap (λ (b : Bool). cond b (rule (suc i) v) 0)
-    (sym (ap (λ (b : Bool). member present (suc i) && not b) (member-none (suc i)) ∙ and-true (member present (suc i)))
-    ∙ column-is present (replicate 4 0) i l)
+present-entry rule present v i l = cc (member-none (suc i), and-true (member present (suc i)), column-is present (replicate 4 0) i l)
 
 -- ---- the table
 
@@ -88,9 +85,7 @@ module _ (rule : ℕ → ℕ → ℕ) (small : (f v : ℕ) → f < 256 → rule 
   pub table-row : (v : ℕ) → member volumes (suc v) ≡ true → (i : ℕ) → i < 256
       → tableOf rule nonempty present volumes v i .0 ≡ getD (rowOf rule nonempty present (suc v)) i 0
   unfolding tableOf rowOf
-  table-row v e i l =
-      ap (λ (b : Bool). toByte (cond b (entryOf rule nonempty present (suc v) i) 0) .0) e
-      ∙ toByte-value _ (entry-byte (suc v) i) ∙ sym (listBelow-at 256 (entryOf rule nonempty present (suc v)) i l)
+  table-row v e i l = simp (e, toByte-value _ (entry-byte (suc v) i), listBelow-at 256 (entryOf rule nonempty present (suc v)) i l)
 
   pub table-absent : (v : ℕ) → member volumes (suc v) ≡ false → (i : ℕ) → tableOf rule nonempty present volumes v i ≡ byteField .𝟘
   unfolding tableOf

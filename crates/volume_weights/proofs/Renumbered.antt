@@ -41,9 +41,7 @@ length-numbers (suc n) = length-inserted (suc n) (numbersTo n) ∙ length-number
 numbers-member : (n i : ℕ) → n < 256 → member (numbersTo n) (suc i) ≡ ltb i n
 unfolding numbersTo
 numbers-member zero i l = member-none (suc i) ∙ sym (le-ltb i zero (omega arith))
-numbers-member (suc n) i l =
-    member-inserted (numbersTo n) (suc n) (length-numbers n) l (suc i)
-    ∙ ap (λ (b : Bool). eqb (suc i) (suc n) || b) (numbers-member n i (omega arith)) ∙ one-more
+numbers-member (suc n) i l = simp (member-inserted (numbersTo n) (suc n) (length-numbers n) l (suc i), numbers-member n i (omega arith), one-more)
   where
     one-more : (eqb (suc i) (suc n) || ltb i n) ≡ ltb i (suc n)
     one-more = elim (ℕ-discrete i n) [
@@ -94,8 +92,7 @@ module _ (rule : ℕ → ℕ → ℕ) (files : List ℕ) where
   pub row-past : (width v p : ℕ) → width < 256 → width ≤ p → p < 256
       → getD (rowOf (renumbered rule files) (numbersTo width) (replicate 4 0) v) p 0 ≡ 0
   unfolding rowOf
-  row-past width v p l h b =
-      listBelow-at 256 _ p b ∙ renumbered-entry width v p l ∙ ap (λ (t : Bool). cond t (rule (getD files p 0) v) 0) (le-ltb p width h)
+  row-past width v p l h b = simp (listBelow-at, renumbered-entry, le-ltb)
 
   pub renumbered-small : ((f v : ℕ) → f < 256 → rule f v < 256) → ((p : ℕ) → getD files p 0 < 256)
       → (f v : ℕ) → f < 256 → renumbered rule files f v < 256
@@ -116,8 +113,7 @@ entry-zero false x = toByte-of-value (byteField .𝟘)
 module _ (rule : ℕ → ℕ → ℕ) (nonempty present volumes : List ℕ) where
   entry-outside : (s i : ℕ) → columnIn nonempty present (suc i) ≡ false → tableOf rule nonempty present volumes s i ≡ byteField .𝟘
   unfolding tableOf entry-of
-  entry-outside s i e =
-      ap (λ (b : Bool). entry-of (member volumes (suc s)) b (rule (suc i) (suc s))) e ∙ entry-zero (member volumes (suc s)) (rule (suc i) (suc s))
+  entry-outside s i e = simp (e, entry-zero)
 
   pub outside-solved : (rows i : ℕ) → i < 256 → columnIn nonempty present (suc i) ≡ false
       → Solved rule nonempty present volumes rows i (replicate 256 0) false
@@ -184,16 +180,10 @@ module _ (nonempty present files : List ℕ) (width : ℕ) (C : IsColumns nonemp
 
     same : (s i : ℕ) → i < 256 → column i ≡ true → table s i ≡ packed s (columnsBelow nonempty present i)
     unfolding tableOf entry-of
-    same s i l e =
-        ap (λ (b : Bool). entry-of (member volumes (suc s)) b (rule (suc i) (suc s))) (e ∙ sym (lt-ltb _ width (place-inside i e)))
-        ∙ ap (λ (f : ℕ). entry-of (member volumes (suc s)) (ltb (columnsBelow nonempty present i) width) (rule f (suc s))) (sym (C .each i e))
-        ∙ sym (packed-at s (columnsBelow nonempty present i))
+    same s i l e = simp (e, lt-ltb _ width (place-inside i e), C .each i e, packed-at s (columnsBelow nonempty present i))
 
     past : (s p : ℕ) → columnsBelow nonempty present 256 ≤ p → p < 256 → packed s p ≡ byteField .𝟘
-    past s p h l =
-        packed-at s p
-        ∙ ap (λ (b : Bool). entry-of (member volumes (suc s)) b (rule (getD files p 0) (suc s))) (le-ltb p width (omega (arith, all-below)))
-        ∙ entry-zero (member volumes (suc s)) (rule (getD files p 0) (suc s))
+    past s p h l = simp (packed-at, le-ltb p width (omega (arith, all-below)), entry-zero)
 
     pub renumbered-solved : (rows i : ℕ) (ws : List ℕ) (found : Bool) → i < 256 → column i ≡ true
         → Solved (renumbered rule files) (numbersTo width) (replicate 4 0) volumes rows (columnsBelow nonempty present i) ws found

@@ -180,9 +180,7 @@ module _ {F : Type 0} (K : Field F) (n : ℕ) (column : ℕ → Bool) (A B : ℕ
       at g l true e =
           times-same t w (λ s. A s g) (λ s. B s (before column g)) (λ s. same s g l e)
           ∙ W .sums (before column g) (let b = before-le column g in omega arith) ∙ δ-before f g ef e
-      at g l false e =
-          times-zero t w (λ s. A s g) (λ s. none s g l e)
-          ∙ sym (S.δ-other K f g (λ z. true≢false (sym ef ∙ ap column z ∙ e)))
+      at g l false e = simp (times-zero t w (λ s. A s g) (λ s. none s g l e), S.δ-other K f g (λ z. true≢false (sym ef ∙ ap column z ∙ e)))
 
   -- a vector of the columns side by side, spread out
   unfoldable pub spread : (ℕ → F) → ℕ → F
@@ -199,9 +197,7 @@ module _ {F : Type 0} (K : Field F) (n : ℕ) (column : ℕ → Bool) (A B : ℕ
     where
       go : sum K m (λ i. A s i ⊗ spread x i) ≡ sum K (before column m) (λ p. B s p ⊗ x p) → (b : Bool) → column m ≡ b
           → sum K m (λ i. A s i ⊗ spread x i) ⊕ A s m ⊗ spread x m ≡ sum K (before column (suc m)) (λ p. B s p ⊗ x p)
-      go rest true e =
-          ap₂ _⊕_ rest (ap₂ _⊗_ (same s m h e) (spread-at x m true e))
-          ∙ ap (λ (k : ℕ). sum K k (λ p. B s p ⊗ x p)) (sym (before-column column m e))
+      go rest true e = simp (rest, same s m h e, spread-at x m true e, before-column column m e)
       go rest false e =
           ap₂ _⊕_ rest (ap (λ (z : F). A s m ⊗ z) (spread-at x m false e) ∙ S.mul-zero K (A s m))
           ∙ S.add-zero K _ ∙ ap (λ (k : ℕ). sum K k (λ p. B s p ⊗ x p)) (sym (before-other column m e))

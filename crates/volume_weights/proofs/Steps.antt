@@ -44,9 +44,7 @@ pub volumes-more : (rule : ℕ → ℕ → ℕ) (nonempty present volumes : List
     → s ≡ volumesAdded rule nonempty present volumes v start → s′ ≡ volumeAdded rule nonempty present volumes (v + 1) s
     → s′ ≡ volumesAdded rule nonempty present volumes (v + 1) start
 unfolding volumesAdded
-volumes-more rule nonempty present volumes v start s s′ e h =
-    h ∙ ap₂ (volumeAdded rule nonempty present volumes) (add-one v) e
-    ∙ ap (λ (k : ℕ). volumesAdded rule nonempty present volumes k start) (sym (add-one v))
+volumes-more rule nonempty present volumes v start s s′ e h = simp (h, add-one, e)
 
 module _ (rule : ℕ → ℕ → ℕ) (small : (f v : ℕ) → f < 256 → rule f v < 256) (nonempty present volumes : List ℕ) where
   abbrev table : ℕ → ℕ → Byte
@@ -128,10 +126,7 @@ module _ (rule : ℕ → ℕ → ℕ) (files volumes : List ℕ) (width : ℕ) (
   pub volume-taken : (v : ℕ) (row m owners : List ℕ) (s′ : List ℕ × List ℕ) → Apart (inBlocks width) m → row ≡ packed-row v
       → s′ ≡ rowAddedWithin (inBlocks width) row v m owners → member volumes v ≡ true → s′ ≡ packed-added v (m, owners)
   unfolding volumeAdded
-  volume-taken v row m owners s′ A r e t =
-      e ∙ ap (λ (u : List ℕ). rowAddedWithin (inBlocks width) u v m owners) r
-      ∙ added-within (inBlocks width) blocks (packed-row v) m A (keeps v) owners v
-      ∙ sym (ap (λ (b : Bool). cond b (rowAdded (packed-row v) v m owners) (m, owners)) t)
+  volume-taken v row m owners s′ A r e t = simp (e, r, added-within (inBlocks width) blocks (packed-row v) m A (keeps v) owners v, t)
 
   pub volume-left : (v : ℕ) (m owners : List ℕ) → member volumes v ≡ false → (m, owners) ≡ packed-added v (m, owners)
   unfolding volumeAdded

@@ -51,12 +51,8 @@ module _ (rule : ℕ → ℕ → ℕ) (small : (f v : ℕ) → f < 256 → rule 
       where
         go : (b : Bool) → t .volumes (suc s) ≡ b → (w s ⊗ matrix s i) .0 ≡ product (w s .0) (rule (suc i) (suc s))
         go true h = let l = in-file i e in
-            ap (λ (x : Byte). (w s ⊗ x) .0) (R.matrix-present rule small t fits s i h e)
-            ∙ ap (product (w s .0)) (R.coef-value rule small t fits i s (omega arith))
-        go false h =
-            ap (λ (x : Byte). (x ⊗ matrix s i) .0) (absent s h) ∙ product-zero-l (matrix s i .0)
-            ∙ sym (product-zero-l (rule (suc i) (suc s)))
-            ∙ ap (λ (x : Byte). product (x .0) (rule (suc i) (suc s))) (sym (absent s h))
+            simp (R.matrix-present, R.coef-value rule small t fits i s (omega arith))
+        go false h = simp (absent, product-zero-l)
 
     unit : (i : ℕ) → sum K (255 - t .n) (λ s. w s ⊗ matrix s i) ≡ δ K f i
     unit i =
@@ -104,13 +100,9 @@ module _ (rule : ℕ → ℕ → ℕ) (small : (f v : ℕ) → f < 256 → rule 
     cell s i l h = go (inColumn i) refl
       where
         go : (b : Bool) → inColumn i ≡ b → (matrix s i ⊗ x i) .0 ≡ product (rule (suc i) (suc s)) (x i .0)
-        go true e =
-            ap (λ (y : Byte). (y ⊗ x i) .0) (R.matrix-present rule small t fits s i h e)
-            ∙ ap (λ (y : ℕ). product y (x i .0)) (R.coef-value rule small t fits i s (omega arith))
+        go true e = simp (R.matrix-present, R.coef-value rule small t fits i s (omega arith))
         go false e = let z = off i l (sym (R.inColumn-file rule small t fits i l) ∙ e) in
-            ap (λ (y : Byte). (matrix s i ⊗ y) .0) z ∙ product-zero-r (matrix s i .0)
-            ∙ sym (product-zero-r (rule (suc i) (suc s)))
-            ∙ ap (λ (y : Byte). product (rule (suc i) (suc s)) (y .0)) (sym z)
+            simp (z, product-zero-r)
 
     row-value : (s : ℕ) → t .volumes (suc s) ≡ true → sum K 256 (λ i. matrix s i ⊗ x i) .0 ≡ at-row s
     row-value s h =

@@ -62,9 +62,7 @@ module _ (n : ℕ) (fits : n ≤ 254) (missing volumes : List ℕ) (files : allL
   t = stateOf Powers n size missing volumes
 
   is-column : (g : ℕ) → listed g missing ≡ true → column t g ≡ true
-  is-column g e =
-      ap (λ (b : Bool). not (not b) && leb 1 (size g)) e
-      ∙ le-leb 1 (size g) (full g (each-listed (isFile n) missing files g e))
+  is-column g e = simp (e, le-leb 1 (size g) (full g (each-listed (isFile n) missing files g e)))
 
   is-missing : (g : ℕ) → column t g ≡ true → listed g missing ≡ true
   is-missing g e =

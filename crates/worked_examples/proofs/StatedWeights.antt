@@ -73,9 +73,7 @@ module _ (t : State) (f : ℕ) (start : List ℕ) where
   module _ (n-fits : t .n ≤ length start) (fits : length start ≤ 255) where
     past-start : (p : ℕ) → length start ≤ p → getD w p 0 ≡ 0
     past-start p l = let e : p ≡ length start + (p - length start) = omega arith in
-        ap (λ (k : ℕ). getD w k 0) e
-        ∙ getD-append-add start (replicate (255 - length start) 0) (p - length start) 0
-        ∙ zeros-at (255 - length start) (p - length start)
+        cc (getD-append-add start (replicate (255 - length start) 0) (p - length start) 0, zeros-at (255 - length start) (p - length start))
 
     past-volume : (s : ℕ) → length start - t .n ≤ s → place w (t .n + suc s) ≡ 0
     past-volume s l = past-start (t .n + suc s - 1) (omega arith)

@@ -1,10 +1,8 @@
 -- `elimination::solvable` meets its contract.
 -- Assumes nothing.
-use mathlib.Core.Path.{_≡_, sym, ap, _∙_}
-use Prim.Native.Nat.{ℕ}
+use mathlib.Core.Path.{_≡_}
 use native.Mathlib.Omega.{arith}
-use lib.Dec.{eqb}
-use Rattle.elimination.specs.Reduction.{entry, pivotOf, isSolvable}
+use Rattle.elimination.specs.Reduction.{isSolvable}
 use borrow.Author.Needs.{needs}
 use Rattle.elimination.proofs.Pivots.{pivot-whole}
 use Rattle.elimination.proofs.solvable.Statement.{statement}
@@ -14,8 +12,7 @@ returns : tie.Need-returns
 unfolding isSolvable
 returns c = let a = c .before .before .before .args in
     let e : c .before .index .result ≡ a .column = c .before .index .ensures .0 in
-    ap (λ (k : ℕ). eqb k 256)
-    (c .pivot .ensures ∙ sym (pivot-whole _ (a .owners .now)) ∙ ap (λ (f : ℕ). pivotOf (entry (a .matrix .now) f) (a .owners .now)) e)
+    simp (c .pivot .ensures, pivot-whole, e)
 
 pub solvable-spec : {M : Type 1} → statement M
 solvable-spec = tie.close (tie.spec (λ c κs. search needs) (λ c. omega arith) (λ c κs. search needs) returns)

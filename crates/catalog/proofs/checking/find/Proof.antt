@@ -1,9 +1,9 @@
 -- `catalog::checking::find` meets its contract.
 -- Assumes nothing.
-use mathlib.Core.Path.{_≡_, sym, ap, ap₂, _∙_}
-use Prim.Native.Nat.{ℕ, _-_, _+_, _*_}
+use mathlib.Core.Path.{_≡_, sym, ap, _∙_}
+use Prim.Native.Nat.{ℕ, _+_, _*_}
 use native.Mathlib.Omega.{arith}
-use lib.ListN.{length, take, drop}
+use lib.ListN.{length, drop}
 use borrow.Author.Needs.{needs}
 use mathlib.Core.List.{List}
 use mathlib.Core.Bool.{true, true≢false}
@@ -41,11 +41,7 @@ volumes-are w = let r = w .before .before .before .before .before in
     let b : List ℕ = bytes-of r in
     let told = tells w in
     let start = 16 + 28 * v .before .read32 .result in
-    w .volumes-allowed .ensures
-    ∙ ap₂ (λ (s g : ℕ). volumeRowsAllowed s g 0 (rowsIn (v .read322 .result) (take (length b - start) (drop start b)))) (told .1) (told .2)
-    ∙ ap (volumeRowsAllowed (length (savedRows (entryRows b))) (greatestSize (entryRows b)) 0)
-    (rows-part (v .read322 .result) b start
-    ∙ ap₂ (λ (k n : ℕ). rowsIn k (drop (16 + 28 * n) b)) (v .read322 .ensures) (v .before .read32 .ensures))
+    simp (w .volumes-allowed .ensures, told .1, told .2, rows-part, v .read322 .ensures, v .before .read32 .ensures)
 
 returns : tie.Need-returns
 returns c = let v = c .before in

@@ -1,13 +1,12 @@
 -- `catalog::planning::locate` meets its contract.
 -- Assumes nothing.
-use mathlib.Core.Path.{_≡_, ap, ap₂, _∙_}
+use mathlib.Core.Path.{_≡_, ap, _∙_}
 use Prim.Native.Nat.{ℕ, _+_, _*_}
 use native.Mathlib.Omega.{arith}
 use borrow.Author.Needs.{needs}
 use mathlib.Core.List.{List}
 use denote.Ref.{now}
-use lib.ListN.{drop}
-use Rattle.catalog.specs.Catalog.{entryCount, volumeCount, catalogLength, rowsIn, volumeRows}
+use Rattle.catalog.specs.Catalog.{entryCount, volumeCount, catalogLength, volumeRows}
 use Rattle.catalog.specs.Plan.{placeOf}
 use Rattle.catalog.specs.declared.checking.Counts.{Counts}
 use Rattle.catalog.proofs.CatalogLaws.{Catalog, is-catalog, rows-part, part-long}
@@ -34,10 +33,7 @@ place-is : (c : tie.After-place-of)
     → let s = c .before .before .before .before .before in c .place-of .result ≡ placeOf (s .args .number) (volumeRows (b s))
 place-is c = let s = c .before .before .before .before .before in
     let start : ℕ = 16 + 28 * s .args .counts .entries in
-    c .place-of .ensures
-    ∙ ap (placeOf (s .args .number))
-    (rows-part (s .args .counts .volumes) (b s) start
-    ∙ ap₂ (λ (k n : ℕ). rowsIn k (drop (16 + 28 * n) (b s))) (volumes-are s) (entries-are s))
+    simp (c .place-of .ensures, rows-part, volumes-are, entries-are)
 
 mul-start : tie.Need-mul-start
 mul-start c = let s = c .before .before in omega (arith, catalog s .within, entries-are s)
