@@ -42,7 +42,7 @@ use Rattle.amending.proofs.AmendedFiles.{change-placed, own-contents, s
 use Rattle.amending.proofs.AmendedFiles.{entries-at, statuses-are, amended-list-length}
 use Rattle.amending.proofs.Amends.{amended-files, amended-right, volume-is, back-after, size-after, amend-to, amend-volume}
 use Rattle.amending.proofs.ChangeTests.{stretch-passes, stretch-tells, change-told, change-passes}
-use Rattle.amending.proofs.Refusals.{change-passed, change-none, amend-read, refused-same}
+use Rattle.amending.proofs.Refusals.{change-passed, change-none, amend-read, amend-refused}
 
 -- ---- of a true volume
 
@@ -192,7 +192,7 @@ run-calls code program v p right holds (calls-written {fs} {n = n} {out = out} c
     let done = amend-written code program v fs c n out p right holds old-true e in
     run-calls code program v p (amended-right v c fs right (done .may)) (done .held) r
 run-calls code program v p right holds (calls-refused {fs} {n = n} {out = out} c d e r) =
-    let same = refused-same ruleOf n c d out e in
+    let same = amend-refused ruleOf n c d out _ .1 _ e .1 in
     run-calls code program v p right (subst (λ (t : List ℕ). Holds code program v fs n t) (sym same) holds) r
 
 pub calls-afresh : CallsAfresh

@@ -1,8 +1,6 @@
 -- The entry of a file among the entries of its list.
 --
 --   place-within       a file that the list has stands at a place in it
---   walk-joined        a list that was walked to its end is its entries, joined
---   entries-low        an entry has 58 bytes or more
 --   part-of-entries    an entry is a part of the entries, joined
 --   from-within        it starts in them
 --   split-entries, set-joined      the entries around it, and another in its place
@@ -13,16 +11,10 @@ use mathlib.Core.List.{List, [], _∷_, _++_, append-nil, flatten}
 use Prim.Native.Nat.{ℕ, zero, suc, _≤_, _<_}
 use native.Mathlib.Omega.{arith}
 use lib.ListN.{length, take, drop, getD, set, length-append, take-append-drop}
-use lib.Seq.{length-take-le, take-append-seam, drop-append-add, split-at, set-split}
-use Rattle.cut_lists.specs.All.{All}
-use Rattle.cut_lists.proofs.CutLaws.{cut-joins, cut-all}
+use lib.Seq.{take-append-seam, drop-append-add, split-at, set-split}
 use Rattle.lent_bytes.proofs.PartsInRow.{flatten-append}
-use Rattle.entries.specs.Entry.{statusOf, isSaved, lengthOf}
+use Rattle.entries.specs.Entry.{statusOf, isSaved}
 use Rattle.entries.specs.Numbering.{savedOf}
-use Rattle.entries.specs.Walk.{entriesOf, totalsOf, walkedTo, walkOf}
-use Rattle.entries.specs.declared.Totals.{Totals}
-use Rattle.entries.specs.declared.Walked.the-variants as walked
-use Rattle.entries.proofs.EntryLaws.{length-sized}
 use Rattle.amending.specs.Amending.{savedPlace, statusesOf}
 
 pub place-within : (es : List (List ℕ)) (j : ℕ) → j < length (savedOf es) → savedPlace (statusesOf es) j < length es
@@ -42,20 +34,6 @@ place-within (e ∷ es) (suc j) h = by (isSaved (statusOf e)) h (λ l. place-wit
         → cond b (suc (savedPlace (statusesOf es) j)) (suc (savedPlace (statusesOf es) (suc j))) < suc (length es)
     by true h r q = omega (arith, r (omega arith))
     by false h r q = omega (arith, q h)
-
-pub walk-joined : (s : List ℕ) {t : Totals} → walkOf s ≡ walked.Entries t → flatten (entriesOf s .pieces) ≡ s
-unfolding walkOf
-walk-joined s {t} e = by (entriesOf s .rest) refl e
-  where
-    by : (r : List ℕ) → entriesOf s .rest ≡ r → walkedTo (totalsOf (entriesOf s .pieces)) r ≡ walked.Entries t → flatten (entriesOf s .pieces) ≡ s
-    by [] none e =
-        sym (append-nil (flatten (entriesOf s .pieces))) ∙ ap (λ (l : List ℕ). flatten (entriesOf s .pieces) ++ l) (sym none) ∙ cut-joins lengthOf s
-    by (b ∷ r) some e = absurd (let z : _≡_ {A = ℕ} 0 1 = cc in omega arith)
-
-pub entries-low : (s : List ℕ) → All (λ e. 58 ≤ length e) (entriesOf s .pieces)
-entries-low =
-    cut-all lengthOf (λ e. 58 ≤ length e)
-    (λ s h k. let z = length-sized s k in omega (arith, z .1, length-take-le (lengthOf s) s (z .2)))
 
 pub part-of-entries : (es : List (List ℕ)) (k : ℕ)
     → take (length (getD es k [])) (drop (length (flatten (take k es))) (flatten es)) ≡ getD es k []

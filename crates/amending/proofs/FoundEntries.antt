@@ -23,7 +23,7 @@ use Rattle.md5.specs.Digest.{md5}
 use Rattle.entries.specs.Entry.{fileSizeOf}
 use Rattle.entries.specs.Numbering.{savedOf}
 use Rattle.entries.specs.Walk.{entriesOf}
-use Rattle.entries.proofs.WalkLaws.{walk-saved}
+use Rattle.entries.proofs.WalkLaws.{walk-saved, entries-long}
 use Rattle.parity.proofs.Changes.{length-stretched}
 use Rattle.parity.proofs.Files.{isFile-inside}
 use Rattle.par1.specs.Checking.{loneRefusal}
@@ -31,7 +31,7 @@ use Rattle.par1.proofs.CheckingLaws.{lone-tells}
 use Rattle.par1_read.specs.Reading.{entriesIn, readOf}
 use Rattle.par1_read.specs.declared.reading.Parts.{Parts}
 use Rattle.par1_read.specs.declared.reading.Reading.the-variants as reading
-use Rattle.par1_read.proofs.ReadingLaws.{partsOf, read-tells}
+use Rattle.par1_read.proofs.ReadingLaws.{partsOf, read-tells, list-joined}
 use Rattle.par1_rules.specs.Hashes.{setHash}
 use Rattle.par1_rules.specs.Layout.{volumeNumberOf, listSizeOf, dataSizeOf, listOf, dataOf}
 use Rattle.par1_rules.specs.Rules.{numberAllowed}
@@ -40,7 +40,7 @@ use Rattle.par1_rules.proofs.HashLaws.{length-md5, length-set-hash}
 use Rattle.amending.specs.Amending.{Change, placeIn, amendedList, amendedData, amendedSize, weightIn, amendedBody, amendVolume}
 use Rattle.amending.specs.Call.{changeAllowed, entryIn, fileAllowed}
 use Rattle.amending.proofs.ChangeTests.{change-told, change-length, stretch-place}
-use Rattle.amending.proofs.EntryPlaces.{place-within, walk-joined, entries-low, split-entries, set-joined}
+use Rattle.amending.proofs.EntryPlaces.{place-within, split-entries, set-joined}
 
 -- ---- an accepted volume
 
@@ -66,7 +66,7 @@ volume-read vol {p} e =
         total = total;
         list-length = length-take-le (listSizeOf vol) (drop 96 vol) (omega (arith, length-drop 96 vol));
         data-length = omega (arith, length-drop (96 + listSizeOf vol) vol);
-        joined = walk-joined (listOf vol) (tests .walk-is);
+        joined = list-joined vol tests;
         number-right = ap (numberAllowed (volumeNumberOf vol)) (sym saved) ∙ tests .totals .number-right;
       },
       told .parts-are,
@@ -91,7 +91,7 @@ found vol is f place old new d file-right lone change =
     let range = isFile-inside (length (savedOf es)) f (two .1) in
     let few = number-range (volumeNumberOf vol) (length (savedOf es)) low (is .number-right) in
     let within : placeIn es f < length es = place-within es (f - 1) (omega (arith, range .0, range .1)) in
-    let long : 58 ≤ length e = all-at [] (entries-low (listOf vol)) (placeIn es f) within in
+    let long : 58 ≤ length e = all-at [] (entries-long (listOf vol)) (placeIn es f) within in
     let told = change-told place old new e d change in
     let own = lone-tells d lone in
     record {

@@ -4,7 +4,7 @@
 --   accepted-most              an amended volume is no longer than a volume may be
 --   refused-most               a number of at most 21, and the place of an entry of 58 bytes or more in the room
 -- Assumes nothing.
-use mathlib.Core.Path.{_≡_, refl, ap}
+use mathlib.Core.Path.{_≡_, refl, subst}
 use mathlib.Core.Bool.{Bool, true, false, cond}
 use mathlib.Core.List.{List}
 use Prim.Native.Nat.{ℕ, zero, suc, _+_, _/_, _≤_}
@@ -17,10 +17,10 @@ use Rattle.codes.specs.declared.Code.{Code}
 use Rattle.refusals.specs.Limits.{maxVolumeLength}
 use Rattle.refusals.specs.Tests.{bare, test, orElse}
 use Rattle.refusals.specs.declared.Refusal.{Refusal}
+use Rattle.refusals.proofs.RangeLaws.{AtMost, most-more, bare-most}
 use Rattle.lent_bytes.specs.Writing.{refused, accepted, written, writtenUnless}
-use Rattle.lent_bytes.specs.declared.Writing.{Writing}
 use Rattle.lent_bytes.specs.declared.Writing.the-variants.{Written, Refused}
-use Rattle.lent_bytes.proofs.WritingLaws.{never, unless-tells}
+use Rattle.lent_bytes.proofs.WritingLaws.{never, unless-tells, not-refused, refused-tells}
 use Rattle.entries.specs.Entry.{entrySize}
 use Rattle.entries.specs.Walk.{firstOf}
 use Rattle.entries.specs.declared.Fault.the-variants.{Size, FileSize, Name}
@@ -30,8 +30,8 @@ use Rattle.par1.specs.Checking.{itemNumber, loneRefusal}
 use Rattle.par1_read.specs.Reading.{entriesIn, readOf}
 use Rattle.par1_read.specs.declared.reading.Reading.{Reading}
 use Rattle.par1_read.specs.declared.reading.Reading.the-variants as reading
-use Rattle.par1_read.proofs.RangeLaws.{refusal-within}
-use Rattle.par1_read.proofs.ReadingLaws.{refused-is, refused-some}
+use Rattle.par1_read.proofs.RangeLaws.{read-within}
+use Rattle.par1_read.proofs.ReadingLaws.{refused-some}
 use Rattle.par1_rules.specs.Rules.{lengthAllowed}
 use Rattle.amending.specs.Amending.{Change, amendVolume}
 use Rattle.amending.specs.Call.{changeAllowed, entryIn, fileAllowed, changeRefusal, amendRefusal, amendOf}
@@ -49,9 +49,8 @@ lone-most e = by (eqb (entrySize e) (length e)) (firstOf e)
     by true (item.Fault FileSize) = omega arith
     by true (item.Fault Name) = omega arith
 
-pub record Most (k : ℕ) (r : Refusal) : Type 0 where
-  pub number-most : r .number ≤ 21
-  pub place-most : r .place ≤ k
+abbrev Most : ℕ → Refusal → Type 0
+Most k r = AtMost 21 k r
 
 change-most : (k : ℕ) (a : Bool) (l : ℕ) (b y : Bool) → l ≤ 18 → Most k (orElse (test 10 a 0) (orElse l (bare (test 21 b (test 1 y 0)))))
 change-most k false l b y h = record { number-most = omega arith; place-most = omega arith }
@@ -63,12 +62,7 @@ change-most k true zero true true h = record { number-most = omega arith; place-
 module _ (rules : Code → ℕ → ℕ → ℕ) (c : Change) (d vol : List ℕ) where
   refusal-most : (q : Reading) → readOf vol ≡ q → Most (length vol / 58 + 1) (amendRefusal rules c d vol q)
   unfolding changeRefusal
-  refusal-most (reading.Refused r) e =
-      let w = refusal-within vol in
-      let same = refused-is vol e in
-      let number = ap (λ (r : Refusal). r .number) same in
-      let place = ap (λ (r : Refusal). r .place) same in
-      record { number-most = omega (arith, w .number-most); place-most = omega (arith, w .place-most) }
+  refusal-most (reading.Refused r) e = most-more (omega arith) (omega arith) (read-within vol e)
   refusal-most (reading.Accepted p) e =
       let was : List ℕ = entryIn (c .file) (entriesIn vol) in
       change-most (length vol / 58 + 1) (fileAllowed (c .file) vol) (loneRefusal d)
@@ -96,26 +90,14 @@ module _ (rules : Code → ℕ → ℕ → ℕ) (n : ℕ) (c : Change) (d out : 
   unfolding amendOf amendBy writtenUnless written
   refused-most {r} {t} e = by (leb n (length out)) refl e
     where
-      no-room : {s : List ℕ} → refused (bare 14) s ≡ (Refused r, t) → Most (length out / 58 + 1) r
-      no-room {s} e =
-          let answer : Refused (bare 14) ≡ Refused r = ap (λ (p : Writing × List ℕ). p .0) e in
-          let same : bare 14 ≡ r = cc in
-          let number = ap (λ (r : Refusal). r .number) same in
-          let place = ap (λ (r : Refusal). r .place) same in
-          record { number-most = omega arith; place-most = omega arith }
+      refused-by : {m : Refusal} {s : List ℕ} → Most (length out / 58 + 1) m → refused m s ≡ (Refused r, t) → Most (length out / 58 + 1) r
+      refused-by w e = subst (Most (length out / 58 + 1)) (refused-tells e .0) w
 
       tested : (m : Refusal) (s : List ℕ) → Most (length out / 58 + 1) m → (z f : Bool)
           → cond z (cond f (accepted s out) (refused (bare 14) out)) (refused m out) ≡ (Refused r, t) → Most (length out / 58 + 1) r
-      tested m s w true true e =
-          let answer : Written (length s) ≡ Refused r = ap (λ (p : Writing × List ℕ). p .0) e in
-          absurd (let z : _≡_ {A = ℕ} 0 1 = cc in omega arith)
-      tested m s w true false e = no-room e
-      tested m s w false f e =
-          let answer : Refused m ≡ Refused r = ap (λ (p : Writing × List ℕ). p .0) e in
-          let same : m ≡ r = cc in
-          let number = ap (λ (r : Refusal). r .number) same in
-          let place = ap (λ (r : Refusal). r .place) same in
-          record { number-most = omega (arith, w .number-most); place-most = omega (arith, w .place-most) }
+      tested m s w true true e = not-refused s out e
+      tested m s w true false e = refused-by (bare-most 21 _ 14 (omega arith)) e
+      tested m s w false f e = refused-by w e
 
       by : (b : Bool) → leb n (length out) ≡ b → amendBy rules n c d out b ≡ (Refused r, t) → Most (length out / 58 + 1) r
       by true l e =
@@ -124,7 +106,5 @@ module _ (rules : Code → ℕ → ℕ → ℕ) (n : ℕ) (c : Change) (d out : 
           let h = leb-true n (length out) l in
           let m : Refusal = amendRefusal rules c d vol (readOf vol) in
           let s : List ℕ = amendVolume rules c d vol in
-          let w = refusal-most rules c d vol (readOf vol) refl in
-          let more : Most (length out / 58 + 1) m = record { number-most = w .number-most; place-most = omega (arith, w .place-most) } in
-          tested m s more (eqb (m .number) 0) (leb (length s) (length out)) e
-      by false l e = no-room e
+          tested m s (most-more (omega arith) (omega arith) (refusal-most rules c d vol (readOf vol) refl)) (eqb (m .number) 0) (leb (length s) (length out)) e
+      by false l e = refused-by (bare-most 21 _ 14 (omega arith)) e

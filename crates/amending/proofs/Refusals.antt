@@ -4,14 +4,14 @@
 --   amend-is         what the call gives, where its length does not pass the room
 --   amend-read       where the volume is read, too
 --   first-fails, first-of     what a test that fails gives; one fails, or the call is accepted
---   amend-refused    the first refusal, in the document's order
---   refused-only     and no other
+--   amend-first      the same of all tests
+--   amend-refused    the first refusal, in the document's order, and no other
 --   amendBy          what the call gives, by whether its length passes the room
---   refused-same, room-kept     what a refused and an accepted call leave of the room
+--   room-kept        what an accepted call leaves of the room
 --   ChangePassed, change-passed     what the tests after those of reading, passed, tell
 -- A test is passed where it does not hold.
 -- Assumes nothing.
-use mathlib.Core.Path.{_≡_, refl, sym, ap, ap₂, _∙_, subst}
+use mathlib.Core.Path.{_≡_, refl, sym, ap, ap₂, _∙_}
 use mathlib.Core.Bool.{Bool, true, false, cond}
 use mathlib.Core.List.{List}
 use Prim.Native.Nat.{ℕ, zero, suc, _≤_, _<_}
@@ -22,10 +22,10 @@ use lib.ListN.{length, take, drop, length-append, length-drop}
 use lib.Seq.{drop-append-seam}
 use borrow.Author.Tests.{le-leb, lt-leb}
 use Rattle.codes.specs.declared.Code.{Code}
-use Rattle.lent_bytes.specs.Writing.{refused, accepted, writtenUnless, writingRefusal}
+use Rattle.lent_bytes.specs.Writing.{refused, accepted, writtenUnless}
 use Rattle.lent_bytes.specs.declared.Writing.{Writing}
 use Rattle.lent_bytes.specs.declared.Writing.the-variants.{Written, Refused}
-use Rattle.lent_bytes.proofs.WritingLaws.{written-short, unless-none, unless-refused, unless-accepted, unless-tells, unless-same, never}
+use Rattle.lent_bytes.proofs.WritingLaws.{written-short, unless-none, unless-refused, unless-accepted, unless-tells, never, refused-exactly}
 use Rattle.par1.specs.Checking.{loneRefusal}
 use Rattle.par1_read.specs.Reading.{entriesIn, readOf}
 use Rattle.par1_read.specs.declared.reading.Parts.{Parts}
@@ -33,6 +33,7 @@ use Rattle.par1_read.specs.declared.reading.Reading.{Reading}
 use Rattle.par1_read.specs.declared.reading.Reading.the-variants as reading
 use Rattle.par1_read.proofs.ReadingLaws.{refused-some}
 use Rattle.par1_rules.specs.Rules.{lengthAllowed}
+use Rattle.par1.proofs.FailedTests.{Decides, passes, fails, fails-where, passes-where}
 use Rattle.par1_rules.proofs.RuleLaws.{Between, between, long-enough, too-long}
 use Rattle.refusals.specs.Limits.{maxVolumeLength}
 use Rattle.refusals.specs.Tests.{bare, test}
@@ -41,9 +42,8 @@ use Rattle.refusals.proofs.TestLaws.{test-passed, or-none}
 use Rattle.amending.specs.Amending.{Change, amendVolume}
 use Rattle.amending.specs.Call.{changeAllowed, entryIn, fileAllowed, changeRefusal, amendRefusal, amendOf}
 use Rattle.amending.specs.Claim as claim
-use Rattle.amending.specs.Claim.{AmendRefused, RefusedOnly, RoomKept}
-use Rattle.amending.proofs.FailedTests.{missing-told, missing-not, missing-fails, file-passes}
-use Rattle.amending.proofs.FailedTests.{wrong-told, wrong-not, wrong-fails, right-passes}
+use Rattle.amending.specs.Claim.{AmendRefused, RoomKept}
+use Rattle.amending.proofs.FailedTests.{missing-decides, wrong-decides}
 use Rattle.amending.proofs.FoundEntries.{Read, volume-read, found, length-amended}
 
 -- ---- the tests after those of reading
@@ -93,19 +93,27 @@ module _ (rules : Code → ℕ → ℕ → ℕ) (c : Change) (d vol out : List �
       let at = found vol read (c .file) (c .place) (length (c .old)) (length (c .new)) d f l s in
       let size = length-amended vol read c d at rules in omega arith
 
+  abbrev was : List ℕ
+  was = entryIn (c .file) (entriesIn vol)
+
+  -- the file is there, and the change is right
+  file-passes : (claim.NoSuchFile (c .file) vol → ⊥) → fileAllowed (c .file) vol ≡ true
+  file-passes = passes-where (missing-decides (c .file) vol)
+
+  right-passes : (claim.WrongChange c was d → ⊥) → changeAllowed (c .place) (length (c .old)) (length (c .new)) was d ≡ true
+  right-passes = passes-where (wrong-decides c was d)
+
   first-fails : {k : ℕ} → claim.Fails rules c d vol out k
       → writtenUnless (changeRefusal rules c d vol) (amendVolume rules c d vol) out ≡ refused (bare k) out
   unfolding changeRefusal
-  first-fails (claim.no-file f) = number-refused 10 (simp (missing-fails (c .file) vol f)) (λ z. omega arith)
-  first-fails (claim.bad-entry {k} f l) = number-refused _ (simp (file-passes (c .file) vol f, l)) (λ z. omega arith)
-  first-fails (claim.bad-change f l s) =
-      number-refused 21 (simp (file-passes (c .file) vol f, l, wrong-fails c (entryIn (c .file) (entriesIn vol)) d s)) (λ z. omega arith)
+  first-fails (claim.no-file f) = number-refused 10 (simp (fails-where (missing-decides (c .file) vol) f)) (λ z. omega arith)
+  first-fails (claim.bad-entry {k} f l) = number-refused _ (simp (file-passes f, l)) (λ z. omega arith)
+  first-fails (claim.bad-change f l s) = number-refused 21 (simp (file-passes f, l, fails-where (wrong-decides c was d) s)) (λ z. omega arith)
   first-fails (claim.too-long f l s h) =
-      let change = right-passes c (entryIn (c .file) (entriesIn vol)) d s in
-      number-refused 1 (simp (file-passes (c .file) vol f, l, change, too-long (length (amendVolume rules c d vol)) h)) (λ z. omega arith)
+      number-refused 1 (simp (file-passes f, l, right-passes s, too-long (length (amendVolume rules c d vol)) h)) (λ z. omega arith)
   first-fails (claim.no-room f l s high h) =
-      let file = file-passes (c .file) vol f in
-      let change = right-passes c (entryIn (c .file) (entriesIn vol)) d s in
+      let file = file-passes f in
+      let change = right-passes s in
       let none = change-none rules c d vol file l change (record { low = total-low file l change; high = high }) in
       sym (unless-none (amendVolume rules c d vol) out (sym none) refl (written-short (amendVolume rules c d vol) out h))
 
@@ -113,60 +121,46 @@ module _ (rules : Code → ℕ → ℕ → ℕ) (c : Change) (d vol out : List �
   first-of : (P : Type 0) → ((k : ℕ) → claim.Fails rules c d vol out k → P)
       → (writtenUnless (changeRefusal rules c d vol) (amendVolume rules c d vol) out ≡ accepted (amendVolume rules c d vol) out → P) → P
   first-of P some none =
-      by (fileAllowed (c .file) vol) (loneRefusal d)
-      (changeAllowed (c .place) (length (c .old)) (length (c .new)) (entryIn (c .file) (entriesIn vol)) d) refl refl refl
+      by (missing-decides (c .file) vol) (loneRefusal d) (wrong-decides c was d) refl
+      (decLt maxVolumeLength (length (amendVolume rules c d vol))) (decLt (length out) (length (amendVolume rules c d vol)))
     where
-      sized : fileAllowed (c .file) vol ≡ true → loneRefusal d ≡ 0
-          → changeAllowed (c .place) (length (c .old)) (length (c .new)) (entryIn (c .file) (entriesIn vol)) d ≡ true
+      by : Decides (fileAllowed (c .file) vol) (claim.NoSuchFile (c .file) vol) → (k : ℕ)
+          → Decides (changeAllowed (c .place) (length (c .old)) (length (c .new)) was d) (claim.WrongChange c was d) → loneRefusal d ≡ k
           → Dec (maxVolumeLength < length (amendVolume rules c d vol)) → Dec (length out < length (amendVolume rules c d vol)) → P
-      sized f l s (yes h) room =
-          some 1 (claim.too-long (missing-not (c .file) vol f) l (wrong-not c (entryIn (c .file) (entriesIn vol)) d s) h)
-      sized f l s (no h) (yes k) =
-          some 14 (claim.no-room (missing-not (c .file) vol f) l (wrong-not c (entryIn (c .file) (entriesIn vol)) d s) (omega arith) k)
-      sized f l s (no h) (no k) =
-          let passed = change-none rules c d vol f l s (record { low = total-low f l s; high = omega arith }) in
-          let fits : length (amendVolume rules c d vol) ≤ length out = omega arith in
-          none (unless-accepted (changeRefusal rules c d vol) (amendVolume rules c d vol) out (ap (λ (r : Refusal). r .number) passed) fits)
+      by (fails p f) k t l long room = some 10 (claim.no-file f)
+      by (passes p f) (suc k) t l long room = some (suc k) (claim.bad-entry f l)
+      by (passes p f) zero (fails q s) l long room = some 21 (claim.bad-change f l s)
+      by (passes p f) zero (passes q s) l (yes h) room = some 1 (claim.too-long f l s h)
+      by (passes p f) zero (passes q s) l (no h) (yes k) = some 14 (claim.no-room f l s (omega arith) k)
+      by (passes p f) zero (passes q s) l (no h) (no k) =
+          let passed = change-none rules c d vol p l q (record { low = total-low p l q; high = omega arith }) in
+          let room : length (amendVolume rules c d vol) ≤ length out = omega arith in
+          none (unless-accepted (changeRefusal rules c d vol) (amendVolume rules c d vol) out (ap (λ (r : Refusal). r .number) passed) room)
 
-      by : (b : Bool) (k : ℕ) (t : Bool) → fileAllowed (c .file) vol ≡ b → loneRefusal d ≡ k
-          → changeAllowed (c .place) (length (c .old)) (length (c .new)) (entryIn (c .file) (entriesIn vol)) d ≡ t → P
-      by false k t f l s = some 10 (claim.no-file (missing-told (c .file) vol f))
-      by true (suc k) t f l s = some (suc k) (claim.bad-entry (missing-not (c .file) vol f) l)
-      by true zero false f l s =
-          some 21 (claim.bad-change (missing-not (c .file) vol f) l (wrong-told c (entryIn (c .file) (entriesIn vol)) d s))
-      by true zero true f l s =
-          sized f l s (decLt maxVolumeLength (length (amendVolume rules c d vol))) (decLt (length out) (length (amendVolume rules c d vol)))
+module _ (rules : Code → ℕ → ℕ → ℕ) (n : ℕ) (c : Change) (d out : List ℕ) where
+  amend-refuses : {r : Refusal} → claim.Refuses rules n c d out r → amendOf rules n c d out ≡ refused r out
+  amend-refuses (claim.past-room h) = amend-past rules n c d out h
+  amend-refuses (claim.unread h e) = amend-unread rules n c d out h refl e
+  amend-refuses (claim.fails h e f) = amend-read rules n c d out h refl e ∙ first-fails rules c d (take n out) out (volume-read (take n out) e .0) f
+
+  -- one of the tests fails, or the call is accepted
+  amend-first : (P : Type 0) → ((r : Refusal) → claim.Refuses rules n c d out r → P)
+      → (amendOf rules n c d out ≡ accepted (amendVolume rules c d (take n out)) out → P) → P
+  amend-first P some none = elim (decLt (length out) n) [
+    | yes h ↦ some _ (claim.past-room h)
+    | no h ↦ by (omega arith) (readOf (take n out)) refl
+  ]
+    where
+      by : n ≤ length out → (k : Reading) → readOf (take n out) ≡ k → P
+      by h (reading.Refused q) is = some _ (claim.unread h is)
+      by h (reading.Accepted p) is =
+          first-of rules c d (take n out) out (volume-read (take n out) is .0) P (λ k f. some _ (claim.fails h is f))
+          (λ passed. none (amend-read rules n c d out h refl is ∙ passed))
 
 pub amend-refused : AmendRefused
-amend-refused rules n c d out r (claim.past-room h) = amend-past rules n c d out h
-amend-refused rules n c d out r (claim.unread h e) = amend-unread rules n c d out h refl e
-amend-refused rules n c d out r (claim.fails h e f) =
-    amend-read rules n c d out h refl e ∙ first-fails rules c d (take n out) out (volume-read (take n out) e .0) f
-
-refused-is : {q r : Refusal} {out room : List ℕ} → refused q out ≡ (Refused r, room) → q ≡ r
-refused-is e = ap (λ (p : Writing × List ℕ). writingRefusal (p .0)) e
-
-accepted-not : (s out : List ℕ) {room : List ℕ} {r : Refusal} → accepted s out ≡ (Refused r, room) → ⊥
-accepted-not s out {room} {r} e =
-    let answer : Written (length s) ≡ Refused r = ap (λ (p : Writing × List ℕ). p .0) e in
-    let z : _≡_ {A = ℕ} 0 1 = cc in omega arith
-
-module _ (rules : Code → ℕ → ℕ → ℕ) (n : ℕ) (c : Change) (d out : List ℕ) {r : Refusal} {room : List ℕ} (e : amendOf rules n c d out ≡ (Refused r, room)) where
-  refuses-read : n ≤ length out → (k : Reading) → readOf (take n out) ≡ k → claim.Refuses rules n c d out r
-  refuses-read h (reading.Refused q) is =
-      subst (claim.Refuses rules n c d out) (refused-is (sym (amend-unread rules n c d out h refl is) ∙ e)) (claim.unread h is)
-  refuses-read h (reading.Accepted p) is =
-      let vol : List ℕ = take n out in
-      let read = volume-read vol is .0 in
-      let gives : writtenUnless (changeRefusal rules c d vol) (amendVolume rules c d vol) out ≡ (Refused r, room) =
-      sym (amend-read rules n c d out h refl is) ∙ e in
-      first-of rules c d vol out read (claim.Refuses rules n c d out r)
-      (λ k f. subst (claim.Refuses rules n c d out) (refused-is (sym (first-fails rules c d vol out read f) ∙ gives)) (claim.fails h is f))
-      (λ passed. absurd (accepted-not (amendVolume rules c d vol) out (sym passed ∙ gives)))
-
-  refuses-by : Dec (length out < n) → claim.Refuses rules n c d out r
-  refuses-by (yes h) = subst (claim.Refuses rules n c d out) (refused-is (sym (amend-past rules n c d out h) ∙ e)) (claim.past-room h)
-  refuses-by (no h) = refuses-read (omega arith) (readOf (take n out)) refl
+amend-refused rules n c d out =
+    refused-exactly (claim.Refuses rules n c d out) (amendVolume rules c d (take n out)) out (λ r f. amend-refuses rules n c d out f)
+    (amend-first rules n c d out)
 
 -- ---- the room
 
@@ -176,14 +170,6 @@ module _ (rules : Code → ℕ → ℕ → ℕ) (n : ℕ) (c : Change) (d out : 
   amendBy b =
       let vol : List ℕ = take n out in
       cond b (writtenUnless (amendRefusal rules c d vol (readOf vol)) (amendVolume rules c d vol) out) (refused (bare 14) out)
-
-  pub refused-same : {r : Refusal} {room : List ℕ} → amendOf rules n c d out ≡ (Refused r, room) → room ≡ out
-  unfolding amendOf amendBy
-  refused-same {r} {room} e = by (leb n (length out)) e
-    where
-      by : (b : Bool) → amendBy b ≡ (Refused r, room) → room ≡ out
-      by true e = unless-same _ (amendVolume rules c d (take n out)) out e
-      by false e = sym (ap (λ (p : Writing × List ℕ). p .1) e)
 
   written-kept : {k : ℕ} {room : List ℕ} → amendOf rules n c d out ≡ (Written k, room) → (length room ≡ length out) × (drop k room ≡ drop k out)
   unfolding amendOf amendBy
@@ -204,9 +190,6 @@ module _ (rules : Code → ℕ → ℕ → ℕ) (n : ℕ) (c : Change) (d out : 
 
 pub room-kept : RoomKept
 room-kept rules n c d out k room e = written-kept rules n c d out e
-
-pub refused-only : RefusedOnly
-refused-only rules n c d out r room e = (refuses-by rules n c d out e (decLt (length out) n), refused-same rules n c d out e)
 
 -- ---- what the tests after those of reading tell
 

@@ -14,8 +14,7 @@
 --   NoSuchFile f vol       10: the volume vol has no file f, or is an index
 --   WrongChange c e d      21: the change c of the file with the entry e, which is then d
 --   Fails, Refuses         which refusal is the first, in the document's order
---   AmendRefused           the call gives it, and no byte of the room changes
---   RefusedOnly            and nothing else is refused: of the new entry no hash is verified
+--   AmendRefused           the call gives it, and no byte of the room changes; and nothing else is refused: of the new entry no hash is verified
 --   RoomKept               an accepted call leaves the room past the new length
 -- What excludes an empty reading: a volume that is refused is no volume of files that keep the rules, a change that may be made is made
 -- (`AmendAccepted`), and there are changes of both kinds that may be made (proofs/Examples.antt).
@@ -29,7 +28,7 @@ use lib.ListN.{length, take, drop, getD}
 use Rattle.refusals.specs.Limits.{maxVolumeLength}
 use Rattle.refusals.specs.Tests.{bare}
 use Rattle.refusals.specs.declared.Refusal.{Refusal}
-use Rattle.lent_bytes.specs.Writing.{refused, accepted}
+use Rattle.lent_bytes.specs.Writing.{accepted, RefusedExactly}
 use Rattle.lent_bytes.specs.declared.Writing.the-variants.{Written, Refused}
 use Rattle.codes.specs.declared.Code.{Code}
 use Rattle.entries.specs.Entry.{statusOf, fileSizeOf, nameOf, fileSizeAllowed}
@@ -163,13 +162,7 @@ pub data Refuses (rules : Code → ℕ → ℕ → ℕ) (n : ℕ) (c : Change) (
 -- proved: proofs/Refusals.antt, `amend-refused`
 abbrev pub AmendRefused : Type 0
 AmendRefused =
-    (rules : Code → ℕ → ℕ → ℕ) (n : ℕ) (c : Change) (d out : List ℕ) (r : Refusal) → Refuses rules n c d out r → amendOf rules n c d out ≡ refused r out
-
--- proved: proofs/Refusals.antt, `refused-only`
-abbrev pub RefusedOnly : Type 0
-RefusedOnly =
-    (rules : Code → ℕ → ℕ → ℕ) (n : ℕ) (c : Change) (d out : List ℕ) (r : Refusal) (room : List ℕ) → amendOf rules n c d out ≡ (Refused r, room)
-    → Refuses rules n c d out r × (room ≡ out)
+    (rules : Code → ℕ → ℕ → ℕ) (n : ℕ) (c : Change) (d out : List ℕ) → RefusedExactly (Refuses rules n c d out) (amendOf rules n c d out) out
 
 -- proved: proofs/Refusals.antt, `room-kept`
 abbrev pub RoomKept : Type 0

@@ -1,9 +1,8 @@
 // The tests of an amendment (document 02, 2026-05), all before a byte is written, and what it is to change.
 ghost use mathlib.Core.Path.{_≡_};
-ghost use Prim.Native.Nat.{_+_, _-_, max};
+ghost use Prim.Native.Nat.{_+_, _-_};
 ghost use mathlib.Core.Bool.{_&&_};
 ghost use lib.Dec.{leb, eqb};
-ghost use Rattle.entries.specs.Entry.{nameOf};
 ghost use Rattle.parity.specs.Coefficient.{ruleOf};
 ghost use Rattle.parity.specs.Parity.{isFile};
 ghost use Rattle.par1_read.specs.Reading.{readOf};
@@ -99,7 +98,7 @@ fn sized_plan(parts: Parts, from: usize, file: u64, place: u64, size: u64) -> Pl
     ensures { λ r. ⌜ r ≡ sizedPlan ruleOf parts from file place size ⌝ }
 {
     let list_size = parts.list_size as usize;
-    let data_size = greater(parts.data_size, size);
+    let data_size = entries::greater(parts.data_size, size);
     let data_start = layout::HEADER_LENGTH + list_size;
     if refusals::MAX_VOLUME_LENGTH - data_start < data_size as usize {
         return Planned::Refused(bare(refusals::SIZE));
@@ -160,7 +159,7 @@ fn change_allowed(place: u64, old: u64, new: u64, was: &[u8], entry: &[u8]) -> b
     if !stretch_allowed(size, place, old, new) {
         return false;
     }
-    if !lent_bytes::same(name_of(entry), name_of(was)) {
+    if !lent_bytes::same(layout::name_of(entry), layout::name_of(was)) {
         return false;
     }
     if little_endian::read64(entry, entries::STATUS_AT)
@@ -205,39 +204,18 @@ fn is_inside(size: u64, place: u64, old: u64, new: u64) -> bool
     true
 }
 
-// The bytes of the name of an entry.
-fn name_of(entry: &[u8]) -> &[u8]
-    ensures { λ r. ⌜ now r ≡ nameOf (now (entry .entry)) ⌝ }
-{
-    layout::part(entry, entries::NAME_AT, entry.len())
-}
-
 // Whether a file of `size` bytes has `grown` bytes after `new` bytes took the place of `old`.
 fn is_grown(grown: u64, size: u64, old: u64, new: u64) -> bool
     ensures { λ r. ⌜ r ≡ eqb grown (size + (new - old)) ⌝ }
 {
+    if new < old {
+        return grown == size;
+    }
     if grown < size {
         return false;
     }
-    if grown - size != less(new, old) {
+    if grown - size != new - old {
         return false;
     }
     true
-}
-
-// How much `a` is more than `b`; 0 where it is not.
-fn less(a: u64, b: u64) -> u64
-    ensures { λ r. ⌜ r ≡ a - b ⌝ }
-{
-    if a < b {
-        return 0;
-    }
-    a - b
-}
-
-// The greater of two sizes.
-fn greater(a: u64, b: u64) -> u64
-    ensures { λ r. ⌜ r ≡ max a b ⌝ }
-{
-    if a < b { b } else { a }
 }

@@ -26,7 +26,7 @@ use Rattle.lent_bytes.specs.Equal.{equal}
 use Rattle.little_endian.specs.Bytes.{Bytes, fromLe, toLe, leAt}
 use Rattle.little_endian.proofs.Numbers.{length-toLe, bytes-take, bytes-drop, bytes-append}
 use Rattle.little_endian.proofs.Reading.{to-leAt}
-use Rattle.entries.specs.Entry.{statusOf, fileSizeOf, md5Of, isSaved, savedCount, isCounted, nameAllowed, eachUnit, unitAllowed, isDots, unitsOf, fileSizeAllowed, lengthOf}
+use Rattle.entries.specs.Entry.{statusOf, fileSizeOf, md5Of, isSaved, savedCount, isCounted, nameAllowed, unitAllowed, isDots, unitsOf, fileSizeAllowed, lengthOf}
 use Rattle.entries.specs.Numbering.{savedOf}
 use Rattle.entries.specs.Walk.{entriesOf, greatestOf, totalsOf, walkedTo, walkOf}
 use Rattle.entries.specs.declared.Walked.the-variants as walked
@@ -94,7 +94,7 @@ abbrev SizeRight : List ℕ → Type 0
 SizeRight r = fileSizeAllowed (sizeOf r) ≡ true
 
 made : (r : List ℕ) → SizeRight r → Made r
-unfolding madeEntry nameAllowed eachUnit unitAllowed isDots equal unitsOf leAt fromLe
+unfolding madeEntry nameAllowed unitAllowed isDots equal unitsOf leAt fromLe
 made r h = let m : List ℕ = replicate (sizeOf r) 0 in
     let back : EntryBack (entryBytes m (madeStatus r) oneName) m (madeStatus r) oneName =
     entry-back m (madeStatus r) oneName

@@ -45,7 +45,6 @@ module _ {e g : List ℕ} (a : EntryAlike e g) where
   answer-same (l ∷ ls) = simp (named-same l, md5-same a, answer-same ls)
 
 fitting-same : {es gs : List (List ℕ)} → Pairs EntryAlike es gs → allFitting es ≡ allFitting gs
-unfolding allFitting
 fitting-same pairs-none = refl
 fitting-same (pairs-more a ps) = ap₂ _&&_ (fits-same a) (fitting-same ps)
 

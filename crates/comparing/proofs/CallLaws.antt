@@ -3,7 +3,7 @@
 --   comparison-refused    the first file is refused
 --   comparison-refused-2  the second file alone is
 --   comparison-accepted   neither is
---   list-part, data-part  list and data of an accepted file, as code takes them
+--   data-part             the data of an accepted file, as code takes it
 --   fit-none              a text that was measured as empty is written by writing nothing
 -- Assumes nothing.
 use mathlib.Core.Path.{_≡_, refl, sym, ap, ap₂, _∙_}
@@ -16,7 +16,7 @@ use Rattle.lent_bytes.specs.Writing.{written}
 use Rattle.lent_bytes.specs.declared.Writing.the-variants.{Written}
 use Rattle.lent_bytes.proofs.WritingLaws.{written-fits}
 use Rattle.refusals.specs.declared.Refusal.{Refusal}
-use Rattle.par1_rules.specs.Layout.{listSizeOf, listOf, dataOf}
+use Rattle.par1_rules.specs.Layout.{listSizeOf, dataOf}
 use Rattle.par1_read.specs.Reading.{entriesIn, readOf}
 use Rattle.par1_read.specs.declared.reading.Parts.{Parts}
 use Rattle.par1_read.specs.declared.reading.Reading.{Reading}
@@ -53,16 +53,12 @@ module _ (f g : List ℕ) where
       comparison-by e d ∙ text-append (headLines f g) _
       ∙ ap (λ (t : List ℕ). textOf (headLines f g) ++ t) (text-append (entryLines 1 (entriesIn f) (entriesIn g)) _)
 
-module _ (f : List ℕ) {p : Parts} (e : readOf f ≡ Accepted p) where
-  pub list-part : take (p .«list_size») (drop 96 f) ≡ listOf f
-  list-part = ap (λ (p : Parts). take (p .«list_size») (drop 96 f)) (read-tells f p e .parts-are)
-
-  pub data-part : take (length f) (drop (p .«data_start») f) ≡ dataOf f
-  data-part =
-      let told = read-tells f p e in
-      let start : p .«data_start» ≡ 96 + listSizeOf f =
-      ap (λ (p : Parts). p .«data_start») (told .parts-are) ∙ told .tests .header .layout .data-start in
-      ap (λ (i : ℕ). take (length f) (drop i f)) start ∙ take-all (length f) (dataOf f) (omega (arith, length-drop (96 + listSizeOf f) f))
+pub data-part : (f : List ℕ) {p : Parts} → readOf f ≡ Accepted p → take (length f) (drop (p .«data_start») f) ≡ dataOf f
+data-part f {p} e =
+    let told = read-tells f p e in
+    let start : p .«data_start» ≡ 96 + listSizeOf f =
+    ap (λ (p : Parts). p .«data_start») (told .parts-are) ∙ told .tests .header .layout .data-start in
+    ap (λ (i : ℕ). take (length f) (drop i f)) start ∙ take-all (length f) (dataOf f) (omega (arith, length-drop (96 + listSizeOf f) f))
 
 empty : (t : List ℕ) → length t ≡ 0 → t ≡ []
 empty [] e = refl

@@ -2,7 +2,6 @@
 --
 --   Read f, read-is       what holds of an accepted file's header and data
 --   number-differs        a number differs exactly where its bytes do
---   entries-right         the entries of a list of bytes are bytes, each long enough
 --   head-named, entry-named, all-named, data-named     the claims
 -- Assumes nothing.
 use mathlib.Core.Path.{_≡_, refl, sym, ap, _∙_, subst}
@@ -11,20 +10,17 @@ use mathlib.Core.List.{List, [], List·Memᴰ, Memᴰ·map, Memᴰ·of-map, Mem�
 use mathlib.Core.Logic.{_⊎_, _↔_, inl, inr, ⊎-elim}
 use Prim.Native.Nat.{ℕ, _+_, _-_, _≤_, _<_, max}
 use native.Mathlib.Omega.{arith}
-use lib.ListN.{length, take, drop, getD, length-drop}
-use lib.Seq.{getD-drop, length-take-le}
-use Rattle.cut_lists.specs.All.{All, all-none, all-more}
+use lib.ListN.{length, take, drop, getD}
+use lib.Seq.{getD-drop}
+use Rattle.cut_lists.specs.All.{All}
 use Rattle.cut_lists.proofs.AllLaws.{all-at}
-use Rattle.cut_lists.proofs.CutLaws.{cut-induct}
 use Rattle.little_endian.specs.Bytes.{Bytes, fromLe, toLe, leAt}
 use Rattle.little_endian.proofs.Numbers.{bytes-take, bytes-drop}
 use Rattle.little_endian.proofs.Reading.{to-leAt}
-use Rattle.entries.specs.Entry.{lengthOf}
-use Rattle.entries.specs.Walk.{entriesOf}
-use Rattle.entries.proofs.EntryLaws.{length-sized}
+use Rattle.entries.proofs.EntryBytes.{IsEntryBytes, entries-bytes}
 use Rattle.par1_rules.specs.Layout.{listSizeOf, dataSizeOf, listOf, dataOf}
 use Rattle.par1_read.specs.Reading.{entriesIn}
-use Rattle.par1_read.proofs.ReadingLaws.{read-tells}
+use Rattle.par1_read.proofs.ReadingLaws.{read-tells, data-length}
 use Rattle.comparing.specs.Claim.{IsAccepted, Compared, HeadDiffers, entryAt, EntryDiffers, OnlyOne, byteAt, InRun, HeadNamed, EntryNamed, AllNamed, DataNamed}
 use Rattle.comparing.specs.Lines.{HeadField, version-field, program-field, control-field, set-field, number-field}
 use Rattle.comparing.specs.Lines.{files-field, list-field, start-field, data-field}
@@ -94,22 +90,8 @@ head-named f g c h =
 
 -- ---- the lists
 
--- the bytes e are those of an entry
-pub record IsEntryBytes (e : List ℕ) : Type 0 where
-  pub bytes : Bytes e
-  pub low : 58 ≤ length e
-
-pub entries-right : (s : List ℕ) → Bytes s → All IsEntryBytes (entriesOf s .pieces)
-entries-right =
-    cut-induct lengthOf (λ s c. Bytes s → All IsEntryBytes (c .pieces)) (λ b. all-none) (λ s e b. all-none)
-    (λ s h k more b.
-    let sized = length-sized s k in
-    all-more
-    (record { bytes = bytes-take (lengthOf s) s b; low = omega (arith, sized .1, length-take-le (lengthOf s) s (sized .2)) })
-    (more (bytes-drop (lengthOf s) s b)))
-
 pub list-right : (f : List ℕ) → Bytes f → All IsEntryBytes (entriesIn f)
-list-right f b = entries-right (listOf f) (bytes-take (listSizeOf f) (drop 96 f) (bytes-drop 96 f b))
+list-right f b = entries-bytes (listOf f) (bytes-take (listSizeOf f) (drop 96 f) (bytes-drop 96 f b))
 
 entry-differs : (x y : List ℕ) → IsEntryBytes x → IsEntryBytes y → (e : EntryField)
     → (entryBytes e x ≡ entryBytes e y → ⊥) ↔ EntryDiffers e x y
@@ -161,10 +143,8 @@ all-named f g c p =
 -- ---- the data
 
 module _ (f : List ℕ) (a : IsAccepted f) where
-  pub data-length : length (dataOf f) ≡ dataSizeOf f
-  data-length =
-      let laid = read-tells f (a .0) (a .1) .tests .header .layout in
-      omega (arith, length-drop (96 + listSizeOf f) f, laid .data-start, laid .data-end)
+  pub data-size : length (dataOf f) ≡ dataSizeOf f
+  data-size = data-length f (read-tells f (a .0) (a .1) .tests)
 
   pub data-byte : (p : ℕ) → getD (dataOf f) p 0 ≡ byteAt f p
   data-byte p =
@@ -224,9 +204,9 @@ data-named f g c p =
       λ i.
           let runs : InRun p (runLines (dataOf f) (dataOf g)) =
           record { first = i .first; last = i .last; listed = in-data f g a b refl .0 (i .listed); from = i .from; to = i .to } in
-          renamed p (data-length f a) (data-length g b) (data-byte f a p) (data-byte g b p) (places .0 runs),
+          renamed p (data-size f a) (data-size g b) (data-byte f a p) (data-byte g b p) (places .0 runs),
       λ d.
           let i =
-          places .1 (renamed p (sym (data-length f a)) (sym (data-length g b)) (sym (data-byte f a p)) (sym (data-byte g b p)) d) in
+          places .1 (renamed p (sym (data-size f a)) (sym (data-size g b)) (sym (data-byte f a p)) (sym (data-byte g b p)) d) in
           record { first = i .first; last = i .last; listed = in-data f g a b refl .1 (i .listed); from = i .from; to = i .to },
     )

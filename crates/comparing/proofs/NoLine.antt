@@ -7,7 +7,7 @@
 -- Assumes nothing.
 use mathlib.Core.Path.{_≡_, refl, sym, ap, ap₂, _∙_, subst}
 use mathlib.Core.Bool.{Bool, true, false}
-use mathlib.Core.List.{List, [], _∷_, _++_, append-nil, flatten, List·Memᴰ, List·Memᴰ·not-nil}
+use mathlib.Core.List.{List, [], _∷_, _++_, flatten, List·Memᴰ, List·Memᴰ·not-nil}
 use mathlib.Core.Logic.{_⊎_, inl, inr, ⊎-elim}
 use Prim.Native.Nat.{ℕ, _+_, _-_, _≤_, _<_}
 use native.Mathlib.Omega.{arith}
@@ -15,18 +15,13 @@ use lib.Dec.{eqb}
 use lib.ListN.{length, take, drop, getD, length-append}
 use lib.Seq.{ext-getD}
 use borrow.Author.Tests.{eqb-true, eqb-false}
-use Rattle.cut_lists.proofs.CutLaws.{cut-joins}
 use Rattle.lent_bytes.specs.Equal.{equal}
 use Rattle.lent_bytes.proofs.EqualLaws.{equal-true, equal-same}
 use Rattle.lent_bytes.proofs.PartLaws.{split}
-use Rattle.entries.specs.Entry.{lengthOf}
-use Rattle.entries.specs.Walk.{entriesOf, totalsOf, walkedTo, walkOf}
-use Rattle.entries.specs.declared.Totals.{Totals}
-use Rattle.entries.specs.declared.Walked.the-variants as walked
 use Rattle.par1_rules.specs.Layout.{versionOf, programOf, volumeNumberOf, dataSizeOf, listOf, dataOf}
 use Rattle.par1_rules.specs.Rules.{codeIn}
 use Rattle.par1_read.specs.Reading.{entriesIn}
-use Rattle.par1_read.proofs.ReadingLaws.{Passed, read-tells}
+use Rattle.par1_read.proofs.ReadingLaws.{read-tells, list-joined}
 use Rattle.par1_write.specs.VolumeWriting.{volumeBytes}
 use Rattle.par1.proofs.WrittenRead.{volume-again}
 use Rattle.comparing.specs.Claim.{IsAccepted, RefusedWith, Compared, HeadDiffers, entryAt, EntryDiffers, byteAt, DataDiffers, NoLine}
@@ -38,7 +33,7 @@ use Rattle.comparing.specs.Comparing.{linesOf, comparisonOf}
 use Rattle.comparing.proofs.FieldLaws.{entryBytes}
 use Rattle.comparing.proofs.EntryLineLaws.{entry-iff}
 use Rattle.comparing.proofs.MemberLaws.{none-in}
-use Rattle.comparing.proofs.Named.{head-named, entry-named, all-named, data-named, data-length, data-byte}
+use Rattle.comparing.proofs.Named.{head-named, entry-named, all-named, data-named, data-size, data-byte}
 use Rattle.comparing.proofs.OrderLaws.{ordered}
 use Rattle.comparing.proofs.RefusedLaws.{refused-named, not-both, read-either}
 use Rattle.comparing.proofs.ScanLaws.{order}
@@ -126,19 +121,6 @@ same-fields x y h =
 
 -- ---- files with no line
 
-walk-rest : (s : List ℕ) {t : Totals} → walkOf s ≡ walked.Entries t → entriesOf s .rest ≡ []
-unfolding walkOf
-walk-rest s {t} e = by (entriesOf s .rest) refl e
-  where
-    by : (r : List ℕ) → entriesOf s .rest ≡ r → walkedTo (totalsOf (entriesOf s .pieces)) r ≡ walked.Entries t → r ≡ []
-    by [] z e = refl
-    by (b ∷ r) z e = absurd (let z : _≡_ {A = ℕ} 0 1 = cc in omega arith)
-
-list-joined : (f : List ℕ) → Passed f → listOf f ≡ flatten (entriesIn f)
-list-joined f p =
-    sym (cut-joins lengthOf (listOf f)) ∙ ap (λ (r : List ℕ). flatten (entriesIn f) ++ r) (walk-rest (listOf f) (p .walk-is))
-    ∙ append-nil (flatten (entriesIn f))
-
 module _ (f g : List ℕ) (c : Compared f g) (none : linesOf f g ≡ []) where
   no-member : (l : Line) → List·Memᴰ l (linesOf f g) → ⊥
   no-member l m = List·Memᴰ·not-nil (subst (List·Memᴰ l) none m)
@@ -190,8 +172,8 @@ module _ (f g : List ℕ) (c : Compared f g) (none : linesOf f g ≡ []) where
 
   same-bytes : dataOf f ≡ dataOf g
   same-bytes =
-      ext-getD 0 (dataOf f) (dataOf g) (data-length f a ∙ same-size ∙ sym (data-length g b))
-      (λ i h. data-byte f a i ∙ stable _ _ (λ d. differ i (omega (arith, data-length f a)) d) ∙ sym (data-byte g b i))
+      ext-getD 0 (dataOf f) (dataOf g) (data-size f a ∙ same-size ∙ sym (data-size g b))
+      (λ i h. data-byte f a i ∙ stable _ _ (λ d. differ i (omega (arith, data-size f a)) d) ∙ sym (data-byte g b i))
     where
       a : IsAccepted f
       a = c .accepted-one
@@ -206,7 +188,7 @@ module _ (f g : List ℕ) (c : Compared f g) (none : linesOf f g ≡ []) where
   none-same =
       let one = read-tells f (c .accepted-one .0) (c .accepted-one .1) .tests in
       let two = read-tells g (c .accepted-two .0) (c .accepted-two .1) .tests in
-      let list : listOf f ≡ listOf g = list-joined f one ∙ ap flatten same-entries ∙ sym (list-joined g two) in
+      let list : listOf f ≡ listOf g = sym (list-joined f one) ∙ ap flatten same-entries ∙ list-joined g two in
       sym (volume-again f (c .bytes-one) one)
       ∙ ap (λ (v : ℕ). volumeBytes (codeIn v) (programOf f) (volumeNumberOf f) (listOf f) (dataOf f)) same-version
       ∙ ap₂ (λ (p n : ℕ). volumeBytes (codeIn (versionOf g)) p n (listOf f) (dataOf f)) same-program same-number

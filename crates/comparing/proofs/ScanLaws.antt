@@ -9,18 +9,18 @@ use mathlib.Core.Bool.{Bool, true, false}
 use mathlib.Core.List.{List}
 use mathlib.Core.Logic.{_⊎_, inl, inr}
 use Prim.Native.Nat.{ℕ, _≤_, _<_, min}
+use native.Mathlib.Decide.{decLt}
 use native.Mathlib.Omega.{arith}
 use lib.Dec.{ltb}
 use lib.ListN.{length, getD}
-use borrow.Author.Tests.{ltb-true, ltb-false, lt-ltb, eq-eqb, ne-eqb}
+use borrow.Author.Tests.{ltb-true, lt-ltb, eq-eqb, ne-eqb}
 use Rattle.comparing.specs.Runs.{differs}
 
 pub order : (m n : ℕ) → (m < n) ⊎ (n ≤ m)
-order m n = by (ltb m n) refl
-  where
-    by : (t : Bool) → ltb m n ≡ t → (m < n) ⊎ (n ≤ m)
-    by true e = inl (ltb-true m n e)
-    by false e = inr (ltb-false m n e)
+order m n = elim (decLt m n) [
+  | yes h ↦ inl h
+  | no h ↦ inr (omega arith)
+]
 
 module _ (a b : List ℕ) (p : ℕ) where
   pub same-byte : p < length a → p < length b → getD a p 0 ≡ getD b p 0 → differs a b p ≡ false

@@ -8,7 +8,7 @@ ghost use Rattle.text.specs.Buffer.{buffer, put as putOf};
 ghost use Rattle.comparing.specs.Lines.{entry as entryLine, headText, entryText, textOf};
 ghost use Rattle.comparing.specs.Differences.{entryTable, differing, headLines};
 use crate::lines;
-use crate::scan::greater;
+use lent_bytes::greater;
 use lent_bytes::same;
 use par1_rules::layout;
 use par1_rules::layout::HASH_LENGTH;

@@ -2,14 +2,13 @@
 ghost use mathlib.Core.Path.{_≡_};
 ghost use Prim.Native.Nat.{_+_, _≤_};
 ghost use lib.ListN.{drop};
-ghost use Rattle.entries.specs.Entry.{lengthOf};
 ghost use Rattle.entries.specs.Walk.{entriesOf};
 ghost use Rattle.text.specs.Buffer.{buffer, put as putOf};
 ghost use Rattle.comparing.specs.Lines.{textOf};
 ghost use Rattle.comparing.specs.Differences.{allLines, entryLines};
 use crate::fields;
 use crate::lines;
-use entries::Item;
+use entries::length_at;
 use par1_rules::layout::part;
 
 // The lines on the entries of the lists `one` and `two`.
@@ -61,19 +60,4 @@ fn put_all<'a, 'b>(out: &'a mut [u8], to: usize, first: u64, list: &'b [u8], sta
         place += 1;
         from += n;
     }
-}
-
-// The length of the entry that stands at `from`, 0 where there is none.
-fn length_at(list: &[u8], from: usize) -> usize
-    ensures { λ r. ⌜ r ≡ lengthOf (drop from (now (list .entry))) ⌝ }
-{
-    let Item::Entry {
-        length,
-        status: _,
-        size: _,
-    } = entries::at(list, from)
-    else {
-        return 0;
-    };
-    length
 }

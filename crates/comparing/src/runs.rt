@@ -1,6 +1,5 @@
 // The runs of data bytes that differ.
 ghost use mathlib.Core.Path.{_≡_};
-ghost use Prim.Native.Nat.{max};
 ghost use Rattle.text.specs.Buffer.{buffer, put as putOf};
 ghost use Rattle.comparing.specs.Lines.{textOf};
 ghost use Rattle.comparing.specs.Runs.{runLines};
@@ -11,7 +10,7 @@ use crate::scan;
 pub(crate) fn put_runs<'a, 'b>(out: &'a mut [u8], start: usize, a: &'b [u8], b: &'b [u8]) -> usize
     ensures { λ r. ⌜ buffer (now (out .exit)) r ≡ putOf (buffer (now (out .entry)) start) (textOf (runLines (now (a .entry)) (now (b .entry)))) ⌝ }
 {
-    let n = scan::greater(a.len(), b.len());
+    let n = lent_bytes::greater(a.len(), b.len());
     let mut at = start;
     let mut from: usize = 0;
     loop {

@@ -1,9 +1,11 @@
 // Where two byte slices differ and where they agree.
 ghost use mathlib.Core.Path.{_≡_};
 ghost use mathlib.Core.Bool.{false, not};
-ghost use Prim.Native.Nat.{ℕ, _+_, _<_, _≤_, min, max};
+ghost use Prim.Native.Nat.{ℕ, _+_, _<_, _≤_, max};
 ghost use lib.ListN.{length, getD};
 ghost use Rattle.comparing.specs.Runs.{differs, FirstFrom};
+use lent_bytes::greater;
+use lent_bytes::lesser;
 
 // How many bytes are compared at a time where nothing differs: a loop over a block has no exit, so that the compiler takes 16 bytes at once.
 const BLOCK: usize = 256;
@@ -72,18 +74,4 @@ fn block_differs(a: &[u8], b: &[u8], at: usize) -> u8
         i += 1;
     }
     found
-}
-
-// The lesser of two lengths.
-fn lesser(a: usize, b: usize) -> usize
-    ensures { λ r. ⌜ r ≡ min a b ⌝ }
-{
-    if a < b { a } else { b }
-}
-
-// The greater of two lengths.
-pub(crate) fn greater(a: usize, b: usize) -> usize
-    ensures { λ r. ⌜ r ≡ max a b ⌝ }
-{
-    if a < b { b } else { a }
 }

@@ -7,7 +7,7 @@ use Prim.Native.Nat.{ℕ}
 use lib.ListN.{replicate}
 use Rattle.little_endian.specs.Bytes.{fromLe, toLe, leAt}
 use Rattle.lent_bytes.specs.Equal.{equal}
-use Rattle.entries.specs.Entry.{unitsOf, unitAllowed, eachUnit, isDots, nameAllowed, entrySizeAllowed, bodyAllowed, entryAllowed}
+use Rattle.entries.specs.Entry.{unitsOf, unitAllowed, isDots, nameAllowed, entrySizeAllowed, bodyAllowed, entryAllowed}
 use Rattle.entries.specs.Numbering.{fileNumber}
 use Rattle.entries.specs.Walk.{faultOf, firstOf}
 use Rattle.entries.specs.declared.Fault.the-variants as fault
@@ -27,7 +27,7 @@ edges :
     × (firstOf (entry 58 0 47) ≡ Fault fault.Name)
     × (firstOf (entry 58 0 92) ≡ Fault fault.Name)
     × (firstOf (entry 58 0 46) ≡ Fault fault.Name)
-unfolding entry fromLe toLe leAt unitsOf unitAllowed eachUnit isDots equal nameAllowed entrySizeAllowed bodyAllowed entryAllowed faultOf firstOf
+unfolding entry fromLe toLe leAt unitsOf unitAllowed isDots equal nameAllowed entrySizeAllowed bodyAllowed entryAllowed faultOf firstOf
 edges = (refl, refl, refl, refl, refl, refl, refl, refl, refl)
 
 -- the units 0, "/", ":" and "\\" in a name, "." and ".."; and names that have a dot
@@ -45,7 +45,7 @@ names :
     × (nameAllowed (toLe 2 97 ++ toLe 2 46) ≡ true)
     × (nameAllowed (toLe 2 46 ++ toLe 2 46 ++ toLe 2 97) ≡ true)
     × (nameAllowed (toLe 2 11776) ≡ true)
-unfolding fromLe toLe leAt unitsOf unitAllowed eachUnit isDots equal nameAllowed
+unfolding fromLe toLe leAt unitsOf unitAllowed isDots equal nameAllowed
 names = (refl, refl, refl, refl, refl, refl, refl, refl, refl, refl, refl, refl, refl)
 
 -- no more than a status, which tells whether the entry is saved

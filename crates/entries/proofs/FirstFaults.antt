@@ -1,7 +1,7 @@
 -- The refusal that the walk over a list gives is that of the first entry that breaks a rule.
 --
 --   sized-right       an entry of an even length, at least 58, may stand in a list that holds it
---   keeps-first       an entry that the walk takes keeps every rule
+--   keeps-first, entries-keep      the entries that the walk takes keep every rule
 --   rest-faulty       what is left after the entries is nothing, or begins with none
 --   breaks-first      what is left and not empty breaks the rule that the walk names, first of all
 --   breaks-number     its number is not 0
@@ -59,6 +59,9 @@ keeps-first s some found =
       file-size-right = body .0;
       name-right = body .1;
     })
+
+pub entries-keep : (s : List ℕ) → All Keeps (entriesOf s .pieces)
+entries-keep = cut-all lengthOf Keeps keeps-first
 
 -- ---- what is left after them
 
@@ -146,7 +149,7 @@ refused-first s r e = by (entriesOf s .rest) refl e
         let faulty : lengthOf (b ∷ t) ≡ 0 = ap lengthOf z ∙ rest-faulty s some in
         record {
           earlier = es;
-          keep = cut-all lengthOf Keeps keeps-first s;
+          keep = entries-keep s;
           rest = b ∷ t;
           joined = ap (λ (l : List ℕ). flatten es ++ l) z ∙ cut-joins lengthOf s;
           some = omega arith;

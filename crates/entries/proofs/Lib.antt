@@ -1,3 +1,4 @@
+pub mod EntryBytes
 pub mod EntryLaws
 mod Examples
 pub mod FirstFaults

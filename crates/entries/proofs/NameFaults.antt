@@ -15,11 +15,12 @@ use native.Mathlib.Omega.{arith}
 use lib.ListN.{length, take, getD, length-drop}
 use lib.Seq.{length-take-le}
 use borrow.Author.Tests.{ne-eqb, lt-leb}
+use Rattle.lent_bytes.specs.Each.{each}
 use Rattle.lent_bytes.specs.Equal.{equal}
 use Rattle.lent_bytes.proofs.EqualLaws.{equal-true}
 use Rattle.entries.specs.Claim.{Breaks, breaks-name, BadUnit, Unstorable, bad-unit, one-dot, two-dots}
 use Rattle.entries.specs.Claim.{BadName, empty, odd, unstorable, NameRule, NamesRefused}
-use Rattle.entries.specs.Entry.{entrySize, nameOf, unitsOf, unitAllowed, eachUnit, unitsAllowed, isDots, nameAllowed}
+use Rattle.entries.specs.Entry.{entrySize, nameOf, unitsOf, unitAllowed, unitsAllowed, isDots, nameAllowed}
 use Rattle.entries.proofs.EntryLaws.{sized}
 use Rattle.entries.proofs.NameLaws.{unit-last, name-units, length-units}
 
@@ -56,19 +57,17 @@ module _ (f : ℕ → Bool) where
     within : place < length us
     fails : f (getD us place 0) ≡ false
 
-  each-fails : (us : List ℕ) → eachUnit f us ≡ false → FailsAt us
-  unfolding eachUnit
+  each-fails : (us : List ℕ) → each f us ≡ false → FailsAt us
   each-fails [] e = absurd (true≢false e)
   each-fails (u ∷ us) e = by (f u) refl (λ z. each-fails us z) e
     where
-      by : (b : Bool) → f u ≡ b → (eachUnit f us ≡ false → FailsAt us) → (b && eachUnit f us) ≡ false → FailsAt (u ∷ us)
+      by : (b : Bool) → f u ≡ b → (each f us ≡ false → FailsAt us) → (b && each f us) ≡ false → FailsAt (u ∷ us)
       by false h later e = record { place = 0; within = omega arith; fails = h }
       by true h later e =
           let rest = later e in
           record { place = suc (rest .place); within = omega (arith, rest .within); fails = rest .fails }
 
-  fails-each : (us : List ℕ) (k : ℕ) → k < length us → f (getD us k 0) ≡ false → eachUnit f us ≡ false
-  unfolding eachUnit
+  fails-each : (us : List ℕ) (k : ℕ) → k < length us → f (getD us k 0) ≡ false → each f us ≡ false
   fails-each [] k h e = absurd (omega arith)
   fails-each (u ∷ us) zero h e = simp e
   fails-each (u ∷ us) (suc k) h e = simp (fails-each us k (omega arith) e, and-false)
@@ -85,7 +84,7 @@ units-bad us e = by (unitsAllowed us) (equal us (46 ∷ [])) (equal us (46 ∷ 4
     by true false false p q r e = absurd (true≢false e)
 
 bad-units : (us : List ℕ) → Unstorable us → (unitsAllowed us && not (isDots us)) ≡ false
-unfolding eachUnit unitAllowed isDots equal
+unfolding unitAllowed isDots equal
 bad-units us (bad-unit k h b) = simp (fails-each unitAllowed us k h (bad-unit-refused _ b))
 bad-units us (one-dot e) = ap (λ (l : List ℕ). unitsAllowed l && not (isDots l)) e
 bad-units us (two-dots e) = ap (λ (l : List ℕ). unitsAllowed l && not (isDots l)) e

@@ -1,14 +1,13 @@
 -- The name rule, unit by unit, at a position of a name.
 --
 --   units-none, units-more   the units from a position on: none where less than a unit is left, else the unit there and the others
---   rule-none, rule-more     the same of a test on each unit
 --   unit-last                the last test on a unit decides, where the others pass
 --   length-units             how many units there are
 --   dots-short, dots-long    of one or two units, only dots are "." or ".."; of more none are
 --   name-units               the rule on a name of whole units, one or more
 -- Assumes nothing.
-use mathlib.Core.Path.{_≡_, refl, sym, ap, _∙_}
-use mathlib.Core.Bool.{Bool, true, false, not, _&&_, and-true, and-false, or-false}
+use mathlib.Core.Path.{_≡_, refl, _∙_}
+use mathlib.Core.Bool.{false, not, _&&_, and-true, and-false, or-false}
 use mathlib.Core.List.{List, [], _∷_}
 use Prim.Native.Nat.{ℕ, _+_, _/_, _%_, _≤_, _<_}
 use native.Mathlib.Nat.{add-zero}
@@ -20,7 +19,7 @@ use borrow.Author.Tests.{ne-eqb, eq-eqb, le-leb}
 use Rattle.little_endian.specs.Bytes.{leAt}
 use Rattle.little_endian.proofs.Reading.{leAt-drop}
 use Rattle.lent_bytes.specs.Equal.{equal}
-use Rattle.entries.specs.Entry.{unitsOf, unitAllowed, eachUnit, unitsAllowed, onlyDots, isDots, nameAllowed}
+use Rattle.entries.specs.Entry.{unitsOf, unitAllowed, unitsAllowed, onlyDots, isDots, nameAllowed}
 
 units-short : (s : List ℕ) → length s < 2 → unitsOf s ≡ []
 unfolding unitsOf
@@ -42,16 +41,6 @@ module _ (s : List ℕ) (at : ℕ) where
   units-more h =
       units-long (drop at s) (omega (arith, length-drop at s)) ∙ rw (leAt-drop, add-zero, drop-drop)
 
-  module _ (f : ℕ → Bool) where
-    pub rule-none : length s < at + 2 → eachUnit f (unitsOf (drop at s)) ≡ true
-    unfolding eachUnit
-    rule-none h = ap (eachUnit f) (units-none h)
-
-    pub rule-more : {r : Bool} → at + 2 ≤ length s → r ≡ f (leAt 2 s at)
-        → eachUnit f (unitsOf (drop at s)) ≡ (r && eachUnit f (unitsOf (drop (at + 2) s)))
-    unfolding eachUnit
-    rule-more {r} h e = ap (eachUnit f) (units-more h) ∙ ap (λ (b : Bool). b && eachUnit f (unitsOf (drop (at + 2) s))) (sym e)
-
 pub unit-last : (u : ℕ) → (u ≡ 0 → ⊥) → (u ≡ 47 → ⊥) → (u ≡ 58 → ⊥) → unitAllowed u ≡ not (eqb u 92)
 unfolding unitAllowed
 unit-last u a b c = simp (ne-eqb u 0 a, ne-eqb u 47 b, ne-eqb u 58 c)
@@ -65,7 +54,7 @@ length-units (a ∷ b ∷ s) = omega (arith, length-units s)
 -- ---- "." and ".."
 
 pub dots-short : (us : List ℕ) → 0 < length us → length us ≤ 2 → isDots us ≡ onlyDots us
-unfolding isDots eachUnit equal
+unfolding isDots equal
 dots-short [] some few = absurd (omega arith)
 dots-short (u ∷ []) some few = simp (and-true, and-false, or-false)
 dots-short (u ∷ v ∷ []) some few = simp (and-true, and-false)

@@ -1,14 +1,15 @@
 -- The walk over a list, entry by entry.
 --
 --   entries-more   an entry at the front is the first entry
---   entries-none   there is none where the front is the end or a fault
+--   length-none, entries-none    there is none where the front is the end or a fault
+--   EntryHere, entry-here, no-entry     an entry at a position of a list, and none, by the length that stands there
 --   walkFrom t c   the totals t and those of the entries c, where nothing is left after them; or the refusal of what is left
 --   saved-most     an entry is one saved entry at most
 --   walk-start     the walk from no entries at all
 --   walk-more, walk-end, walk-fault    a step of the walk, by what is at the front
 --   stopped        what the walk gives where something is left
 --   walk-totals, walk-count, walk-saved    what a walk to the end tells
---   entries-most   an entry has 58 bytes or more
+--   entries-long, entries-most     an entry has 58 bytes or more
 --   fault-range    the numbers of the faults
 --   WalkRefused, walk-refused     what a walk to a fault tells
 --   Added t u      u is t with one entry more, and at most one saved entry more
@@ -19,13 +20,16 @@ use mathlib.Core.Bool.{Bool, true, false, cond}
 use mathlib.Core.Logic.{inl, inr}
 use mathlib.Core.List.{List, [], _∷_, map, foldr}
 use Prim.Native.Nat.{ℕ, _+_, _*_, _/_, _≤_, _<_, max}
+use native.Mathlib.Nat.{eq-zero-or-pos}
 use native.Mathlib.Omega.{arith}
 use lib.ListN.{length, take, drop, length-drop}
+use lib.Seq.{drop-drop, length-take-le}
 use types.Run.{OneOf}
 use denote.Enum.Declared.{tagOf}
 use Rattle.entries.proofs.Item.{the-type}
+use Rattle.cut_lists.specs.All.{All}
 use Rattle.cut_lists.specs.Pieces.{Cut, before}
-use Rattle.cut_lists.proofs.CutLaws.{cut-none, cut-stop, cut-more, cut-induct}
+use Rattle.cut_lists.proofs.CutLaws.{cut-none, cut-stop, cut-more, cut-induct, cut-all}
 use Rattle.refusals.specs.declared.Refusal.{Refusal}
 use Rattle.entries.specs.Entry.{statusOf, fileSizeOf, isSaved, savedCount, isCounted, lengthOf}
 use Rattle.entries.specs.Numbering.{keep, savedOf}
@@ -45,11 +49,41 @@ entries-more {s} i =
     ∙ ap (λ (k : ℕ). before (take k s) (entriesOf (drop k s))) (i .length-is)
 
 -- no entry more: the item at the front is the end or a fault, as the else of `let Item::Entry { .. } = item else` tells
+pub length-none : (s : List ℕ) (i : Item) → i ≡ firstOf s → OneOf (1 ∷ 2 ∷ []) (tagOf the-type i) → lengthOf s ≡ 0
+length-none s (item.Entry n status size) e (inl k) = absurd (omega arith)
+length-none s (item.Entry n status size) e (inr k) = absurd (omega arith)
+length-none s item.End e k = elim (eq-zero-or-pos (lengthOf s)) [
+  | inl z ↦ z
+  | inr some ↦ let z = length-sized s some in absurd (omega (arith, z .1, z .2, ap length (is-end e)))
+]
+length-none s (item.Fault f) e k = is-fault e .length-zero
+
 pub entries-none : (s : List ℕ) (i : Item) → i ≡ firstOf s → OneOf (1 ∷ 2 ∷ []) (tagOf the-type i) → entriesOf s .pieces ≡ []
-entries-none s (item.Entry n status size) e (inl k) = absurd (omega arith)
-entries-none s (item.Entry n status size) e (inr k) = absurd (omega arith)
-entries-none s item.End e k = ap (λ (t : List ℕ). entriesOf t .pieces) (is-end e) ∙ ap (λ (c : Cut). c .pieces) (cut-none lengthOf)
-entries-none s (item.Fault f) e k = ap (λ (c : Cut). c .pieces) (cut-stop lengthOf s (is-fault e .length-zero))
+entries-none s i e k = ap (λ (c : Cut). c .pieces) (cut-stop lengthOf s (length-none s i e k))
+
+-- an entry of n bytes stands at the position
+pub record EntryHere (s : List ℕ) (at n : ℕ) : Type 0 where
+  pub low : 58 ≤ n
+  pub fits : at + n ≤ length s
+  pub pieces-are : entriesOf (drop at s) .pieces ≡ take n (drop at s) ∷ entriesOf (drop (at + n) s) .pieces
+
+module _ (s : List ℕ) (at : ℕ) {n : ℕ} (length-is : n ≡ lengthOf (drop at s)) where
+  pub entry-here : (n ≡ 0 → ⊥) → EntryHere s at n
+  entry-here some =
+      let some : 0 < n = omega arith in
+      let sized = length-sized (drop at s) (omega arith) in
+      let cut = cut-more lengthOf (drop at s) (omega (arith, sized .1, sized .2)) (omega arith) in
+      record {
+        low = omega (arith, sized .1);
+        fits = omega (arith, sized .1, sized .2, length-drop at s);
+        pieces-are =
+            ap (λ (c : Cut). c .pieces) cut
+            ∙ ap (λ (k : ℕ). take k (drop at s) ∷ entriesOf (drop k (drop at s)) .pieces) (sym length-is)
+            ∙ ap (λ (q : List ℕ). take n (drop at s) ∷ entriesOf q .pieces) (drop-drop n at s);
+      }
+
+  pub no-entry : n ≡ 0 → entriesOf (drop at s) .pieces ≡ []
+  no-entry z = ap (λ (c : Cut). c .pieces) (cut-stop lengthOf (drop at s) (sym length-is ∙ z))
 
 -- ---- totals
 
@@ -155,6 +189,10 @@ module _ (s : List ℕ) {t : Totals} (e : walkOf s ≡ walked.Entries t) where
   walk-saved = ap (λ (u : Totals). u .saved) (walk-totals s e)
 
 -- ---- a walk to a fault
+
+pub entries-long : (s : List ℕ) → All (λ e. 58 ≤ length e) (entriesOf s .pieces)
+entries-long =
+    cut-all lengthOf (λ e. 58 ≤ length e) (λ s h k. let z = length-sized s k in omega (arith, z .1, length-take-le (lengthOf s) s (z .2)))
 
 pub entries-most : (s : List ℕ) → length (entriesOf s .pieces) * 58 ≤ length s
 entries-most =

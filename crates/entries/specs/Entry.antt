@@ -7,7 +7,6 @@
 --   isSaved st, isCounted st   whether an entry with the status st is saved in the parity, and whether it counts for the data size
 --   savedCount st       how many saved entries an entry with the status st is: 1, or 0
 --   unitAllowed u, isDot u     whether a unit may stand in a name, and whether it is a dot
---   eachUnit f us       whether the test f passes for each of the units us
 --   unitsAllowed us, onlyDots us    whether each of the units us may stand in a name, and whether each is a dot
 --   isDots us           whether the units us are "." or ".."
 --   nameAllowed n       whether the bytes n are a name
@@ -18,11 +17,12 @@
 --   lengthOf s          the length of the entry that s begins with, 0 where there is none that keeps every rule
 -- Assumes nothing.
 use Prim.Native.Nat.{ℕ, _%_}
-use mathlib.Core.Bool.{Bool, true, cond, not, _&&_, _||_}
+use mathlib.Core.Bool.{Bool, cond, not, _&&_, _||_}
 use mathlib.Core.List.{List, [], _∷_}
 use lib.Dec.{leb, eqb}
 use lib.ListN.{length, take, drop}
 use Rattle.refusals.specs.Limits.{maxFileSize}
+use Rattle.lent_bytes.specs.Each.{each}
 use Rattle.lent_bytes.specs.Equal.{equal}
 use Rattle.little_endian.specs.Bytes.{leAt}
 
@@ -72,15 +72,11 @@ unitAllowed u = not (eqb u 0) && not (eqb u 47) && not (eqb u 58) && not (eqb u 
 abbrev pub isDot : ℕ → Bool
 isDot u = eqb u 46
 
-unfoldable pub eachUnit : (ℕ → Bool) → List ℕ → Bool
-eachUnit f [] = true
-eachUnit f (u ∷ us) = f u && eachUnit f us
-
 abbrev pub unitsAllowed : List ℕ → Bool
-unitsAllowed us = eachUnit unitAllowed us
+unitsAllowed us = each unitAllowed us
 
 abbrev pub onlyDots : List ℕ → Bool
-onlyDots us = eachUnit isDot us
+onlyDots us = each isDot us
 
 -- document 02, 2026-14: "nor the whole names "." and "..""
 unfoldable pub isDots : List ℕ → Bool

@@ -4,7 +4,7 @@ ghost use mathlib.Core.Bool.{cond};
 ghost use Prim.Native.Nat.{_+_, _%_, _<_, _≤_, _^_, max};
 ghost use lib.ListN.{length, drop};
 ghost use Rattle.entries.specs.Entry.{unitAllowed, isDot, unitsAllowed, onlyDots, isDots, nameAllowed, unitsOf};
-ghost use Rattle.entries.specs.Entry.{entrySizeAllowed, isSaved, savedCount, isCounted};
+ghost use Rattle.entries.specs.Entry.{entrySizeAllowed, isSaved, savedCount, isCounted, lengthOf};
 ghost use Rattle.entries.specs.Walk.{faultNumber, refusalAt, firstOf, addEntry, walkOf};
 use refusals::Refusal;
 
@@ -92,6 +92,21 @@ pub fn at(list: &[u8], from: usize) -> Item
         return Item::End;
     }
     first(&list[from..])
+}
+
+// The length of the entry at the place `from` of `list`, 0 where there is none.
+pub fn length_at(list: &[u8], from: usize) -> usize
+    ensures { λ r. ⌜ r ≡ lengthOf (drop from (now (list .entry))) ⌝ }
+{
+    let Item::Entry {
+        length,
+        status: _,
+        size: _,
+    } = at(list, from)
+    else {
+        return 0;
+    };
+    length
 }
 
 // The totals of the entries of `list`, or the refusal of the first that breaks a rule, with its place.
@@ -279,7 +294,7 @@ fn is_counted(status: u64) -> bool
 }
 
 // The greater of two sizes.
-fn greater(a: u64, b: u64) -> u64
+pub fn greater(a: u64, b: u64) -> u64
     ensures { λ r. ⌜ r ≡ max a b ⌝ }
 {
     if a < b { b } else { a }

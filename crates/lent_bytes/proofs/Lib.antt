@@ -1,3 +1,4 @@
+pub mod EachLaws
 pub mod EqualLaws
 pub mod PartLaws
 pub mod PartsInRow

@@ -3,7 +3,9 @@
 --   written-fits, written-short     where the bytes fit, and where they do not
 --   unless-none, unless-refused     after the call's tests
 --   unless-accepted                 accepted, where the tests hold nowhere and the bytes fit
---   never                           a refusal is no acceptance
+--   never, not-refused              a refusal is no acceptance
+--   refused-tells, accepted-tells   what an answer tells
+--   refused-exactly                 which refusals a call gives, from the first one that holds, or none
 --   Accepted, unless-tells          what it tells where it is accepted
 --   unless-same, writing-kept       a refusal leaves the bytes
 --   kept-by-number                  so it does where it is told by its number
@@ -12,7 +14,7 @@
 --   written-refusal                 where there are no tests, the number says it all
 --   unless-within                   which refusals it gives
 -- Assumes nothing.
-use mathlib.Core.Path.{_≡_, refl, sym, ap, ap₂, _∙_}
+use mathlib.Core.Path.{_≡_, refl, sym, ap, ap₂, _∙_, subst}
 use mathlib.Core.Logic.{_≢_}
 use mathlib.Core.Bool.{Bool, true, false, cond}
 use mathlib.Core.List.{List, _++_}
@@ -22,7 +24,7 @@ use borrow.Author.Tests.{leb-true, le-leb, lt-leb, eqb-true, eq-eqb, ne-eqb}
 use lib.Dec.{leb, eqb}
 use lib.ListN.{length, take, drop}
 use lib.Seq.{take-append-seam}
-use Rattle.lent_bytes.specs.Writing.{refused, accepted, written, writtenUnless, writingRefusal, withRefusal, withNumber, Kept}
+use Rattle.lent_bytes.specs.Writing.{refused, accepted, written, writtenUnless, RefusedExactly, writingRefusal, withRefusal, withNumber, Kept}
 use Rattle.lent_bytes.specs.Claim.{WritingKept}
 use Rattle.refusals.specs.Tests.{bare}
 use Rattle.refusals.specs.declared.Refusal.{Refusal}
@@ -68,6 +70,27 @@ never {A} {n} {k} e =
     let answer : Refused k ≡ Written n = ap (λ (p : Writing × List ℕ). p .0) e in
     absurd (let z : _≡_ {A = ℕ} 0 1 = cc in omega arith)
 
+pub not-refused : {A : Type 0} (s out : List ℕ) {r : Refusal} {room : List ℕ} → accepted s out ≡ (Refused r, room) → A
+not-refused s out {r} e =
+    let answer : Written (length s) ≡ Refused r = ap (λ (p : Writing × List ℕ). p .0) e in
+    absurd (let z : _≡_ {A = ℕ} 0 1 = cc in omega arith)
+
+pub refused-tells : {q r : Refusal} {out room : List ℕ} → refused q out ≡ (Refused r, room) → (q ≡ r) × (room ≡ out)
+refused-tells e = (ap (λ (p : Writing × List ℕ). writingRefusal (p .0)) e, sym (ap (λ (p : Writing × List ℕ). p .1) e))
+
+pub accepted-tells : (s out : List ℕ) {n : ℕ} {room : List ℕ} → accepted s out ≡ (Written n, room) → (n ≡ length s) × (room ≡ s ++ drop (length s) out)
+accepted-tells s out {n} e =
+    let answer : Written (length s) ≡ Written n = ap (λ (p : Writing × List ℕ). p .0) e in (cc, sym (ap (λ (p : Writing × List ℕ). p .1) e))
+
+-- each refusal of R is given; and one of R holds, or s is written
+pub refused-exactly : (R : Refusal → Type 0) {w : Writing × List ℕ} (s out : List ℕ) → ((r : Refusal) → R r → w ≡ refused r out)
+    → ((P : Type 0) → ((r : Refusal) → R r → P) → (w ≡ accepted s out → P) → P) → RefusedExactly R w out
+refused-exactly R s out given first r = (
+  given r,
+  λ room e. first (R r × (room ≡ out))
+      (λ q f. let t = refused-tells (sym (given q f) ∙ e) in (subst R (t .0) f, t .1)) (λ passed. not-refused s out (sym passed ∙ e)),
+)
+
 pub unless-tells : (m : Refusal) (s out : List ℕ) {n : ℕ} {room : List ℕ} → writtenUnless m s out ≡ (Written n, room) → Accepted m s out n room
 unfolding writtenUnless written
 unless-tells m s out {n} {room} e = by (eqb (m .number) 0) (leb (length s) (length out)) refl refl e
@@ -75,15 +98,13 @@ unless-tells m s out {n} {room} e = by (eqb (m .number) 0) (leb (length s) (leng
     by : (z f : Bool) → eqb (m .number) 0 ≡ z → leb (length s) (length out) ≡ f
         → cond z (cond f (accepted s out) (refused (bare 14) out)) (refused m out) ≡ (Written n, room) → Accepted m s out n room
     by true true z f e =
-        let answer : Written (length s) ≡ Written n = ap (λ (p : Writing × List ℕ). p .0) e in
-        let size : n ≡ length s = cc in
-        let held : room ≡ s ++ drop (length s) out = sym (ap (λ (p : Writing × List ℕ). p .1) e) in
+        let t = accepted-tells s out e in
         record {
           none = eqb-true (m .number) 0 z;
           fits = leb-true (length s) (length out) f;
-          length-is = size;
-          room-is = held;
-          written-is = ap₂ (λ (k : ℕ) (l : List ℕ). take k l) size held ∙ take-append-seam s (drop (length s) out);
+          length-is = t .0;
+          room-is = t .1;
+          written-is = ap₂ (λ (k : ℕ) (l : List ℕ). take k l) (t .0) (t .1) ∙ take-append-seam s (drop (length s) out);
         }
     by true false z f e = never e
     by false f z g e = never e
@@ -93,11 +114,9 @@ unfolding writtenUnless written
 unless-same m s out {r} {room} e = by (eqb (m .number) 0) (leb (length s) (length out)) e
   where
     by : (z f : Bool) → cond z (cond f (accepted s out) (refused (bare 14) out)) (refused m out) ≡ (Refused r, room) → room ≡ out
-    by true true e =
-        let answer : Written (length s) ≡ Refused r = ap (λ (p : Writing × List ℕ). p .0) e in
-        absurd (let z : _≡_ {A = ℕ} 0 1 = cc in omega arith)
-    by true false e = sym (ap (λ (p : Writing × List ℕ). p .1) e)
-    by false f e = sym (ap (λ (p : Writing × List ℕ). p .1) e)
+    by true true e = not-refused s out e
+    by true false e = refused-tells e .1
+    by false f e = refused-tells e .1
 
 pub writing-kept : WritingKept
 unfolding writtenUnless

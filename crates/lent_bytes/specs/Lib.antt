@@ -1,3 +1,4 @@
 pub mod Claim
+pub mod Each
 pub mod Equal
 pub mod Writing

@@ -4,11 +4,13 @@
 --   accepted s out          the length of s, and s over the first bytes of out
 --   written s out           the same; or 14, where out is shorter
 --   writtenUnless r s out   the same, after the tests that give r: the refusal r where it is one, the number 0 being none
+--   RefusedExactly R w out     the call that gives w is refused exactly with what R has, and then no byte of out changes
 --   writingRefusal w        the refusal that an answer is, with the number 0 where it is accepted
 --   withRefusal w           what a call gives, where it answers with the refusal alone
 --   withNumber w            what it gives, where it answers with the number alone
 --   Kept w out              where the answer is a refusal, the bytes are those of out
 -- Assumes nothing.
+use mathlib.Core.Path.{_≡_}
 use Prim.Native.Nat.{ℕ}
 use mathlib.Core.Path.{_≡_}
 use mathlib.Core.Bool.{cond}
@@ -35,6 +37,11 @@ written s out = cond (leb (length s) (length out)) (accepted s out) (refused (ba
 -- 14 is the last of a call's tests
 unfoldable pub writtenUnless : Refusal → List ℕ → List ℕ → Writing × List ℕ
 writtenUnless r s out = cond (eqb (r .number) 0) (written s out) (refused r out)
+
+-- "Refusals, in this order": R r says that r is the first that holds. The call gives it, and gives no other
+abbrev pub RefusedExactly : (Refusal → Type 0) → Writing × List ℕ → List ℕ → Type 0
+RefusedExactly R w out =
+    (r : Refusal) → (R r → w ≡ refused r out) × ((room : List ℕ) → w ≡ (Refused r, room) → R r × (room ≡ out))
 
 abbrev pub writingRefusal : Writing → Refusal
 writingRefusal (Written length) = bare 0

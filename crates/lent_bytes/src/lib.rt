@@ -1,6 +1,6 @@
-// Stores into lent bytes, what a call answers that writes there (document 01, "What comes back"), and the comparing of bytes.
+// Stores into lent bytes, what a call answers that writes there (document 01, "What comes back"), and the comparing of bytes and of lengths.
 ghost use mathlib.Core.Path.{_≡_};
-ghost use Prim.Native.Nat.{_-_, min};
+ghost use Prim.Native.Nat.{_-_, min, max};
 ghost use lib.Seq.{sets};
 ghost use Rattle.lent_bytes.specs.Writing.{written, writingRefusal, withNumber};
 
@@ -56,8 +56,19 @@ fn fitting(length: usize, at: usize, count: usize) -> usize
     if length <= at {
         return 0;
     }
-    if count <= length - at {
-        return count;
-    }
-    length - at
+    lesser(count, length - at)
+}
+
+// The lesser of two lengths.
+pub fn lesser(a: usize, b: usize) -> usize
+    ensures { λ r. ⌜ r ≡ min a b ⌝ }
+{
+    if a < b { a } else { b }
+}
+
+// The greater of two lengths.
+pub fn greater(a: usize, b: usize) -> usize
+    ensures { λ r. ⌜ r ≡ max a b ⌝ }
+{
+    if a < b { b } else { a }
 }

@@ -19,7 +19,7 @@ use Rattle.computed_tests.proofs.Tests.{and-both}
 use Rattle.little_endian.specs.Bytes.{leAt}
 use Rattle.lent_bytes.proofs.PartLaws.{part-take, number-take}
 use Rattle.md5.specs.declared.Md5.{Md5}
-use Rattle.entries.specs.Entry.{entrySize, statusOf, fileSizeOf, md5Of, nameOf, unitsOf, eachUnit}
+use Rattle.entries.specs.Entry.{entrySize, statusOf, fileSizeOf, md5Of, nameOf, unitsOf}
 use Rattle.entries.specs.Entry.{nameAllowed, fileSizeAllowed, entrySizeAllowed, bodyAllowed}
 use Rattle.entries.specs.Claim.{Keeps}
 use Rattle.entries.specs.Walk.{faultOf, addEntry}
@@ -158,7 +158,7 @@ module _ {t : Totals} {h : Md5} {p : List ℕ} {sc : Scan} (m : Amid t h p sc) (
 
   pub step-whole : whole (snoc p b) ≡ true
       → Amid (addEntry t (statusOf (snoc p b)) (fileSizeOf (snoc p b))) (hashEntry h (statusOf (snoc p b)) (md5Of (snoc p b))) [] (stepOf sc b)
-  unfolding entryEnded eachUnit unitsOf
+  unfolding entryEnded unitsOf
   step-whole e = let q : List ℕ = snoc p b in
       let past : 56 ≤ length q = omega (arith, sized (length q) (length q) (whole-keeps e .size-right) .low) in
       let status : statusOf after ≡ statusOf q = number-at 8 next-head past (omega arith) in

@@ -19,7 +19,8 @@ use lib.ListN.{length, drop, getD, length-append, length-drop, drop-of-length-le
 use lib.Seq.{drop-append-le}
 use borrow.Author.Tests.{lt-leb, le-leb, ne-eqb, eq-eqb}
 use Rattle.little_endian.specs.Bytes.{fromLe, leAt}
-use Rattle.entries.specs.Entry.{nameOf, unitsOf, unitAllowed, isDot, eachUnit, unitsAllowed, onlyDots, isDots, nameAllowed}
+use Rattle.lent_bytes.specs.Each.{each}
+use Rattle.entries.specs.Entry.{nameOf, unitsOf, unitAllowed, isDot, unitsAllowed, onlyDots, isDots, nameAllowed}
 use Rattle.entries.proofs.NameLaws.{length-units, dots-short, dots-long, name-units}
 use Rattle.list_scan.specs.declared.NameSoFar.{NameSoFar}
 use Rattle.list_scan.specs.Name.{nameStart, nameUnit, nameUnits, nameEnded}
@@ -73,21 +74,21 @@ same-name p q = ap₂ (λ (x y : Bool). record { allowed = x; dots = y }) p q
 
 -- a test on each unit
 module _ (f : ℕ → Bool) where
-  abbrev each : List ℕ → Bool
-  each n = eachUnit f (unitsOf n)
+  abbrev passes : List ℕ → Bool
+  passes n = each f (unitsOf n)
 
-  units-low : (n : List ℕ) (b : ℕ) → length n % 2 ≡ 0 → each (n ++ (b ∷ [])) ≡ each n
-  unfolding eachUnit unitsOf leAt
+  units-low : (n : List ℕ) (b : ℕ) → length n % 2 ≡ 0 → passes (n ++ (b ∷ [])) ≡ passes n
+  unfolding unitsOf leAt
   units-low [] b h = refl
   units-low (a ∷ []) b h = absurd (omega arith)
   units-low (a ∷ c ∷ n) b h = ap (λ (r : Bool). f (leAt 2 (a ∷ c ∷ n) 0) && r) (units-low n b (omega arith))
 
-  units-high : (n : List ℕ) (d b : ℕ) → length n % 2 ≡ 1 → each (n ++ (b ∷ [])) ≡ (each n && f (lastOr d n + 256 * b))
-  unfolding eachUnit unitsOf leAt fromLe
+  units-high : (n : List ℕ) (d b : ℕ) → length n % 2 ≡ 1 → passes (n ++ (b ∷ [])) ≡ (passes n && f (lastOr d n + 256 * b))
+  unfolding unitsOf leAt fromLe
   units-high [] d b h = absurd (omega arith)
   units-high (a ∷ []) d b h = let e : a + 256 * (b + 256 * 0) ≡ a + 256 * b = omega arith in and-true _ ∙ ap f e
   units-high (a ∷ c ∷ n) d b h = let u : Bool = f (leAt 2 (a ∷ c ∷ n) 0) in
-      ap (λ (r : Bool). u && r) (units-high n c b (omega arith)) ∙ sym (and-assoc u (each n) (f (lastOr c n + 256 * b)))
+      ap (λ (r : Bool). u && r) (units-high n c b (omega arith)) ∙ sym (and-assoc u (passes n) (f (lastOr c n + 256 * b)))
 
 pub name-step : (p : List ℕ) (b : ℕ) → nameByte (soFar (nameOf p)) (length p) (lastOr 0 p) b ≡ soFar (nameOf (p ++ (b ∷ [])))
 name-step p b = elim (decLt (length p) 56) [
@@ -135,7 +136,7 @@ named-head named at low (b ∷ l) h = named-head (nameByte named at low b) (at +
 
 pub named-units : (named : NameSoFar) (at low : ℕ) (l : List ℕ) → 56 ≤ at → at % 2 ≡ 0 → length l % 2 ≡ 0
     → namedAfter named at low l ≡ nameUnits named (unitsOf l)
-unfolding namedAfter eachUnit unitsOf leAt fromLe
+unfolding namedAfter unitsOf leAt fromLe
 named-units named at low [] h even whole = sym (same-name (and-true (named .allowed)) (and-true (named .dots)))
 named-units named at low (a ∷ []) h even whole = absurd (omega arith)
 named-units named at low (a ∷ b ∷ l) h even whole = let u : ℕ = a + 256 * (b + 256 * 0) in

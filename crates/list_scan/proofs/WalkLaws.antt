@@ -21,7 +21,7 @@ use Rattle.cut_lists.specs.Pieces.{Cut}
 use Rattle.cut_lists.proofs.CutLaws.{ifZero-pos, cut-none, cut-stop}
 use Rattle.md5.specs.declared.Md5.{Md5}
 use Rattle.md5.specs.Running.{stateOf, finished}
-use Rattle.entries.specs.Entry.{statusOf, fileSizeOf, md5Of, eachUnit, unitsOf, lengthOf}
+use Rattle.entries.specs.Entry.{statusOf, fileSizeOf, md5Of, unitsOf, lengthOf}
 use Rattle.entries.specs.Walk.{faultOf, refusalAt, firstOf, entriesOf, addEntry, walkOf}
 use Rattle.entries.specs.declared.Fault.{Fault}
 use Rattle.entries.specs.declared.Item.{Item}
@@ -160,7 +160,7 @@ abbrev none : Totals
 none = record { entries = 0; saved = 0; greatest = 0 }
 
 pub start-amid : Amid (record { entries = 0; saved = 0; greatest = 0 }) (stateOf []) [] scanStart
-unfolding scanStart eachUnit unitsOf
+unfolding scanStart unitsOf
 start-amid = record { at-is = refl; low-is = refl; named-is = refl; totals-is = refl; hash-is = refl; head-size = refl; head-is = refl }
 
 start-ended : (s : List ℕ) → Ended none (stateOf []) s scanStart

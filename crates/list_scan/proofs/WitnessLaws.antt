@@ -17,7 +17,7 @@ use Rattle.little_endian.proofs.Reading.{leAt-suc}
 use Rattle.lent_bytes.specs.Equal.{equal}
 use Rattle.md5.specs.declared.Md5.{Md5}
 use Rattle.entries.specs.Entry.{savedCount, unitsOf, lengthOf}
-use Rattle.entries.specs.Entry.{unitAllowed, eachUnit, isDots, nameAllowed, entrySizeAllowed, bodyAllowed, entryAllowed}
+use Rattle.entries.specs.Entry.{unitAllowed, isDots, nameAllowed, entrySizeAllowed, bodyAllowed, entryAllowed}
 use Rattle.entries.specs.Walk.{firstOf, addEntry}
 use Rattle.entries.specs.declared.Totals.{Totals}
 use Rattle.entries.proofs.EntryLaws.{IsEntry, is-entry}
@@ -30,11 +30,11 @@ use Rattle.list_scan.proofs.WalkLaws.{runs, entry-scan, start-amid, sca
 -- ---- entries
 
 entry-saved : IsEntry (plainEntry 1) 58 1 0
-unfolding firstOf entryAllowed entrySizeAllowed bodyAllowed nameAllowed eachUnit isDots equal unitsOf unitAllowed leAt fromLe plainEntry
+unfolding firstOf entryAllowed entrySizeAllowed bodyAllowed nameAllowed isDots equal unitsOf unitAllowed leAt fromLe plainEntry
 entry-saved = is-entry refl
 
 entry-unsaved : IsEntry (plainEntry 0) 58 0 0
-unfolding firstOf entryAllowed entrySizeAllowed bodyAllowed nameAllowed eachUnit isDots equal unitsOf unitAllowed leAt fromLe plainEntry
+unfolding firstOf entryAllowed entrySizeAllowed bodyAllowed nameAllowed isDots equal unitsOf unitAllowed leAt fromLe plainEntry
 entry-unsaved = is-entry refl
 
 -- a scan between two entries, after n of them, s of them saved

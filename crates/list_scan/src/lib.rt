@@ -2,7 +2,7 @@
 ghost use mathlib.Core.Path.{_≡_};
 ghost use mathlib.Core.Bool.{true, _&&_};
 ghost use mathlib.Core.Logic.{_⊎_};
-ghost use Prim.Native.Nat.{_+_, _*_, _%_, _^_, _<_, _≤_, min};
+ghost use Prim.Native.Nat.{_+_, _*_, _%_, _^_, _<_, _≤_};
 ghost use lib.ListN.{length};
 ghost use Rattle.entries.specs.Entry.{statusOf, fileSizeOf, md5Of, unitsOf};
 ghost use Rattle.entries.specs.Walk.{addEntry};
@@ -172,7 +172,7 @@ fn next_run(head: &[u8; 56], at: u64, low: u8, named: NameSoFar, rest: &[u8]) ->
 {
     if at < entries::NAME_AT as u64 {
         return Run {
-            length: lesser(entries::NAME_AT - at as usize, rest.len()),
+            length: lent_bytes::lesser(entries::NAME_AT - at as usize, rest.len()),
             named,
         };
     }
@@ -248,13 +248,6 @@ fn both(a: bool, b: bool) -> bool
     ensures { λ r. ⌜ r ≡ (a && b) ⌝ }
 {
     if a { b } else { false }
-}
-
-// The lesser of two lengths.
-fn lesser(a: usize, b: usize) -> usize
-    ensures { λ r. ⌜ r ≡ min a b ⌝ }
-{
-    if a <= b { a } else { b }
 }
 
 // The totals with an entry more.

@@ -8,22 +8,22 @@
 --   input-fits            so room of 65,536 bytes is never too short for it
 -- Assumes nothing.
 use mathlib.Core.Path.{_≡_, refl, sym, ap, _∙_, subst}
-use mathlib.Core.Bool.{Bool, true, false, cond, _&&_, _||_}
+use mathlib.Core.Bool.{Bool, true, false, cond}
 use mathlib.Core.List.{List, [], _∷_, flatten}
 use Prim.Native.Nat.{ℕ, zero, suc, _+_, _^_, _≤_, _<_}
 use native.Mathlib.Omega.{arith}
-use lib.Dec.{leb, eqb}
-use lib.ListN.{length, take, drop, length-append, length-take, length-drop, length-map}
-use lib.Seq.{length-take-le}
-use borrow.Author.Tests.{leb-true, eqb-true}
-use Rattle.refusals.specs.Limits.{maxFileSize, maxVolumeLength, maxFiles, maxListedLength}
-use Rattle.computed_tests.proofs.Tests.{and-both}
+use lib.Dec.{leb}
+use lib.ListN.{length, drop, length-append, length-take, length-drop, length-map}
+use borrow.Author.Tests.{leb-true}
+use Rattle.refusals.specs.Limits.{maxFileSize, maxVolumeLength, maxListedLength}
 use Rattle.lent_bytes.proofs.WritingLaws.{written-fits}
 use Rattle.cut_lists.specs.All.{All, all-none, all-more}
-use Rattle.cut_lists.proofs.CutLaws.{cut-all, cut-count, cut-length}
-use Rattle.entries.specs.Entry.{entrySize, statusOf, fileSizeOf, nameOf, unitsOf, isSaved, savedCount, lengthOf}
-use Rattle.entries.specs.Entry.{entrySizeAllowed, fileSizeAllowed, bodyAllowed, entryAllowed}
+use Rattle.cut_lists.proofs.CutLaws.{cut-count, cut-length}
+use Rattle.entries.specs.Entry.{statusOf, fileSizeOf, nameOf, isSaved, savedCount, lengthOf}
+use Rattle.entries.specs.Claim.{Keeps}
 use Rattle.entries.proofs.EntryLaws.{sized}
+use Rattle.entries.proofs.FirstFaults.{entries-keep}
+use Rattle.entries.proofs.NameLaws.{length-units}
 use Rattle.entries.proofs.WalkLaws.{saved-most, walk-count, walk-saved}
 use Rattle.text.specs.Ascii.{ascii}
 use Rattle.text.specs.Decimal.{decimal, field}
@@ -31,7 +31,7 @@ use Rattle.text.proofs.DecimalLaws.{decimal-length}
 use Rattle.par1_rules.specs.Layout.{volumeNumberOf, countOf, listSizeOf, listOf}
 use Rattle.refusals.specs.Tests.{bare}
 use Rattle.refusals.specs.declared.Refusal.{Refusal}
-use Rattle.par1_rules.specs.Rules.{numberAllowed}
+use Rattle.par1_rules.proofs.RuleLaws.{number-range}
 use Rattle.par1_read.specs.Reading.{entriesIn, readOf}
 use Rattle.par1_read.specs.declared.reading.Parts.{Parts}
 use Rattle.par1_read.specs.declared.reading.Reading.{Reading}
@@ -47,12 +47,6 @@ use Rattle.listing.specs.Listing.{listingBy, listingOf, inputListing}
 eight-digits : (n : ℕ) → n < 100000000 → length (decimal n) ≤ 8
 eight-digits n h = decimal-length n 7 h
 
-units-most : (s : List ℕ) → length (unitsOf s) ≤ length s
-unfolding unitsOf
-units-most [] = omega arith
-units-most (a ∷ []) = omega arith
-units-most (a ∷ b ∷ s) = omega (arith, units-most s)
-
 label-most : (status n : ℕ) → n < 100000000 → length (label status n) ≤ 8
 unfolding label
 label-most status n h = by (isSaved status)
@@ -66,7 +60,7 @@ line-most : (status n size : ℕ) (name : List ℕ) → n < 100000000 → size <
 unfolding lineOf flatten
 line-most status n size name h k =
     simp (length-append, length-map)
-    (omega (arith, label-most status n h, eight-digits size k, units-most name))
+    (omega (arith, label-most status n h, eight-digits size k, length-units name))
 
 head-most : (v n k : ℕ) → v < 100000000 → n < 100000000 → k < 100000000 → length (headLine v n k) ≤ 46
 unfolding headLine flatten
@@ -90,45 +84,18 @@ refused-most r h k = simp length-append (omega (arith, eight-digits (r .number) 
 
 -- ---- the lines of entries
 
--- the rules of an entry that bound its line
-record Listed (e : List ℕ) : Type 0 where
-  long : 58 ≤ length e
-  small : fileSizeOf e ≤ maxFileSize
-
-listed-first : (s : List ℕ) → 0 < length s → 0 < lengthOf s → Listed (take (lengthOf s) s)
-unfolding lengthOf entryAllowed bodyAllowed
-listed-first s some found = by (entryAllowed s) refl found
-  where
-    by : (b : Bool) → b ≡ entryAllowed s → 0 < cond b (entrySize s) 0 → Listed (take (cond b (entrySize s) 0) s)
-    by true e h =
-        let both = and-both (entrySizeAllowed (entrySize s) (length s)) (bodyAllowed (take (entrySize s) s)) (sym e) in
-        let z = sized (entrySize s) (length s) (both .0) in
-        let size = and-both (fileSizeAllowed (fileSizeOf (take (entrySize s) s))) _ (both .1) in
-        record { long = omega (arith, length-take-le (entrySize s) s (z .high), z .low); small = leb-true _ _ (size .0) }
-    by false e h = absurd (omega arith)
-
-lines-most : (k : ℕ) (es : List (List ℕ)) → All Listed es → k + length es < 100000000
+lines-most : (k : ℕ) (es : List (List ℕ)) → All Keeps es → k + length es < 100000000
     → length (entryLines k es) ≤ length (flatten es)
 unfolding entryLines flatten
 lines-most k [] all-none h = omega arith
 lines-most k (e ∷ es) (all-more l ls) h =
     let n : ℕ = k + savedCount (statusOf e) in
     let more : n ≤ k + 1 = omega (arith, saved-most (statusOf e)) in
-    let one = line-most (statusOf e) n (fileSizeOf e) (nameOf e) (omega arith) (omega (arith, l .small)) in
-    omega
-    (arith, one, lines-most n es ls (omega arith), length-append (entryLine n e) (entryLines n es), length-append e (flatten es), length-drop 56 e, l .long)
+    let one = line-most (statusOf e) n (fileSizeOf e) (nameOf e) (omega arith) (omega (arith, leb-true (fileSizeOf e) maxFileSize (l .file-size-right))) in
+    let long = sized (length e) (length e) (l .size-right) .low in
+    omega (arith, one, lines-most n es ls (omega arith), length-append (entryLine n e) (entryLines n es), length-append e (flatten es), length-drop 56 e)
 
 -- ---- the numbers of an accepted file
-
-number-most : (v n : ℕ) → numberAllowed v n ≡ true → (v ≤ 255) × (n ≤ maxFiles)
-unfolding numberAllowed
-number-most v n e =
-    let both = and-both (leb n maxFiles) (eqb v 0 || leb 1 n && leb (v + n) 255) e in
-    (by (eqb v 0) refl (both .1), leb-true n maxFiles (both .0))
-  where
-    by : (b : Bool) → eqb v 0 ≡ b → (b || leb 1 n && leb (v + n) 255) ≡ true → v ≤ 255
-    by true z e = omega (arith, eqb-true v 0 z)
-    by false z e = omega (arith, leb-true (v + n) 255 (and-both (leb 1 n) (leb (v + n) 255) e .1))
 
 accepted-shorter : (f : List ℕ) → Passed f → length (listingBy (Accepted (partsOf f)) f) < length f
 accepted-shorter f tests =
@@ -137,11 +104,11 @@ accepted-shorter f tests =
     let fits : 96 + listSizeOf f ≤ length f = omega (arith, tests .header .layout .data-start, tests .header .layout .data-end) in
     let few : length es ≤ length (listOf f) = cut-count lengthOf (listOf f) in
     let most : length f ≤ maxVolumeLength = tests .header .size .high in
-    let small = number-most (volumeNumberOf f) (tests .totals-of .saved) (tests .totals .number-right) in
+    let small = number-range (volumeNumberOf f) (tests .totals-of .saved) (tests .totals .number-right) in
     let count : countOf f ≡ length es = sym (tests .totals .count-is) ∙ walk-count (listOf f) (tests .walk-is) in
     let saved = walk-saved (listOf f) (tests .walk-is) in
     let head = head-most (partsOf f .number) (partsOf f .entries) (partsOf f .saved) (omega (arith, small .0)) (omega arith) (omega (arith, small .1, saved)) in
-    let lines = lines-most 0 es (cut-all lengthOf Listed listed-first (listOf f)) (omega arith) in
+    let lines = lines-most 0 es (entries-keep (listOf f)) (omega arith) in
     omega
     (arith, head, lines, cut-length lengthOf (listOf f), length-append (headLine (partsOf f .number) (partsOf f .entries) (partsOf f .saved)) (entryLines 0 es))
 

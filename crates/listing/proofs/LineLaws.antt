@@ -1,7 +1,6 @@
 -- The lines of entries, one after another.
 --
 --   lines-more    the first entry's line, and then those of the others
---   name-part     the part of a list that is the name of the entry at a position
 --   lines-none    no entries have none
 --   lines-append  the lines of entries in a row
 --   line-numbered the line of an entry has its file number, as entries' `fileNumber` gives it
@@ -9,12 +8,11 @@
 use mathlib.Core.Path.{_≡_, refl, sym, ap, ap₂, _∙_}
 use mathlib.Core.List.{List, [], _∷_, _++_, append-assoc, map, flatten}
 use mathlib.Core.Bool.{Bool, true, false, cond}
-use Prim.Native.Nat.{ℕ, zero, suc, _+_, _-_}
+use Prim.Native.Nat.{ℕ, _+_}
 use native.Mathlib.Nat.{zero-add, add-zero}
-use native.Mathlib.Numerals.{unary-clauses}
 use native.Mathlib.Omega.{arith}
 use lib.ListN.{length, take, drop, getD}
-use lib.Seq.{getD-append-seam, take-append-seam, take-nil, drop-drop}
+use lib.Seq.{getD-append-seam, take-append-seam}
 use Rattle.cut_lists.specs.Pieces.{Cut}
 use Rattle.entries.specs.Entry.{statusOf, fileSizeOf, nameOf, unitsOf, isSaved, savedCount}
 use Rattle.entries.specs.Numbering.{savedOf, fileNumber}
@@ -34,17 +32,6 @@ lines-more k {s} {n} i =
     let rest : ℕ → List ℕ = λ m. entryLines m (entriesOf (drop n s) .pieces) in
     ap₂ (λ (st sz : ℕ). lineOf st (k + savedCount st) sz (nameOf (take n s)) ++ rest (k + savedCount st)) (i .status-is) (i .size-is)
     ∙ sym (ap (λ (c : Cut). entryLines k (c .pieces)) (entries-more i))
-
-drop-take : (k n : ℕ) (l : List ℕ) → drop k (take n l) ≡ take (n - k) (drop k l)
-drop-take zero n l = simp unary-clauses
-drop-take (suc k) zero l = let none : 0 - suc k ≡ 0 = omega arith in rw none
-drop-take (suc k) (suc n) [] = sym (take-nil (suc n - suc k))
-drop-take (suc k) (suc n) (b ∷ l) = simp unary-clauses (drop-take k n l)
-
-pub name-part : (s : List ℕ) (at n : ℕ) → take (at + n - (at + 56)) (drop (at + 56) s) ≡ nameOf (take n (drop at s))
-name-part s at n =
-    let size : at + n - (at + 56) ≡ n - 56 = omega arith in
-    ap₂ (λ (k : ℕ) (t : List ℕ). take k t) size (sym (drop-drop 56 at s)) ∙ sym (drop-take 56 n (drop at s))
 
 pub lines-none : (k : ℕ) {es : List (List ℕ)} → es ≡ [] → entryLines k es ≡ []
 unfolding entryLines

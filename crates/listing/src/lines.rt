@@ -6,6 +6,7 @@ ghost use Rattle.entries.specs.Walk.{entriesOf};
 ghost use Rattle.text.specs.Buffer.{buffer, put as putOf};
 ghost use Rattle.listing.specs.Lines.{shown as shownOf, isPlaced, placeField, refusedLine, headLine, label, lineOf, entryLines};
 use entries::Item;
+use par1_rules::layout;
 use refusals::Refusal;
 
 // The line of a refused file.
@@ -43,7 +44,7 @@ pub fn put_entries<'a, 'b>(out: &'a mut [u8], start: usize, list: &'b [u8]) -> u
         else {
             return at;
         };
-        let name = &list[from + entries::NAME_AT..from + length];
+        let name = layout::name_of(layout::part(list, from, length));
         saved += entries::saved_count(status);
         at = put_line(out, at, status, saved, size, name);
         from += length;

@@ -9,16 +9,17 @@ use lib.ListN.{length, take, drop, getD, replicate, length-map, List·getD-appen
 use lib.Seq.{take-append-seam, drop-append-seam}
 use Rattle.refusals.specs.declared.Refusal.{Refusal}
 use Rattle.little_endian.specs.Bytes.{Bytes}
-use Rattle.little_endian.proofs.Numbers.{bytes-take}
+use Rattle.little_endian.proofs.Numbers.{bytes-take, bytes-drop}
 use Rattle.lent_bytes.specs.Writing.{refused, accepted}
 use Rattle.lent_bytes.specs.declared.Writing.{Writing}
-use Rattle.lent_bytes.specs.declared.Writing.the-variants.{Written, Refused}
-use Rattle.lent_bytes.proofs.WritingLaws.{never, written-fits, written-short}
+use Rattle.lent_bytes.specs.declared.Writing.the-variants.{Written}
+use Rattle.lent_bytes.proofs.WritingLaws.{never, written-fits, written-short, accepted-tells, refused-exactly}
 use Rattle.cut_lists.specs.All.{All, all-none, all-more}
 use Rattle.cut_lists.specs.Pieces.{Cut}
 use Rattle.cut_lists.proofs.AllLaws.{all-at}
 use Rattle.cut_lists.proofs.CutLaws.{cut-none}
 use Rattle.entries.specs.Entry.{md5Of}
+use Rattle.entries.proofs.EntryBytes.{IsEntryBytes, entries-bytes}
 use Rattle.par1_read.specs.Reading.{entriesIn, readOf}
 use Rattle.par1_read.specs.declared.reading.Parts.{Parts}
 use Rattle.par1_read.specs.declared.reading.Reading.the-variants as reading
@@ -31,9 +32,9 @@ use Rattle.md5sum_text.specs.Import.{answerFor, importInto}
 use Rattle.md5sum_text.specs.Claim as claim
 use Rattle.md5sum_text.specs.Claim.{LineOf, Line, Fits, Good, Says, same-sum, SaysAll, FirstFault, ImportRefuses, ExportRefuses}
 use Rattle.md5sum_text.proofs.CallLaws.{export-unread, export-unfit, export-fit, import-unread, import-faulty, import-right}
-use Rattle.md5sum_text.proofs.ExportLaws.{bytes-drop, Sound, entries-sound, sum-spells, line-for, lines-for, all-fitting, fitting-all, unfitting, at-map}
+use Rattle.md5sum_text.proofs.ExportLaws.{sum-spells, line-for, lines-for, all-fitting, fitting-all, unfitting, at-map}
 use Rattle.md5sum_text.proofs.FaultLaws.{earliest-faulty, none-faulty}
-use Rattle.md5sum_text.proofs.Outcomes.{fits, short, not-written, refused-as, written-as, answersIn}
+use Rattle.md5sum_text.proofs.Outcomes.{fits, short, answersIn}
 use Rattle.md5sum_text.proofs.Outcomes.{ExportView, export-refuses, export-unfits, exports, export-view}
 use Rattle.md5sum_text.proofs.Outcomes.{ImportView, import-refuses, import-faults, imports, import-view}
 use Rattle.md5sum_text.proofs.SaysLaws.{says-it, says-one}
@@ -52,7 +53,7 @@ says-all : (f s out : List ℕ) (ls : List (List ℕ)) {n : ℕ} {room : List �
     → accepted (answersIn f s) out ≡ (Written n, room) → SaysAll (entriesIn f) ls out n room
 says-all f s out ls {n} {room} e good is =
     let es : List (List ℕ) = entriesIn f in
-    let told = written-as (answersIn f s) out is in
+    let told = accepted-tells (answersIn f s) out is in
     let size : length (answersIn f s) ≡ length es = simp length-map in
     let count : n ≡ length es = told .0 ∙ size in
     let byte : (k : ℕ) → k < n → getD room k 0 ≡ answerFor ls (getD es k []) = λ k h.
@@ -86,33 +87,29 @@ fault-some {r = r} f z = by (f .faulty) z
     by (claim.another-sum t q y l k h i o) z = omega arith
 
 pub import-refused : claim.ImportRefused
-import-refused f s out r = (to, λ room e. from (import-view f s out) e)
+import-refused f s out = refused-exactly (ImportRefuses f s out) (answersIn f s) out (λ r z. given z) (first (import-view f s out))
   where
     size : length (answersIn f s) ≡ length (entriesIn f)
     size = simp length-map
 
-    to : {q : Refusal} → ImportRefuses f s out q → importInto f s out ≡ refused q out
-    to (claim.unread read) = sym (import-unread f s out read)
-    to {q} (claim.faulty read fault) = sym (import-faulty f s out read (sym (earliest-faulty (entriesIn f) s q .1 fault)) (fault-some fault))
-    to (claim.no-room ls read e good h) =
+    given : {r : Refusal} → ImportRefuses f s out r → importInto f s out ≡ refused r out
+    given (claim.unread read) = sym (import-unread f s out read)
+    given {r} (claim.faulty read fault) = sym (import-faulty f s out read (sym (earliest-faulty (entriesIn f) s r .1 fault)) (fault-some fault))
+    given (claim.no-room ls read e good h) =
         sym (import-right f s out read refl (none-faulty (entriesIn f) s .1 ls e good) (written-short (answersIn f s) out (omega (arith, size))))
 
-    from : {w : Writing × List ℕ} {room : List ℕ} → ImportView f s out w → w ≡ (Refused r, room) → ImportRefuses f s out r × (room ≡ out)
-    from (import-refuses read) e =
-        let t = refused-as e in (subst (ImportRefuses f s out) (t .0) (claim.unread read), t .1)
-    from (import-faults read some) e =
-        let t = refused-as e in
-        (claim.faulty read (earliest-faulty (entriesIn f) s r .0 (t .0) (λ z. some (ap (λ (q : Refusal). q .number) (t .0) ∙ z))), t .1)
-    from (imports read none (short h)) e =
-        let t = refused-as e in
-        let g = none-faulty (entriesIn f) s .0 none in
-        (subst (ImportRefuses f s out) (t .0) (claim.no-room (g .0) read (g .1) (g .2) (omega (arith, size))), t .1)
-    from (imports read none (fits h)) e = not-written (answersIn f s) out e
+    first : {w : Writing × List ℕ} → ImportView f s out w → (P : Type 0) → ((r : Refusal) → ImportRefuses f s out r → P)
+        → (w ≡ accepted (answersIn f s) out → P) → P
+    first (import-refuses read) P some none = some _ (claim.unread read)
+    first (import-faults read fault) P some none = some _ (claim.faulty read (earliest-faulty (entriesIn f) s _ .0 refl fault))
+    first (imports read right (short h)) P some none =
+        let g = none-faulty (entriesIn f) s .0 right in some _ (claim.no-room (g .0) read (g .1) (g .2) (omega (arith, size)))
+    first (imports read right (fits h)) P some none = none refl
 
 -- ---- exports
 
 pub export-refused : claim.ExportRefused
-export-refused f out r = (to, λ room e. from (export-view f out) e)
+export-refused f out = refused-exactly (ExportRefuses f out) (exportText (entriesIn f)) out (λ r z. given z) (first (export-view f out))
   where
     unfit-is : (k : ℕ) → k < length (entriesIn f) → (Fits (getD (entriesIn f) k []) → ⊥) → allFitting (entriesIn f) ≡ false
     unfit-is k h unfit = by (allFitting (entriesIn f)) refl
@@ -121,30 +118,28 @@ export-refused f out r = (to, λ room e. from (export-view f out) e)
         by true e = absurd (unfit (all-at [] (all-fitting (entriesIn f) e) k h))
         by false e = refl
 
-    to : {q : Refusal} → ExportRefuses f out q → exportInto f out ≡ refused q out
-    to (claim.unread read) = sym (export-unread f out read)
-    to (claim.unfit k read h u) = sym (export-unfit f out read (unfit-is k h u))
-    to (claim.no-room read all h) = sym (export-fit f out read (fitting-all all) (written-short (exportText (entriesIn f)) out h))
+    given : {r : Refusal} → ExportRefuses f out r → exportInto f out ≡ refused r out
+    given (claim.unread read) = sym (export-unread f out read)
+    given (claim.unfit k read h u) = sym (export-unfit f out read (unfit-is k h u))
+    given (claim.no-room read all h) = sym (export-fit f out read (fitting-all all) (written-short (exportText (entriesIn f)) out h))
 
-    from : {w : Writing × List ℕ} {room : List ℕ} → ExportView f out w → w ≡ (Refused r, room) → ExportRefuses f out r × (room ≡ out)
-    from (export-refuses read) e = let t = refused-as e in (subst (ExportRefuses f out) (t .0) (claim.unread read), t .1)
-    from (export-unfits read u) e =
-        let t = refused-as e in
-        let k = unfitting (entriesIn f) u in (subst (ExportRefuses f out) (t .0) (claim.unfit (k .0) read (k .1) (k .2)), t .1)
-    from (exports read all (short h)) e =
-        let t = refused-as e in (subst (ExportRefuses f out) (t .0) (claim.no-room read (all-fitting (entriesIn f) all) h), t .1)
-    from (exports read all (fits h)) e = not-written (exportText (entriesIn f)) out e
+    first : {w : Writing × List ℕ} → ExportView f out w → (P : Type 0) → ((r : Refusal) → ExportRefuses f out r → P)
+        → (w ≡ accepted (exportText (entriesIn f)) out → P) → P
+    first (export-refuses read) P some none = some _ (claim.unread read)
+    first (export-unfits read u) P some none = let k = unfitting (entriesIn f) u in some _ (claim.unfit (k .0) read (k .1) (k .2))
+    first (exports read all (short h)) P some none = some _ (claim.no-room read (all-fitting (entriesIn f) all) h)
+    first (exports read all (fits h)) P some none = none refl
 
 -- the entries of a file are bytes, and long enough
-sound-in : (f : List ℕ) → Bytes f → All Sound (entriesIn f)
-sound-in f b = entries-sound (listOf f) (bytes-take (listSizeOf f) (drop 96 f) (bytes-drop 96 f b))
+sound-in : (f : List ℕ) → Bytes f → All IsEntryBytes (entriesIn f)
+sound-in f b = entries-bytes (listOf f) (bytes-take (listSizeOf f) (drop 96 f) (bytes-drop 96 f b))
 
 -- the line of each entry
 module _ (f : List ℕ) (b : Bytes f) (all : allFitting (entriesIn f) ≡ true) where
   abbrev es′ : List (List ℕ)
   es′ = entriesIn f
 
-  sound-at : (k : ℕ) → k < length es′ → Sound (getD es′ k [])
+  sound-at : (k : ℕ) → k < length es′ → IsEntryBytes (getD es′ k [])
   sound-at k h = all-at [] (sound-in f b) k h
 
   line-at : (k : ℕ) → k < length es′ → LineOf (sumOf (getD es′ k [])) (textOf (getD es′ k [])) (getD (map lineFor es′) k [])
@@ -155,7 +150,7 @@ module _ (f : List ℕ) (b : Bytes f) (all : allFitting (entriesIn f) ≡ true) 
   all-lines : All Line (map lineFor es′)
   all-lines = each (sound-in f b) (all-fitting es′ all)
     where
-      each : {ds : List (List ℕ)} → All Sound ds → All Fits ds → All Line (map lineFor ds)
+      each : {ds : List (List ℕ)} → All IsEntryBytes ds → All Fits ds → All Line (map lineFor ds)
       each all-none all-none = all-none
       each (all-more s ss) (all-more h hs) = all-more (record { sum = _; name = _; line-of = line-for s h }) (each ss hs)
 
@@ -201,7 +196,7 @@ exported f out n room e = by (export-view f out) e
     by (export-unfits read u) e = never e
     by (exports read all (short h)) e = never e
     by (exports {p} read all (fits h)) e =
-        let t = written-as (exportText (entriesIn f)) out e in record { parts = p; read = read; all = all; size = t .0; room-is = t .1 }
+        let t = accepted-tells (exportText (entriesIn f)) out e in record { parts = p; read = read; all = all; size = t .0; room-is = t .1 }
 
 -- its text
 text-is : {f out room : List ℕ} {n : ℕ} → Exported f out n room → take n room ≡ exportText (entriesIn f)

@@ -1,6 +1,6 @@
 -- What the calls give, from what reading the file gives.
 --
---   read-list, read-count            the entries of an accepted file, and how many there are
+--   read-entries                     the entries of an accepted file
 --   export-unread, export-unfit, export-fit     an export, by what the tests found
 --   text-again, text-rest, shape-some, shape-none     the refusal of a text, by what its lines are
 --   import-unread, import-faulty, import-right  an import, by what the tests found
@@ -19,28 +19,20 @@ use Rattle.lent_bytes.specs.declared.Writing.{Writing}
 use Rattle.lent_bytes.proofs.WritingLaws.{unless-none, unless-refused}
 use Rattle.cut_lists.specs.Pieces.{Cut}
 use Rattle.entries.specs.Walk.{entriesOf}
-use Rattle.entries.proofs.WalkLaws.{walk-count}
-use Rattle.par1_rules.specs.Layout.{listOf}
 use Rattle.par1_read.specs.Reading.{entriesIn, readOf}
 use Rattle.par1_read.specs.declared.reading.Parts.{Parts}
 use Rattle.par1_read.specs.declared.reading.Reading.{Reading}
 use Rattle.par1_read.specs.declared.reading.Reading.the-variants as reading
-use Rattle.par1_read.proofs.ReadingLaws.{read-tells, refused-some}
+use Rattle.par1_read.proofs.ReadingLaws.{read-list, refused-some}
 use Rattle.md5sum_text.specs.Lines.{linesOf}
 use Rattle.md5sum_text.specs.Export.{exportText, allFitting, exportRefusal, exportInto}
 use Rattle.md5sum_text.specs.Import.{againIn, shapeRefusal, textRefusal, answerFor, importRefusal, importInto}
 
 -- ---- an accepted file
 
-module _ (f : List ℕ) {p : Parts} (read : readOf f ≡ reading.Accepted p) where
-  pub read-list : {list : List ℕ} → list ≡ take (p .«list_size») (drop 96 f) → entriesOf list .pieces ≡ entriesIn f
-  read-list e =
-      ap (λ (l : List ℕ). entriesOf l .pieces) (e ∙ ap (λ (q : Parts). take (q .«list_size») (drop 96 f)) (read-tells f p read .parts-are))
-
-  pub read-count : p .entries ≡ length (entriesIn f)
-  read-count =
-      let t = read-tells f p read .tests in
-      ap (λ (q : Parts). q .entries) (read-tells f p read .parts-are) ∙ sym (t .totals .count-is) ∙ walk-count (listOf f) (t .walk-is)
+pub read-entries : (f : List ℕ) {p : Parts} → readOf f ≡ reading.Accepted p → {list : List ℕ} → list ≡ take (p .«list_size») (drop 96 f)
+    → entriesOf list .pieces ≡ entriesIn f
+read-entries f read e = ap (λ (l : List ℕ). entriesOf l .pieces) (e ∙ read-list f read)
 
 -- ---- exports
 

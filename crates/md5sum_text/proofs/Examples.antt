@@ -16,7 +16,7 @@ use Rattle.text.specs.Ascii.{ascii}
 use Rattle.text.specs.Hex.{hexDigit, hexBytes, isHexDigit, allHexDigits}
 use Rattle.text.specs.TextLines.{lineLength}
 use Rattle.md5sum_text.specs.Lines.{isShaped, shapedLength, linesOf}
-use Rattle.md5sum_text.specs.Names.{unitsFit, isFitting, isNamed}
+use Rattle.md5sum_text.specs.Names.{isFitting, isNamed}
 use Rattle.md5sum_text.specs.Export.{lineFor}
 use Rattle.md5sum_text.specs.Import.{any, isAgain, againIn, textRefusal, answerFor}
 
@@ -32,7 +32,7 @@ unfolding lineFor flatten hexBytes hexDigit unitsOf leAt fromLe
 its-line = refl
 
 not-fitting : isFitting (entry 127) ≡ false
-unfolding unitsFit unitsOf leAt fromLe
+unfolding unitsOf leAt fromLe
 not-fitting = refl
 
 -- ---- shapes
@@ -67,26 +67,26 @@ other = line "00000000000000000000000000000000  a b"
 
 -- the listed name "a b" again with another sum, in line 2
 again : textRefusal (entry 32 ∷ []) (linesOf (full ++ other)) ≡ record { number = 23; place = 2 }
-unfolding textRefusal againIn firstBelow isAgain any isNamed unitsFit unitsOf leAt fromLe equal cut cutIn shapedLength lineLength isShaped allHexDigits
+unfolding textRefusal againIn firstBelow isAgain any isNamed unitsOf leAt fromLe equal cut cutIn shapedLength lineLength isShaped allHexDigits
     isHexDigit
 again = refl
 
 -- where no entry has that name, it is passed over
 unlisted : textRefusal (entry 33 ∷ []) (linesOf (full ++ other)) ≡ bare 0
-unfolding textRefusal againIn firstBelow isAgain any isNamed unitsFit unitsOf leAt fromLe equal cut cutIn shapedLength lineLength isShaped allHexDigits
+unfolding textRefusal againIn firstBelow isAgain any isNamed unitsOf leAt fromLe equal cut cutIn shapedLength lineLength isShaped allHexDigits
     isHexDigit
 unlisted = refl
 
 -- ---- bytes
 
 same : answerFor (full ∷ []) (entry 32) ≡ 1
-unfolding answerFor isNamed unitsFit unitsOf leAt fromLe equal hexBytes hexDigit
+unfolding answerFor isNamed unitsOf leAt fromLe equal hexBytes hexDigit
 same = refl
 
 different : answerFor (other ∷ []) (entry 32) ≡ 2
-unfolding answerFor isNamed unitsFit unitsOf leAt fromLe equal hexBytes hexDigit
+unfolding answerFor isNamed unitsOf leAt fromLe equal hexBytes hexDigit
 different = refl
 
 none : answerFor (full ∷ []) (entry 33) ≡ 0
-unfolding answerFor isNamed unitsFit unitsOf leAt fromLe equal hexBytes hexDigit
+unfolding answerFor isNamed unitsOf leAt fromLe equal hexBytes hexDigit
 none = refl

@@ -1,7 +1,5 @@
 -- The lines of an export.
 --
---   bytes-drop               the bytes from a position on
---   Sound, entries-sound     an entry of a file: long enough, and of bytes
 --   line-for                 the line of an entry that fits is the line of its sum and its name
 --   sum-spells               its sum spells its MD5
 --   lines-for                the text of an export is the lines of the entries
@@ -11,46 +9,29 @@
 use mathlib.Core.Path.{_≡_, refl, ap}
 use mathlib.Core.Bool.{Bool, true, false, _&&_}
 use mathlib.Core.List.{List, [], _∷_, _++_, map, flatten}
-use Prim.Native.Nat.{ℕ, zero, suc, _+_, _≤_, _<_}
+use Prim.Native.Nat.{ℕ, zero, suc, _<_}
 use native.Mathlib.Omega.{arith}
 use lib.ListN.{length, drop, getD, length-take, length-drop}
-use lib.Seq.{getD-drop, length-take-le}
 use Rattle.computed_tests.proofs.Tests.{and-both}
 use Rattle.cut_lists.specs.All.{All, all-none, all-more}
 use Rattle.cut_lists.proofs.AllLaws.{all-map}
-use Rattle.cut_lists.proofs.CutLaws.{cut-induct}
 use Rattle.little_endian.specs.Bytes.{Bytes}
-use Rattle.little_endian.proofs.Numbers.{bytes-take}
-use Rattle.entries.specs.Entry.{md5Of, nameOf, lengthOf}
-use Rattle.entries.specs.Walk.{entriesOf}
-use Rattle.entries.proofs.EntryLaws.{length-sized}
+use Rattle.little_endian.proofs.Numbers.{bytes-take, bytes-drop}
+use Rattle.entries.specs.Entry.{md5Of, nameOf}
+use Rattle.entries.proofs.EntryBytes.{IsEntryBytes}
+use Rattle.entries.proofs.NameLaws.{length-units}
 use Rattle.text.proofs.HexLaws.{hex-length, hex-lower, hex-spelled}
 use Rattle.md5sum_text.specs.Names.{textOf, isFitting, sumOf}
 use Rattle.md5sum_text.specs.Export.{lineFor, exportText, allFitting}
 use Rattle.md5sum_text.specs.Claim.{LineOf, Fits, Spells}
 use Rattle.md5sum_text.proofs.FaultLaws.{fits-all, all-fit}
-use Rattle.md5sum_text.proofs.NameLaws.{units-length}
 use Rattle.md5sum_text.proofs.ShapeLaws.{lower-all}
 
 -- ---- entries
 
-pub bytes-drop : (n : ℕ) (s : List ℕ) → Bytes s → Bytes (drop n s)
-bytes-drop n s h i = rw getD-drop (h (n + i))
-
-pub record Sound (e : List ℕ) : Type 0 where
-  pub long : 58 ≤ length e
-  pub bytes : Bytes e
-
-pub entries-sound : (s : List ℕ) → Bytes s → All Sound (entriesOf s .pieces)
-entries-sound =
-    cut-induct lengthOf (λ s c. Bytes s → All Sound (c .pieces)) (λ b. all-none) (λ s e b. all-none)
-    (λ s h k r b.
-    let z = length-sized s k in
-    all-more (record { long = omega (arith, z .1, length-take-le (lengthOf s) s (z .2)); bytes = bytes-take (lengthOf s) s b }) (r (bytes-drop (lengthOf s) s b)))
-
-module _ {e : List ℕ} (sound : Sound e) where
+module _ {e : List ℕ} (sound : IsEntryBytes e) where
   hash-length : length (md5Of e) ≡ 16
-  hash-length = omega (arith, length-take 16 (drop 24 e), length-drop 24 e, sound .long)
+  hash-length = omega (arith, length-take 16 (drop 24 e), length-drop 24 e, sound .low)
 
   hash-bytes : Bytes (md5Of e)
   hash-bytes = bytes-take 16 (drop 24 e) (bytes-drop 24 e (sound .bytes))
@@ -70,7 +51,7 @@ module _ {e : List ℕ} (sound : Sound e) where
         line-is = refl;
         sum-length = sum-spells .sum-length;
         digits = sum-spells .digits;
-        some = omega (arith, units-length (nameOf e), length-drop 56 e, sound .long);
+        some = omega (arith, length-units (nameOf e), length-drop 56 e, sound .low);
         no-end = all-map (λ u h z. omega arith) fits;
       }
 
@@ -82,18 +63,15 @@ lines-for [] = refl
 lines-for (e ∷ es) = ap (λ (t : List ℕ). lineFor e ++ t) (lines-for es)
 
 pub all-fitting : (es : List (List ℕ)) → allFitting es ≡ true → All Fits es
-unfolding allFitting
 all-fitting [] e = all-none
 all-fitting (x ∷ es) e = let b = and-both (isFitting x) (allFitting es) e in all-more (fits-all (textOf x) (b .0)) (all-fitting es (b .1))
 
 pub fitting-all : {es : List (List ℕ)} → All Fits es → allFitting es ≡ true
-unfolding allFitting
 fitting-all all-none = refl
 fitting-all (all-more h hs) = simp (all-fit h, fitting-all hs)
 
 -- one that does not
 pub unfitting : (es : List (List ℕ)) → allFitting es ≡ false → (k : ℕ) × (k < length es) × (Fits (getD es k []) → ⊥)
-unfolding allFitting
 unfitting [] e = absurd (let z : _≡_ {A = ℕ} 0 1 = cc in omega arith)
 unfitting (x ∷ es) e = by (isFitting x) refl e (λ r. unfitting es r)
   where

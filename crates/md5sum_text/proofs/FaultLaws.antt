@@ -52,7 +52,6 @@ any-found t d (x ∷ xs) e = by (t x) refl e (λ r. any-found t d xs r)
 -- ---- names
 
 pub fits-all : (us : List ℕ) → unitsFit us ≡ true → All (λ u. (32 ≤ u) × (u ≤ 126)) us
-unfolding unitsFit
 fits-all [] e = all-none
 fits-all (u ∷ us) e =
     let b = and-both (unitFits u) (unitsFit us) e in
@@ -60,7 +59,6 @@ fits-all (u ∷ us) e =
     all-more (leb-true 32 u (h .0), leb-true u 126 (h .1)) (fits-all us (b .1))
 
 pub all-fit : {us : List ℕ} → All (λ u. (32 ≤ u) × (u ≤ 126)) us → unitsFit us ≡ true
-unfolding unitsFit
 all-fit all-none = refl
 all-fit (all-more {x} h hs) = simp (le-leb 32 x (h .0), le-leb x 126 (h .1), all-fit hs)
 

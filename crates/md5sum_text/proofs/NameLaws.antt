@@ -1,14 +1,12 @@
 -- The units of names, from a position on.
 --
---   units-length       how many units there are
---   fit-none, fit-more     whether the units from a position on fit a line
 --   fits-first, fits-rest  what follows of units that fit
 --   same-end, same-more    whether the units from a position on are the bytes of a text
 --   same-lengths       they are not where there are more or fewer
 -- Assumes nothing.
-use mathlib.Core.Path.{_≡_, refl, sym, ap, ap₂, _∙_}
-use mathlib.Core.Bool.{Bool, true, false, _&&_}
-use mathlib.Core.List.{List, [], _∷_}
+use mathlib.Core.Path.{_≡_, sym, ap, ap₂, _∙_}
+use mathlib.Core.Bool.{true, false, _&&_}
+use mathlib.Core.List.{List, _∷_}
 use Prim.Native.Nat.{ℕ, _+_, _*_, _/_, _≤_, _<_}
 use native.Mathlib.Numerals.{add-one}
 use native.Mathlib.Omega.{arith}
@@ -21,39 +19,23 @@ use Rattle.computed_tests.proofs.Tests.{and-both}
 use Rattle.lent_bytes.specs.Equal.{equal}
 use Rattle.lent_bytes.proofs.EqualLaws.{equal-lengths}
 use Rattle.entries.specs.Entry.{unitsOf}
-use Rattle.entries.proofs.NameLaws.{units-none, units-more}
+use Rattle.entries.proofs.NameLaws.{units-none, units-more, length-units}
 use Rattle.md5sum_text.specs.Names.{unitFits, unitsFit}
 
-pub units-length : (s : List ℕ) → length (unitsOf s) ≡ length s / 2
-unfolding unitsOf
-units-length [] = refl
-units-length (a ∷ []) = omega arith
-units-length (a ∷ b ∷ s) = omega (arith, units-length s)
+-- of units that fit, the first is a byte, and the others fit
+module _ (s : List ℕ) (at : ℕ) (fits : unitsFit (unitsOf (drop at s)) ≡ true) (h : at + 2 ≤ length s) where
+  both : (unitFits (leAt 2 s at) ≡ true) × (unitsFit (unitsOf (drop (at + 2) s)) ≡ true)
+  both = and-both (unitFits (leAt 2 s at)) _ (ap unitsFit (sym (units-more s at h)) ∙ fits)
 
-module _ (s : List ℕ) (at : ℕ) where
-  pub fit-none : length s < at + 2 → unitsFit (unitsOf (drop at s)) ≡ true
-  unfolding unitsFit
-  fit-none h = ap unitsFit (units-none s at h)
+  pub fits-first : leAt 2 s at ≤ 126
+  fits-first = leb-true (leAt 2 s at) 126 (and-both (leb 32 (leAt 2 s at)) (leb (leAt 2 s at) 126) (both .0) .1)
 
-  pub fit-more : {r : Bool} → at + 2 ≤ length s → r ≡ unitFits (leAt 2 s at)
-      → unitsFit (unitsOf (drop at s)) ≡ (r && unitsFit (unitsOf (drop (at + 2) s)))
-  unfolding unitsFit
-  fit-more {r} h e = ap unitsFit (units-more s at h) ∙ ap (λ (b : Bool). b && unitsFit (unitsOf (drop (at + 2) s))) (sym e)
-
-  -- of units that fit, the first is a byte, and the others fit
-  module _ (fits : unitsFit (unitsOf (drop at s)) ≡ true) (h : at + 2 ≤ length s) where
-    both : (unitFits (leAt 2 s at) ≡ true) × (unitsFit (unitsOf (drop (at + 2) s)) ≡ true)
-    both = and-both (unitFits (leAt 2 s at)) _ (sym (fit-more h refl) ∙ fits)
-
-    pub fits-first : leAt 2 s at ≤ 126
-    fits-first = leb-true (leAt 2 s at) 126 (and-both (leb 32 (leAt 2 s at)) (leb (leAt 2 s at) 126) (both .0) .1)
-
-    pub fits-rest : unitsFit (unitsOf (drop (at + 2) s)) ≡ true
-    fits-rest = both .1
+  pub fits-rest : unitsFit (unitsOf (drop (at + 2) s)) ≡ true
+  fits-rest = both .1
 
 module _ (s t : List ℕ) where
   pub same-lengths : (length s / 2 ≡ length t → ⊥) → equal (unitsOf s) t ≡ false
-  same-lengths h = equal-lengths (unitsOf s) t (λ e. h (sym (units-length s) ∙ e))
+  same-lengths h = equal-lengths (unitsOf s) t (λ e. h (sym (length-units s) ∙ e))
 
   pub same-end : (i : ℕ) → length s < 2 * i + 2 → length t ≤ i → equal (unitsOf (drop (2 * i) s)) (drop i t) ≡ true
   unfolding equal

@@ -3,21 +3,20 @@
 --   Outcome, outcome          what a call that writes gives, by its tests and its room
 --   ExportView, export-view   what an export gives, by what reading gives and by the names
 --   ImportView, import-view   what an import gives, by what reading gives and by the text
---   not-written, refused-as, written-as    what an answer tells of an outcome
 -- Assumes nothing.
-use mathlib.Core.Path.{_≡_, refl, sym, ap, subst}
+use mathlib.Core.Path.{_≡_, refl, subst}
 use mathlib.Core.Bool.{Bool, true, false, cond}
-use mathlib.Core.List.{List, map, _++_}
+use mathlib.Core.List.{List, map}
 use Prim.Native.Nat.{ℕ, zero, suc, _≤_, _<_}
 use native.Mathlib.Omega.{arith}
 use borrow.Author.Tests.{leb-true, leb-false}
 use lib.Dec.{leb}
-use lib.ListN.{length, drop}
+use lib.ListN.{length}
 use Rattle.refusals.specs.Tests.{bare}
 use Rattle.refusals.specs.declared.Refusal.{Refusal}
 use Rattle.lent_bytes.specs.Writing.{refused, accepted, written}
 use Rattle.lent_bytes.specs.declared.Writing.{Writing}
-use Rattle.lent_bytes.specs.declared.Writing.the-variants.{Written, Refused}
+use Rattle.lent_bytes.specs.declared.Writing.the-variants.{Refused}
 use Rattle.par1_read.specs.Reading.{entriesIn, readOf}
 use Rattle.par1_read.specs.declared.reading.Parts.{Parts}
 use Rattle.par1_read.specs.declared.reading.Reading.{Reading}
@@ -40,21 +39,6 @@ outcome s out = by (leb (length s) (length out)) refl
     by : (b : Bool) → leb (length s) (length out) ≡ b → Outcome s out (cond b (accepted s out) (refused (bare 14) out))
     by true e = fits (leb-true (length s) (length out) e)
     by false e = short (leb-false (length s) (length out) e)
-
--- ---- what an answer tells
-
-pub not-written : {B : Type 0} (s out : List ℕ) {r : Refusal} {room : List ℕ} → accepted s out ≡ (Refused r, room) → B
-not-written s out {r} e =
-    let answer : Written (length s) ≡ Refused r = ap (λ (p : Writing × List ℕ). p .0) e in
-    absurd (let z : _≡_ {A = ℕ} 0 1 = cc in omega arith)
-
-pub refused-as : {q r : Refusal} {out room : List ℕ} → refused q out ≡ (Refused r, room) → (q ≡ r) × (room ≡ out)
-refused-as {q} {r} e =
-    let answer : Refused q ≡ Refused r = ap (λ (p : Writing × List ℕ). p .0) e in (cc, sym (ap (λ (p : Writing × List ℕ). p .1) e))
-
-pub written-as : (s out : List ℕ) {room : List ℕ} {n : ℕ} → accepted s out ≡ (Written n, room) → (n ≡ length s) × (room ≡ s ++ drop (length s) out)
-written-as s out {room} {n} e =
-    let answer : Written (length s) ≡ Written n = ap (λ (p : Writing × List ℕ). p .0) e in (cc, sym (ap (λ (p : Writing × List ℕ). p .1) e))
 
 -- ---- exports
 

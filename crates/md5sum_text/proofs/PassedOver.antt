@@ -8,10 +8,9 @@ use mathlib.Core.List.{List, []}
 use Prim.Native.Nat.{ℕ}
 use lib.ListN.{getD}
 use Rattle.cut_lists.proofs.AllLaws.{all-at}
-use Rattle.cut_lists.proofs.CutLaws.{cut-all}
 use Rattle.entries.specs.Claim.{Keeps, Unstorable, unstorable}
-use Rattle.entries.specs.Entry.{nameOf, lengthOf}
-use Rattle.entries.proofs.FirstFaults.{keeps-first}
+use Rattle.entries.specs.Entry.{nameOf}
+use Rattle.entries.proofs.FirstFaults.{entries-keep}
 use Rattle.entries.proofs.NameFaults.{name-rule}
 use Rattle.par1_rules.specs.Layout.{listOf}
 use Rattle.par1_read.specs.Reading.{entriesIn}
@@ -20,6 +19,6 @@ use Rattle.md5sum_text.specs.Claim.{NamesPassedOver}
 pub names-passed-over : NamesPassedOver
 names-passed-over f name bad listed =
     let e : List ℕ = getD (entriesIn f) (listed .0) [] in
-    let kept : Keeps e = all-at [] (cut-all lengthOf Keeps keeps-first (listOf f)) (listed .0) (listed .1) in
+    let kept : Keeps e = all-at [] (entries-keep (listOf f)) (listed .0) (listed .1) in
     let wrong = name-rule (nameOf e) .1 (unstorable (subst Unstorable (sym (listed .2 .1)) bad)) in
     true≢false (sym (kept .name-right) ∙ wrong)

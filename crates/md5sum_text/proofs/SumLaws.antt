@@ -11,13 +11,12 @@
 --   named-first, answer-none, answer-first, answer-unfit, answer-over, answer-seen     the byte for an entry, from the first line that names it
 -- Assumes nothing.
 use mathlib.Core.Path.{_≡_, refl, sym, ap, _∙_, subst}
-use mathlib.Core.Bool.{Bool, true, false, cond, not, _&&_, _||_, true≢false}
+use mathlib.Core.Bool.{Bool, true, false, cond, not, _&&_, _||_, true≢false, or-true}
 use mathlib.Core.Logic.{_⊎_, inl, inr, ⊎-elim}
 use mathlib.Core.List.{List, [], _∷_}
 use Prim.Native.Nat.{ℕ, zero, suc, _≤_, _<_}
+use native.Mathlib.Decide.{decLt}
 use native.Mathlib.Omega.{arith}
-use borrow.Author.Tests.{ltb-true, ltb-false}
-use lib.Dec.{ltb}
 use lib.ListN.{length, take, drop, getD}
 use lib.Seq.{getD-take, length-take-le, take-take}
 use Rattle.computed_tests.specs.Lists.{firstBelow}
@@ -42,11 +41,7 @@ module _ {A : Type 0} (t : A → Bool) (d : A) where
   unfolding any
   any-at [] k h e = absurd (omega arith)
   any-at (x ∷ xs) zero h e = simp e
-  any-at (x ∷ xs) (suc k) h e = ap (λ (b : Bool). t x || b) (any-at xs k (omega arith) e) ∙ by (t x)
-    where
-      by : (b : Bool) → (b || true) ≡ true
-      by true = refl
-      by false = refl
+  any-at (x ∷ xs) (suc k) h e = simp (any-at xs k (omega arith) e, or-true)
 
   pub any-none : (xs : List A) → ((k : ℕ) → k < length xs → t (getD xs k d) ≡ false) → any t xs ≡ false
   unfolding any
@@ -65,18 +60,16 @@ unlike {a} {b} h = by (equal a b) refl
 -- ---- two searches
 
 pub below-or-not : (a b : ℕ) → (a < b) ⊎ (b ≤ a)
-below-or-not a b = by (ltb a b) refl
-  where
-    by : (t : Bool) → ltb a b ≡ t → (a < b) ⊎ (b ≤ a)
-    by true e = inl (ltb-true a b e)
-    by false e = inr (ltb-false a b e)
+below-or-not a b = elim (decLt a b) [
+  | yes h ↦ inl h
+  | no h ↦ inr (omega arith)
+]
 
 either : (s t : Bool) → s ≡ true → (s || t) ≡ true
 either s t e = simp e
 
 other : (s t : Bool) → t ≡ true → (s || t) ≡ true
-other true t e = refl
-other false t e = e
+other s t e = simp (e, or-true)
 
 neither : (s t : Bool) → s ≡ false → t ≡ false → (s || t) ≡ false
 neither s t e f = simp (e, f)

@@ -31,7 +31,7 @@ use lib.ListN.{length, take, drop, getD, replicate}
 use Rattle.little_endian.specs.Bytes.{Bytes}
 use Rattle.refusals.specs.Tests.{bare}
 use Rattle.refusals.specs.declared.Refusal.{Refusal}
-use Rattle.lent_bytes.specs.Writing.{refused, accepted}
+use Rattle.lent_bytes.specs.Writing.{accepted, RefusedExactly}
 use Rattle.lent_bytes.specs.declared.Writing.the-variants.{Written, Refused}
 use Rattle.cut_lists.specs.All.{All}
 use Rattle.entries.specs.Claim.{Unstorable}
@@ -155,10 +155,7 @@ pub data ImportRefuses (f s out : List ℕ) : Refusal → Type 0 where
 
 -- proved: proofs/CallClaims.antt, `import-refused`
 abbrev pub ImportRefused : Type 0
-ImportRefused =
-    (f s out : List ℕ) (r : Refusal)
-    → (ImportRefuses f s out r → importInto f s out ≡ refused r out)
-    × ((room : List ℕ) → importInto f s out ≡ (Refused r, room) → ImportRefuses f s out r × (room ≡ out))
+ImportRefused = (f s out : List ℕ) → RefusedExactly (ImportRefuses f s out) (importInto f s out) out
 
 -- ---- exports: "Export each listed file, in list order, as a line"
 
@@ -171,10 +168,7 @@ pub data ExportRefuses (f out : List ℕ) : Refusal → Type 0 where
 
 -- proved: proofs/CallClaims.antt, `export-refused`
 abbrev pub ExportRefused : Type 0
-ExportRefused =
-    (f out : List ℕ) (r : Refusal)
-    → (ExportRefuses f out r → exportInto f out ≡ refused r out)
-    × ((room : List ℕ) → exportInto f out ≡ (Refused r, room) → ExportRefuses f out r × (room ≡ out))
+ExportRefused = (f out : List ℕ) → RefusedExactly (ExportRefuses f out) (exportInto f out) out
 
 -- a line for each entry, in list order, with its name and the digits of its MD5, and nothing more; the rest of the room stays
 pub record LinesFor (es : List (List ℕ)) (out : List ℕ) (n : ℕ) (room : List ℕ) : Type 0 where

@@ -8,10 +8,11 @@
 --   exportInto f out     what the call gives
 -- Assumes nothing.
 use Prim.Native.Nat.{ℕ}
-use mathlib.Core.Bool.{Bool, true, _&&_}
+use mathlib.Core.Bool.{Bool}
 use mathlib.Core.List.{List, [], _∷_, _++_, flatten}
 use Rattle.refusals.specs.Tests.{bare, test}
 use Rattle.refusals.specs.declared.Refusal.{Refusal}
+use Rattle.lent_bytes.specs.Each.{each}
 use Rattle.lent_bytes.specs.Writing.{writtenUnless}
 use Rattle.lent_bytes.specs.declared.Writing.{Writing}
 use Rattle.par1_read.specs.Reading.{entriesIn, readOf}
@@ -28,9 +29,8 @@ unfoldable pub exportText : List (List ℕ) → List ℕ
 exportText [] = []
 exportText (e ∷ es) = lineFor e ++ exportText es
 
-unfoldable pub allFitting : List (List ℕ) → Bool
-allFitting [] = true
-allFitting (e ∷ es) = isFitting e && allFitting es
+abbrev pub allFitting : List (List ℕ) → Bool
+allFitting es = each isFitting es
 
 abbrev pub exportRefusal : Reading → List ℕ → Refusal
 exportRefusal (reading.Accepted p) f = bare (test 24 (allFitting (entriesIn f)) 0)

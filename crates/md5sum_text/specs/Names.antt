@@ -8,10 +8,11 @@
 --   isNamed l e      whether the line l names the entry e
 -- Assumes nothing.
 use Prim.Native.Nat.{ℕ}
-use mathlib.Core.Bool.{Bool, true, _&&_}
-use mathlib.Core.List.{List, [], _∷_}
+use mathlib.Core.Bool.{Bool, _&&_}
+use mathlib.Core.List.{List}
 use lib.Dec.{leb}
 use Rattle.entries.specs.Entry.{md5Of, nameOf, unitsOf}
+use Rattle.lent_bytes.specs.Each.{each}
 use Rattle.lent_bytes.specs.Equal.{equal}
 use Rattle.text.specs.Hex.{hexBytes}
 use Rattle.md5sum_text.specs.Lines.{nameIn}
@@ -19,9 +20,8 @@ use Rattle.md5sum_text.specs.Lines.{nameIn}
 abbrev pub unitFits : ℕ → Bool
 unitFits u = leb 32 u && leb u 126
 
-unfoldable pub unitsFit : List ℕ → Bool
-unitsFit [] = true
-unitsFit (u ∷ us) = unitFits u && unitsFit us
+abbrev pub unitsFit : List ℕ → Bool
+unitsFit us = each unitFits us
 
 abbrev pub textOf : List ℕ → List ℕ
 textOf e = unitsOf (nameOf e)

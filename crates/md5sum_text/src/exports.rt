@@ -7,11 +7,11 @@ ghost use Rattle.lent_bytes.specs.Writing.{written};
 ghost use Rattle.text.specs.Buffer.{buffer, put as putOf};
 ghost use Rattle.md5sum_text.specs.Names.{unitsFit, isFitting};
 ghost use Rattle.md5sum_text.specs.Export.{lineFor, exportText, allFitting};
-use crate::names::name_of;
 use crate::names::units_fit;
-use entries::Item;
+use entries::length_at;
 use lent_bytes::Writing;
 use par1_rules::layout;
+use par1_rules::layout::name_of;
 use refusals::bare;
 
 // Whether the name of each entry of `list` fits a line.
@@ -20,14 +20,10 @@ pub(crate) fn all_fitting(list: &[u8]) -> bool
 {
     let mut from: usize = 0;
     loop {
-        let Item::Entry {
-            length,
-            status: _,
-            size: _,
-        } = entries::at(list, from)
-        else {
+        let length = length_at(list, from);
+        if length == 0 {
             return true;
-        };
+        }
         if !units_fit(name_of(layout::part(list, from, length))) {
             return false;
         }
@@ -56,14 +52,10 @@ fn put_lines<'a, 'b>(out: &'a mut [u8], list: &'b [u8]) -> usize
     let mut at: usize = 0;
     let mut from: usize = 0;
     loop {
-        let Item::Entry {
-            length,
-            status: _,
-            size: _,
-        } = entries::at(list, from)
-        else {
+        let length = length_at(list, from);
+        if length == 0 {
             return at;
-        };
+        }
         at = put_line(out, at, layout::part(list, from, length));
         from += length;
     }

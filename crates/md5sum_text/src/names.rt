@@ -1,9 +1,8 @@
 // The names of entries in md5sum text.
 ghost use mathlib.Core.Path.{_≡_};
-ghost use Rattle.entries.specs.Entry.{nameOf, unitsOf};
+ghost use Rattle.entries.specs.Entry.{unitsOf};
 ghost use Rattle.lent_bytes.specs.Equal.{equal};
 ghost use Rattle.md5sum_text.specs.Names.{unitFits, unitsFit};
-use par1_rules::layout;
 
 // Whether each unit of a name fits a line.
 pub(crate) fn units_fit(name: &[u8]) -> bool
@@ -44,11 +43,4 @@ pub(crate) fn units_are(name: &[u8], text: &[u8]) -> bool
         i += 1;
     }
     true
-}
-
-// The name of an entry, in bytes.
-pub(crate) fn name_of(entry: &[u8]) -> &[u8]
-    ensures { λ r. ⌜ now r ≡ nameOf (now (entry .entry)) ⌝ }
-{
-    layout::part(entry, entries::NAME_AT, entry.len())
 }

@@ -15,7 +15,7 @@ use crate::lines;
 use crate::lines::Place;
 use crate::lines::Shapes;
 use crate::names;
-use entries::Item;
+use entries::length_at;
 use par1_rules::layout;
 use refusals::Refusal;
 use refusals::bare;
@@ -49,14 +49,10 @@ fn again_in(list: &[u8], text: &[u8], count: u64) -> u64
     let mut first = count;
     let mut from: usize = 0;
     loop {
-        let Item::Entry {
-            length,
-            status: _,
-            size: _,
-        } = entries::at(list, from)
-        else {
+        let length = length_at(list, from);
+        if length == 0 {
             return first;
-        };
+        }
         first = again_for(layout::part(list, from, length), text, first);
         from += length;
     }
@@ -67,7 +63,7 @@ fn again_for(entry: &[u8], text: &[u8], count: u64) -> u64
     requires { ⌜ count ≤ length (linesOf (now text) .pieces) ⌝ }
     ensures { λ r. ⌜ r ≡ firstBelow count (isAgain (now (entry .entry) ∷ []) (linesOf (now (text .entry)) .pieces)) ⌝ }
 {
-    let name = names::name_of(entry);
+    let name = layout::name_of(entry);
     if !names::units_fit(name) {
         return count;
     }
@@ -91,14 +87,10 @@ pub(crate) fn put_answers<'a, 'b, 'c>(
     let mut at: usize = 0;
     let mut from: usize = 0;
     loop {
-        let Item::Entry {
-            length,
-            status: _,
-            size: _,
-        } = entries::at(list, from)
-        else {
+        let length = length_at(list, from);
+        if length == 0 {
             return at;
-        };
+        }
         at = text::put(
             out,
             at,
@@ -113,7 +105,7 @@ fn answer_for(entry: &[u8], text: &[u8], count: u64) -> u8
     requires { ⌜ count ≡ length (linesOf (now text) .pieces) ⌝ }
     ensures { λ r. ⌜ r ≡ answerFor (linesOf (now (text .entry)) .pieces) (now (entry .entry)) ⌝ }
 {
-    let name = names::name_of(entry);
+    let name = layout::name_of(entry);
     if !names::units_fit(name) {
         return 0;
     }

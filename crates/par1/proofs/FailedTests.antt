@@ -21,7 +21,7 @@ use Rattle.entries.specs.Entry.{fileSizeOf, md5Of, md5Of16k, nameAllowed}
 use Rattle.entries.proofs.NameFaults.{name-rule}
 use Rattle.par1_rules.specs.Hashes.{md5First}
 use Rattle.par1_rules.specs.Rules.{numberAllowed, dataAllowed}
-use Rattle.refusals.proofs.OrderLaws.{Decides, passes, fails}
+use Rattle.refusals.proofs.OrderLaws.{Decides, passes, fails, decides-by}
 use Rattle.par1.specs.Checking.{isDescribed}
 use Rattle.par1.specs.Claim.{BadNumber, too-many, no-files, past-255, BadData, odd-comment, other-size}
 use Rattle.par1.specs.Claim.{Differs, in-length, in-md5, in-md5-16k}
@@ -67,11 +67,7 @@ data-decides v greatest n = by (ℕ-discrete v 0) (ℕ-discrete (n % 2) 0) (ℕ-
 -- ---- 18
 
 pub name-decides : (name : List ℕ) → Decides (nameAllowed name) (BadName name)
-name-decides name = by (nameAllowed name) refl
-  where
-    by : (b : Bool) → nameAllowed name ≡ b → Decides (nameAllowed name) (BadName name)
-    by true e = passes e (λ bad. false≢true (sym (name-rule name .1 bad) ∙ e))
-    by false e = fails e (name-rule name .0 e)
+name-decides name = decides-by (nameAllowed name) (λ e bad. false≢true (sym (name-rule name .1 bad) ∙ e)) (name-rule name .0)
 
 -- ---- 15
 

@@ -1,6 +1,6 @@
 pub mod CheckingLaws
 pub mod EntryWritten
-mod FailedTests
+pub mod FailedTests
 pub mod Faults
 pub mod ReadWritten
 pub mod ReadingRefusals

@@ -6,7 +6,7 @@
 --   volume-refused, entry-refused    the claims
 -- A test is passed where it does not hold.
 -- Assumes nothing.
-use mathlib.Core.Path.{_≡_, refl, sym, ap, _∙_, subst}
+use mathlib.Core.Path.{_≡_, refl, sym, ap, _∙_}
 use mathlib.Core.Bool.{Bool, true, false}
 use mathlib.Core.List.{List}
 use Prim.Native.Nat.{ℕ, _+_, _<_}
@@ -14,10 +14,9 @@ use native.Mathlib.Decide.{decLt}
 use native.Mathlib.Omega.{arith}
 use lib.ListN.{length}
 use borrow.Author.Tests.{le-leb, lt-leb}
-use Rattle.lent_bytes.specs.Writing.{refused, accepted, writtenUnless, writingRefusal}
-use Rattle.lent_bytes.specs.declared.Writing.{Writing}
+use Rattle.lent_bytes.specs.Writing.{refused, accepted, writtenUnless}
 use Rattle.lent_bytes.specs.declared.Writing.the-variants.{Refused}
-use Rattle.lent_bytes.proofs.WritingLaws.{never, unless-refused}
+use Rattle.lent_bytes.proofs.WritingLaws.{refused-exactly, unless-refused}
 use Rattle.codes.specs.declared.Code.{Code}
 use Rattle.entries.specs.Claim.{BadName}
 use Rattle.entries.specs.Entry.{fileSizeAllowed, nameAllowed}
@@ -43,9 +42,6 @@ use Rattle.refusals.proofs.OrderLaws.{Decides, passes, fails, fails-where, pass
 use Rattle.par1.proofs.FailedTests.{number-decides, data-decides, name-decides}
 use Rattle.par1.proofs.Faults.{fault-written}
 use Rattle.par1.proofs.ReadWritten.{volume-accepted}
-
-refused-as : {q r : Refusal} {out room : List ℕ} → refused q out ≡ (Refused r, room) → (q ≡ r) × (room ≡ out)
-refused-as e = (ap (λ (p : Writing × List ℕ). writingRefusal (p .0)) e, sym (ap (λ (p : Writing × List ℕ). p .1) e))
 
 -- ---- a volume
 
@@ -101,14 +97,9 @@ module _ (c : Code) (program number : ℕ) (list area out : List ℕ) where
           sized e (number-decides number (t .saved)) (data-decides number (t .greatest) (length area)) (decLt maxVolumeLength total) (decLt (length out) total)
 
 pub volume-refused : VolumeRefused
-volume-refused c program number list area out r = (volume-refuses c program number list area out, from)
-  where
-    from : (room : List ℕ) → writeVolumeOf c program number list area out ≡ (Refused r, room) → VolumeRefuses number list area out r × (room ≡ out)
-    from room e =
-        volume-first c program number list area out (VolumeRefuses number list area out r × (room ≡ out))
-        (λ q f. let told = refused-as (sym (volume-refuses c program number list area out f) ∙ e) in
-        (subst (VolumeRefuses number list area out) (told .0) f, told .1))
-        (λ passed. never (sym e ∙ passed))
+volume-refused c program number list area out =
+    refused-exactly (VolumeRefuses number list area out) (volumeBytes c program number list area) out
+    (λ r f. volume-refuses c program number list area out f) (volume-first c program number list area out)
 
 -- ---- an entry
 
@@ -150,10 +141,5 @@ module _ (m : List ℕ) (status : ℕ) (name out : List ℕ) where
           none (entry-accepted m status name out (le-leb (length m) maxFileSize (omega arith)) (omega arith) p (omega arith))
 
 pub entry-refused : EntryRefused
-entry-refused m status name out r = (entry-refuses m status name out, from)
-  where
-    from : (room : List ℕ) → writeEntryOf m status name out ≡ (Refused r, room) → EntryRefuses m status name out r × (room ≡ out)
-    from room e =
-        entry-first m status name out (EntryRefuses m status name out r × (room ≡ out))
-        (λ q f. let told = refused-as (sym (entry-refuses m status name out f) ∙ e) in (subst (EntryRefuses m status name out) (told .0) f, told .1))
-        (λ passed. never (sym e ∙ passed))
+entry-refused m status name out =
+    refused-exactly (EntryRefuses m status name out) (entryBytes m status name) out (λ r f. entry-refuses m status name out f) (entry-first m status name out)

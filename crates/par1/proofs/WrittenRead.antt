@@ -26,7 +26,7 @@ use Rattle.par1_write.specs.VolumeWriting.{bodyBytes, headBytes, volumeBytes, w
 use Rattle.par1_read.specs.declared.reading.Parts.{Parts}
 use Rattle.par1.specs.Claim.{WrittenRead}
 use Rattle.lent_bytes.proofs.PartLaws.{split, split-number}
-use Rattle.par1_read.proofs.ReadingLaws.{Passed, read-tells}
+use Rattle.par1_read.proofs.ReadingLaws.{Passed, read-tells, data-length}
 use Rattle.par1_rules.proofs.RuleLaws.{Between}
 use Rattle.par1_write.proofs.VolumeWritingLaws.{volume-none}
 
@@ -47,9 +47,8 @@ module _ (f : List ℕ) (bytes : Bytes f) (tests : Passed f) where
   list-length : length (listOf f) ≡ listSizeOf f
   list-length = length-take-le (listSizeOf f) (drop 96 f) (omega (arith, length-drop 96 f, list-fits))
 
-  data-length : length (dataOf f) ≡ dataSizeOf f
-  data-length =
-      omega (arith, length-drop (96 + listSizeOf f) f, tests .header .layout .data-start, tests .header .layout .data-end)
+  data-size : length (dataOf f) ≡ dataSizeOf f
+  data-size = data-length f tests
 
   count : length (entriesIn f) ≡ countOf f
   count = sym (walk-count (listOf f) (tests .walk-is)) ∙ tests .totals .count-is
@@ -71,7 +70,7 @@ module _ (f : List ℕ) (bytes : Bytes f) (tests : Passed f) where
       let at96 = split (listSizeOf f) 96 f in
       nested-body (setHash (entriesIn f)) (toLe 8 (volumeNumberOf f)) (toLe 8 (length (entriesIn f))) (toLe 8 96) (toLe 8 (length l)) (toLe 8 (96 + length l))
       (toLe 8 (length area)) l area
-      ∙ cc (tests .totals .set-is, count, list-length, data-length, tests .header .layout .list-start)
+      ∙ cc (tests .totals .set-is, count, list-length, data-size, tests .header .layout .list-start)
 
   pub volume-again : volumeBytes (codeIn (versionOf f)) (programOf f) (volumeNumberOf f) (listOf f) (dataOf f) ≡ f
   unfolding volumeBytes headBytes
@@ -89,7 +88,7 @@ module _ (f : List ℕ) (bytes : Bytes f) (tests : Passed f) where
   data-again : take (dataSizeOf f) (drop (dataStartOf f) f) ≡ dataOf f
   data-again =
       ap (λ (n : ℕ). take (dataSizeOf f) (drop n f)) (tests .header .layout .data-start)
-      ∙ take-all (dataSizeOf f) (dataOf f) (omega (arith, data-length))
+      ∙ take-all (dataSizeOf f) (dataOf f) (omega (arith, data-size))
 
   write-again : (out : List ℕ) → length f ≤ length out
       → writeVolumeOf (codeIn (versionOf f)) (programOf f) (volumeNumberOf f) (listOf f) (dataOf f) out ≡ accepted f out
@@ -99,12 +98,12 @@ module _ (f : List ℕ) (bytes : Bytes f) (tests : Passed f) where
       let l : ℕ = length (listOf f) in
       let d : ℕ = length (dataOf f) in
       let s : List ℕ = volumeBytes (codeIn (versionOf f)) (programOf f) (volumeNumberOf f) (listOf f) (dataOf f) in
-      let size : 96 + l + d ≡ length f = omega (arith, list-length, data-length, tests .header .layout .data-start, tests .header .layout .data-end) in
+      let size : 96 + l + d ≡ length f = omega (arith, list-length, data-size, tests .header .layout .data-start, tests .header .layout .data-end) in
       let right =
       volume-none (volumeNumberOf f) t l d
       (record {
         number-right = tests .totals .number-right;
-        data-right = ap (dataAllowed (volumeNumberOf f) (t .greatest)) data-length ∙ tests .totals .data-right;
+        data-right = ap (dataAllowed (volumeNumberOf f) (t .greatest)) data-size ∙ tests .totals .data-right;
         size = subst Between (sym size) (tests .header .size);
       }) in
       let none = ap (λ (w : Walked). walkRefusal (volumeNumberOf f) w l d .number) (tests .walk-is) ∙ right in

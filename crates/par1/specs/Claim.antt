@@ -32,8 +32,8 @@ use mathlib.Core.List.{List, [], _∷_, _++_}
 use mathlib.Core.Logic.{_↔_}
 use Prim.Native.Nat.{ℕ, _+_, _%_, _^_, _<_, _≤_}
 use lib.ListN.{length, take, drop}
-use Rattle.lent_bytes.specs.Writing.{refused, accepted}
-use Rattle.lent_bytes.specs.declared.Writing.the-variants.{Written, Refused}
+use Rattle.lent_bytes.specs.Writing.{refused, accepted, RefusedExactly}
+use Rattle.lent_bytes.specs.declared.Writing.the-variants.{Written}
 use Rattle.refusals.specs.Limits.{maxFileSize, maxVolumeLength}
 use Rattle.refusals.specs.Order.{First}
 use Rattle.refusals.specs.Tests.{bare}
@@ -101,9 +101,8 @@ pub data VolumeRefuses (number : ℕ) (list area out : List ℕ) : Refusal → T
 -- of each code, by each program; proved: proofs/WritingRefusals.antt, `volume-refused`
 abbrev pub VolumeRefused : Type 0
 VolumeRefused =
-    (c : Code) (program number : ℕ) (list area out : List ℕ) (r : Refusal)
-    → (VolumeRefuses number list area out r → writeVolumeOf c program number list area out ≡ refused r out)
-    × ((room : List ℕ) → writeVolumeOf c program number list area out ≡ (Refused r, room) → VolumeRefuses number list area out r × (room ≡ out))
+    (c : Code) (program number : ℕ) (list area out : List ℕ)
+    → RefusedExactly (VolumeRefuses number list area out) (writeVolumeOf c program number list area out) out
 
 -- ---- "A volume written is, byte by byte, the one that Par 1.0, RFC 1321 and document 01 define."
 
@@ -209,10 +208,7 @@ pub data EntryRefuses (m : List ℕ) (status : ℕ) (name out : List ℕ) : Refu
 
 -- proved: proofs/WritingRefusals.antt, `entry-refused`
 abbrev pub EntryRefused : Type 0
-EntryRefused =
-    (m : List ℕ) (status : ℕ) (name out : List ℕ) (r : Refusal)
-    → (EntryRefuses m status name out r → writeEntryOf m status name out ≡ refused r out)
-    × ((room : List ℕ) → writeEntryOf m status name out ≡ (Refused r, room) → EntryRefuses m status name out r × (room ≡ out))
+EntryRefused = (m : List ℕ) (status : ℕ) (name out : List ℕ) → RefusedExactly (EntryRefuses m status name out) (writeEntryOf m status name out) out
 
 pub record EntryBack (e m : List ℕ) (status : ℕ) (name : List ℕ) : Type 0 where
   -- at the front of a list, whatever follows

@@ -2,9 +2,9 @@
 --
 --   header-most        tests 1 to 4
 --   from-within        all tests: a number of at most 19, and the place that the walk found
---   refusal-within     the same of a file: the place of an entry of 58 bytes or more in it
+--   refusal-within, read-within     the same of a file: the place of an entry of 58 bytes or more in it
 -- Assumes nothing.
-use mathlib.Core.Path.{_≡_, refl}
+use mathlib.Core.Path.{_≡_, refl, subst}
 use mathlib.Core.Bool.{Bool}
 use mathlib.Core.List.{List}
 use Prim.Native.Nat.{ℕ, _+_, _/_, _≤_}
@@ -23,8 +23,9 @@ use Rattle.par1_rules.specs.Layout.{signature, signatureOf, versionOf, controlH
 use Rattle.par1_rules.specs.Layout.{volumeNumberOf, countOf, listSizeOf, dataSizeOf, listOf}
 use Rattle.par1_rules.specs.Hashes.{setHash, controlHash}
 use Rattle.par1_rules.specs.Rules.{lengthAllowed, versionAllowed, layoutAllowed, numberAllowed, dataAllowed}
-use Rattle.par1_read.specs.Reading.{headerRefusal, controlRefusal, totalsRefusal, listRefusal, refusalFrom, entriesIn}
-use Rattle.par1_read.proofs.ReadingLaws.{refusalOf}
+use Rattle.par1_read.specs.Reading.{headerRefusal, controlRefusal, totalsRefusal, listRefusal, refusalFrom, entriesIn, readOf}
+use Rattle.par1_read.specs.declared.reading.Reading.the-variants.{Refused}
+use Rattle.par1_read.proofs.ReadingLaws.{refusalOf, refused-is}
 
 four-most : (i j k l : ℕ) (a b c d : Bool) → i ≤ 19 → j ≤ 19 → k ≤ 19 → l ≤ 19 → test i a (test j b (test k c (test l d 0))) ≤ 19
 four-most i j k l a b c d p q r s =
@@ -64,3 +65,6 @@ refusal-within f =
     (λ r e.
     let told = walk-refused (listOf f) e in
     record { number-most = omega (arith, told .high); place-most = omega (arith, told .place-most) })
+
+pub read-within : (f : List ℕ) {r : Refusal} → readOf f ≡ Refused r → Within (length f / 58 + 1) r
+read-within f e = subst (Within (length f / 58 + 1)) (refused-is f e) (refusal-within f)

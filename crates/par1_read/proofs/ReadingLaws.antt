@@ -9,16 +9,18 @@
 --   from-refused, from-accepted      what reading gives, from the refusal
 --   read-refused, read-accepted      the same of a file
 --   Passed, passed-none, ReadAccepted, read-tells  the tests that an accepted file passed
+--   list-joined, data-length         an accepted file's list is its entries, joined, and its data has the data size
+--   read-list, read-count            the list, as the parts tell where it lies, and how many entries it has
 --   refused-is, refused-some         which refusal a file is refused with, and that its number is not 0
 -- A test of document 01 is passed where it does not hold.
 -- Assumes nothing.
 use mathlib.Core.Path.{_≡_, refl, sym, ap, _∙_}
 use mathlib.Core.Bool.{true}
-use mathlib.Core.List.{List}
-use Prim.Native.Nat.{ℕ, zero, suc}
+use mathlib.Core.List.{List, [], _∷_, _++_, append-nil, flatten}
+use Prim.Native.Nat.{ℕ, zero, suc, _+_}
 use native.Mathlib.Omega.{arith}
 use lib.Dec.{eqb}
-use lib.ListN.{length}
+use lib.ListN.{length, take, drop, length-drop}
 use borrow.Author.Tests.{eqb-true, eq-eqb}
 use Rattle.lent_bytes.specs.Equal.{equal}
 use Rattle.lent_bytes.proofs.EqualLaws.{equal-true, equal-same}
@@ -26,19 +28,21 @@ use Rattle.refusals.specs.Tests.{bare}
 use Rattle.refusals.specs.declared.Refusal.{Refusal}
 use Rattle.refusals.proofs.TestLaws.{test-passed, or-else, or-none}
 use Rattle.entries.specs.Numbering.{savedOf}
-use Rattle.entries.specs.Walk.{entriesOf, walkOf}
+use Rattle.entries.specs.Entry.{lengthOf}
+use Rattle.entries.specs.Walk.{entriesOf, totalsOf, walkedTo, walkOf}
 use Rattle.entries.specs.declared.Totals.{Totals}
 use Rattle.entries.specs.declared.Walked.{Walked}
 use Rattle.entries.specs.declared.Walked.the-variants as walked
-use Rattle.entries.proofs.WalkLaws.{walk-saved, walk-refused}
+use Rattle.entries.proofs.WalkLaws.{walk-count, walk-saved, walk-refused}
 use Rattle.par1_rules.specs.Layout.{signature, versionFor, signatureOf, versionOf, controlHashOf, setHashOf}
-use Rattle.par1_rules.specs.Layout.{volumeNumberOf, countOf, dataSizeOf, listOf}
+use Rattle.par1_rules.specs.Layout.{volumeNumberOf, countOf, listSizeOf, dataSizeOf, listOf, dataOf}
 use Rattle.par1_rules.specs.Hashes.{setHash, controlHash}
 use Rattle.par1_rules.specs.Rules.{lengthAllowed, versionAllowed, codeIn, layoutAllowed, numberAllowed, dataAllowed}
 use Rattle.par1_rules.proofs.RuleLaws.{version-passed, version-back, Between, between, long-enough, Laid, laid, laid-out}
 use Rattle.par1_read.specs.Reading.{headerRefusal, controlRefusal, totalsRefusal, listRefusal, refusalFrom}
 use Rattle.par1_read.specs.Reading.{savedIn, partsFrom, readFrom, entriesIn, readOf}
 use Rattle.cut_lists.specs.Pieces.{ifZero}
+use Rattle.cut_lists.proofs.CutLaws.{cut-joins}
 use Rattle.par1_read.specs.declared.reading.Parts.{Parts}
 use Rattle.par1_read.specs.declared.reading.Reading.the-variants.{Accepted, Refused}
 
@@ -151,6 +155,19 @@ pub record Passed (f : List ℕ) : Type 0 where
   pub walk-is : walkOf (listOf f) ≡ walked.Entries totals-of
   pub totals : TotalsPassed f (setHash (entriesIn f)) totals-of
 
+pub list-joined : (f : List ℕ) → Passed f → flatten (entriesIn f) ≡ listOf f
+unfolding walkOf
+list-joined f p = by (entriesOf (listOf f) .rest) refl (p .walk-is)
+  where
+    by : (r : List ℕ) → entriesOf (listOf f) .rest ≡ r → walkedTo (totalsOf (entriesIn f)) r ≡ walked.Entries (p .totals-of)
+        → flatten (entriesIn f) ≡ listOf f
+    by [] none e =
+        sym (append-nil (flatten (entriesIn f))) ∙ ap (λ (l : List ℕ). flatten (entriesIn f) ++ l) (sym none) ∙ cut-joins lengthOf (listOf f)
+    by (b ∷ r) some e = absurd (let z : _≡_ {A = ℕ} 0 1 = cc in omega arith)
+
+pub data-length : (f : List ℕ) → Passed f → length (dataOf f) ≡ dataSizeOf f
+data-length f p = omega (arith, length-drop (96 + listSizeOf f) f, p .header .layout .data-start, p .header .layout .data-end)
+
 pub passed-none : (f : List ℕ) → Passed f → refusalOf f .number ≡ 0
 unfolding refusalOf refusalFrom
 passed-none f p =
@@ -193,6 +210,15 @@ read-tells f p e = by (refusalOf f .number) refl
     by zero n = let found = read-accepted f (sym n) in record { tests = none-passed f (sym n); parts-are = cc }
     by (suc m) n =
         let found = read-refused f refl (λ z. omega arith) in absurd (let z : _≡_ {A = ℕ} 0 1 = cc in omega arith)
+
+module _ (f : List ℕ) {p : Parts} (e : readOf f ≡ Accepted p) where
+  pub read-list : take (p .«list_size») (drop 96 f) ≡ listOf f
+  read-list = ap (λ (q : Parts). take (q .«list_size») (drop 96 f)) (read-tells f p e .parts-are)
+
+  pub read-count : p .entries ≡ length (entriesIn f)
+  read-count =
+      let t = read-tells f p e in
+      ap (λ (q : Parts). q .entries) (t .parts-are) ∙ sym (t .tests .totals .count-is) ∙ walk-count (listOf f) (t .tests .walk-is)
 
 pub refused-is : (f : List ℕ) {r : Refusal} → readOf f ≡ Refused r → refusalOf f ≡ r
 refused-is f {r} e = by (refusalOf f .number) refl

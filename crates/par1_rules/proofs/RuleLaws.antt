@@ -4,6 +4,7 @@
 --   version-passed, code-back, version-back, version-fits     the version of a code
 --   code-versions            the claim
 --   Between, between, long-enough, too-long     a right length, in numbers
+--   number-range             a right volume number, and a right number of saved files
 --   Laid, laid, not-laid, laid-out              a right layout, in numbers
 -- A test of document 01 is passed where it does not hold.
 -- Assumes nothing.
@@ -19,10 +20,10 @@ use Rattle.computed_tests.proofs.Tests.{and-both}
 use Rattle.codes.specs.declared.Code.{Code}
 use Rattle.codes.specs.declared.Code.the-variants.{Powers, Cauchy}
 use Rattle.little_endian.specs.Bytes.{fromLe}
-use Rattle.refusals.specs.Limits.{maxVolumeLength}
+use Rattle.refusals.specs.Limits.{maxVolumeLength, maxFiles}
 use Rattle.par1_rules.specs.Claim.{CodeVersions}
 use Rattle.par1_rules.specs.Layout.{signature, versionFor, listStartOf, listSizeOf, dataStartOf, dataSizeOf}
-use Rattle.par1_rules.specs.Rules.{lengthAllowed, versionAllowed, codeIn, layoutAllowed}
+use Rattle.par1_rules.specs.Rules.{lengthAllowed, versionAllowed, codeIn, layoutAllowed, numberAllowed}
 
 -- ---- the signature
 
@@ -93,6 +94,18 @@ long-enough n h k = simp (le-leb 96 n h, le-leb n maxVolumeLength k)
 pub too-long : (n : ℕ) → maxVolumeLength < n → lengthAllowed n ≡ false
 unfolding lengthAllowed
 too-long n h = simp (le-leb 96 n (omega arith), lt-leb n maxVolumeLength h)
+
+-- ---- the volume number
+
+pub number-range : (v n : ℕ) → numberAllowed v n ≡ true → (v ≤ 255) × (n ≤ maxFiles)
+unfolding numberAllowed
+number-range v n e =
+    let both = and-both (leb n maxFiles) (eqb v 0 || leb 1 n && leb (v + n) 255) e in
+    (by (eqb v 0) refl (both .1), leb-true n maxFiles (both .0))
+  where
+    by : (b : Bool) → eqb v 0 ≡ b → (b || leb 1 n && leb (v + n) 255) ≡ true → v ≤ 255
+    by true z e = omega (arith, eqb-true v 0 z)
+    by false z e = omega (arith, leb-true (v + n) 255 (and-both (leb 1 n) (leb (v + n) 255) e .1))
 
 -- ---- the layout
 

@@ -1,6 +1,7 @@
-// Where the fields of a Par 1.0 header lie (document 01, "Byte layout").
+// Where the fields of a Par 1.0 header lie (document 01, "Byte layout"), and parts of a file.
 ghost use mathlib.Core.Path.{_≡_};
 ghost use lib.ListN.{take, drop};
+ghost use Rattle.entries.specs.Entry.{nameOf};
 
 // "PAR" and five zero bytes, as a number at 0.
 pub const SIGNATURE: u64 = 0x524150;
@@ -50,4 +51,11 @@ pub fn part(bytes: &[u8], at: usize, count: usize) -> &[u8]
         return rest;
     }
     &rest[..count]
+}
+
+// The name of an entry, in bytes.
+pub fn name_of(entry: &[u8]) -> &[u8]
+    ensures { λ r. ⌜ now r ≡ nameOf (now (entry .entry)) ⌝ }
+{
+    part(entry, entries::NAME_AT, entry.len())
 }

@@ -9,7 +9,7 @@ use Prim.Native.Nat.{ℕ, _^_, _<_, _≤_}
 use native.Mathlib.Omega.{arith}
 use lib.ListN.{length, length-append}
 use Rattle.cut_lists.specs.All.{all-none, all-more}
-use Rattle.entries.specs.Entry.{isCounted, fileSizeAllowed, unitsOf, unitAllowed, eachUnit, isDots, nameAllowed}
+use Rattle.entries.specs.Entry.{isCounted, fileSizeAllowed, unitsOf, unitAllowed, isDots, nameAllowed}
 use Rattle.gf256.specs.Polynomial.{coeff, sumBelow, polyProduct, remainder}
 use Rattle.gf256.specs.Field.{product, power}
 use Rattle.lent_bytes.specs.Equal.{equal}
@@ -46,7 +46,7 @@ p6-list = simp (length-append, length-entry)
 
 -- the set keeps the rules, with each of its volumes
 file-right : (contents : List ℕ) (status : ℕ) → fileSizeAllowed (length contents) ≡ true → status < 2 ^ 64 → FileRight (file contents status)
-unfolding nameAllowed eachUnit isDots equal unitsOf unitAllowed leAt fromLe
+unfolding nameAllowed isDots equal unitsOf unitAllowed leAt fromLe
 file-right contents status sized small = record { size-right = sized; status-right = small; name-right = refl }
 
 pub p6-right : (v : ℕ) → 1 ≤ v → v ≤ 253 → VolumeRight v p6

@@ -4,7 +4,8 @@
 --   put-length                   a put keeps the buffer's length
 --   put-within, put-beyond       a text that lies inside the buffer, and one that lies past its end
 --   put-measure, put-whole       from the start: on an empty buffer, and on one that the text fits into
---   put-rest, put-then           what a loop and a pair of calls need of put-append
+--   put-rest, put-then           a text put by two calls
+--   put-over, put-goes           a text put by a loop: nothing of it remains; a part of it is put, and the rest remains
 --   Puts a ts c                  c is a after the texts ts, each put by a call of its own
 --   puts                         calls in a row put their texts joined
 -- Assumes nothing.
@@ -60,6 +61,14 @@ module _ (a : Buffer) {b : Buffer} (s t : List ℕ) (h : length (a .bytes) ≤ u
 
   pub put-then : {c : Buffer} → c ≡ put b t → c ≡ put a (s ++ t)
   put-then f = f ∙ put-rest
+
+-- u is what remains, and q what putting all gives
+module _ (a : Buffer) {q : Buffer} (u : List ℕ) (all : put a u ≡ q) where
+  pub put-over : a .at ≤ usizeMax → u ≡ [] → a ≡ q
+  put-over h none = sym (ap (put a) none ∙ put-nil (a .bytes) (a .at) h) ∙ all
+
+  pub put-goes : {b : Buffer} (s t : List ℕ) → length (a .bytes) ≤ usizeMax → u ≡ s ++ t → b ≡ put a s → put b t ≡ q
+  put-goes s t h more e = put-rest a s t h e ∙ ap (put a) (sym more) ∙ all
 
 pub data Puts : Buffer → List (List ℕ) → Buffer → Type 0 where
   last : {a b : Buffer} {t : List ℕ} → b ≡ put a t → Puts a (t ∷ []) b

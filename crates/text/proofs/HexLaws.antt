@@ -5,10 +5,9 @@
 --   hex-length     two digits for each byte
 --   hex-lower      they are digits in lower case
 --   hex-spelled    and spell the bytes
---   lower-none, lower-more     whether characters are digits, from a position on
 -- Assumes nothing.
 use mathlib.Core.Path.{_≡_, refl, ap, _∙_}
-use mathlib.Core.Bool.{Bool, true, false, _&&_}
+use mathlib.Core.Bool.{Bool, true, false}
 use mathlib.Core.List.{List, [], _∷_, _++_}
 use Prim.Native.Nat.{ℕ, zero, suc, _+_, _*_, _/_, _%_, _≤_, _<_}
 use native.Mathlib.Numerals.{add-one}
@@ -64,17 +63,6 @@ hex-lower [] h = refl
 hex-lower (b ∷ s) h =
     let small : b < 256 = h 0 in
     simp (lower-digit (b / 16) (omega arith), lower-digit (b % 16) (omega arith), hex-lower s (λ i. h (suc i)))
-
--- ---- whether characters are digits
-
-module _ (w : List ℕ) (i : ℕ) where
-  pub lower-none : length w ≤ i → allHexDigits (drop i w) ≡ true
-  unfolding allHexDigits
-  lower-none h = ap allHexDigits (drop-of-length-le w h)
-
-  pub lower-more : {r : Bool} → i < length w → r ≡ isHexDigit (getD w i 0) → allHexDigits (drop i w) ≡ (r && allHexDigits (drop (i + 1) w))
-  unfolding allHexDigits
-  lower-more h e = simp (drop-cons w i 0 h, add-one, e)
 
 -- ---- what the digits of bytes spell
 

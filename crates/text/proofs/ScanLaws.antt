@@ -1,161 +1,131 @@
 -- Reading of text, from a position on: lines, words, decimal numbers.
 --
---   after k n            the length n of a line with k bytes more in front, 0 being none
---   line-start, line-found, line-on, line-over     the search for the end of a line, byte by byte
---   line-most            a line lies in its text
+--   to-here, to-later, to-end     the search for a byte, from a position on
+--   to-most              it ends in the text
+--   to-skip              it may start anywhere before the byte
+--   to-found, to-joined  it ends at the byte, and at the first one
+--   line-ended, line-unended, line-some     a line has its byte 10
+--   line-most            it lies in its text
 --   line-skip            the search may start anywhere in the line
 --   line-joined          the line that a text begins with, its byte 10 written out
 --   line-ends, line-inside     the last byte of a line is 10, and no other is
---   word-found, word-on, word-over     the search for the end of a word
 --   word-most            a word lies in its text
 --   words-last, words-more     the words: the only one, or the first and those after its space
---   digits-none, digits-other, digits-more     whether characters are digits, from a position on
 --   decimal-none, decimal-zero, decimal-by-digits     whether a word is decimal, by its first character
 --   value-more, value-none     the value of digits, cut to the greatest number of 64 bits on the way
 -- Assumes nothing.
-use mathlib.Core.Path.{_≡_, refl, sym, ap, _∙_}
+use mathlib.Core.Path.{_≡_, refl, sym, ap, ap₂, _∙_}
 use mathlib.Core.Logic.{_≢_}
 use mathlib.Core.Bool.{Bool, true, false, not, cond, _&&_, and-true}
 use mathlib.Core.List.{List, [], _∷_, _++_, foldl}
 use Prim.Native.Nat.{ℕ, zero, suc, _+_, _-_, _≤_, _<_, min}
 use native.Mathlib.Numerals.{add-one}
+use native.Mathlib.Decide.{decLt}
 use native.Mathlib.Omega.{arith}
-use borrow.Author.Tests.{eq-eqb, ne-eqb, eqb-true}
+use borrow.Author.Tests.{eq-eqb, ne-eqb, eqb-true, lt-ltb, le-ltb}
 use lib.Dec.{eqb}
-use lib.ListN.{length, take, drop, getD, drop-of-length-le}
-use lib.Seq.{drop-cons}
+use lib.ListN.{length, take, drop, getD, drop-of-length-le, length-append, length-drop}
+use lib.Seq.{take-suc}
+use Rattle.lent_bytes.proofs.EachLaws.{drop-at}
 use Rattle.text.specs.Buffer.{usizeMax}
 use Rattle.text.specs.Decimal.{isDigit, allDigits, isDecimal, withDigit}
-use Rattle.text.specs.TextLines.{longer, lineLength, wordLength, withByte, wordsOf}
+use Rattle.text.specs.TextLines.{lengthTo, lineLength, wordLength, withByte, wordsOf}
 
-drop-at : (s : List ℕ) (i : ℕ) → i < length s → drop i s ≡ getD s i 0 ∷ drop (i + 1) s
-drop-at s i h = drop-cons s i 0 h ∙ ap (λ (j : ℕ). getD s i 0 ∷ drop j s) (sym (add-one i))
+-- ---- the first byte of a kind
 
--- ---- the end of a line
+module _ (b : ℕ) where
+  module _ (s : List ℕ) (i : ℕ) where
+    pub to-here : i < length s → getD s i 0 ≡ b → lengthTo b (drop i s) ≡ 0
+    to-here h e = ap (lengthTo b) (drop-at s i h) ∙ simp (eq-eqb (getD s i 0) b e)
 
-abbrev pub after : ℕ → ℕ → ℕ
-after k zero = 0
-after k (suc n) = suc (k + n)
+    pub to-later : i < length s → getD s i 0 ≢ b → lengthTo b (drop i s) ≡ suc (lengthTo b (drop (i + 1) s))
+    to-later h f = ap (lengthTo b) (drop-at s i h) ∙ simp (ne-eqb (getD s i 0) b f)
 
-after-zero : (n : ℕ) → after 0 n ≡ n
-after-zero zero = refl
-after-zero (suc n) = omega arith
+    pub to-end : length s ≤ i → lengthTo b (drop i s) ≡ 0
+    to-end h = ap (lengthTo b) (drop-of-length-le s h)
 
-after-longer : (k n : ℕ) → after k (longer n) ≡ after (k + 1) n
-after-longer k zero = refl
-after-longer k (suc n) = omega arith
+  pub to-most : (s : List ℕ) → lengthTo b s ≤ length s
+  to-most [] = omega arith
+  to-most (c ∷ s) = by (eqb c b) (to-most s)
+    where
+      by : (t : Bool) → lengthTo b s ≤ length s → cond t 0 (suc (lengthTo b s)) ≤ suc (length s)
+      by true h = omega arith
+      by false h = omega arith
 
-pub line-start : (s : List ℕ) (at : ℕ) → after (at - at) (lineLength (drop at s)) ≡ lineLength (drop at s)
-line-start s at =
-    let z : at - at ≡ 0 = omega arith in ap (λ (k : ℕ). after k (lineLength (drop at s))) z ∙ after-zero (lineLength (drop at s))
+  to-skip : (s : List ℕ) (i : ℕ) → i ≤ lengthTo b s → lengthTo b s ≡ i + lengthTo b (drop i s)
+  to-skip s zero h = omega arith
+  to-skip [] (suc i) h = absurd (omega arith)
+  to-skip (c ∷ s) (suc i) h = by (eqb c b) (λ k. to-skip s i k) h
+    where
+      by : (t : Bool) → (i ≤ lengthTo b s → lengthTo b s ≡ i + lengthTo b (drop i s)) → suc i ≤ cond t 0 (suc (lengthTo b s))
+          → cond t 0 (suc (lengthTo b s)) ≡ suc i + lengthTo b (drop i s)
+      by true r h = absurd (omega arith)
+      by false r h = omega (arith, r (omega arith))
 
-module _ (s : List ℕ) (at i : ℕ) (low : at ≤ i) where
-  pub line-found : i < length s → getD s i 0 ≡ 10 → after (i - at) (lineLength (drop i s)) ≡ i - at + 1
-  unfolding lineLength
-  line-found h e =
-      ap (λ (l : List ℕ). after (i - at) (lineLength l)) (drop-at s i h)
-      ∙ ap (λ (b : Bool). after (i - at) (cond b 1 (longer (lineLength (drop (i + 1) s))))) (eq-eqb (getD s i 0) 10 e)
-      ∙ (let z : suc (i - at + 0) ≡ i - at + 1 = omega arith in z)
+  to-found : (s : List ℕ) → lengthTo b s < length s → getD s (lengthTo b s) 0 ≡ b
+  to-found [] h = absurd (omega arith)
+  to-found (c ∷ s) h = by (eqb c b) refl (λ k. to-found s k) h
+    where
+      by : (t : Bool) → eqb c b ≡ t → (lengthTo b s < length s → getD s (lengthTo b s) 0 ≡ b) → cond t 0 (suc (lengthTo b s)) < suc (length s)
+          → getD (c ∷ s) (cond t 0 (suc (lengthTo b s))) 0 ≡ b
+      by true e r h = eqb-true c b e
+      by false e r h = r (omega arith)
 
-  pub line-on : i < length s → getD s i 0 ≢ 10 → after (i - at) (lineLength (drop i s)) ≡ after (i + 1 - at) (lineLength (drop (i + 1) s))
-  unfolding lineLength
-  line-on h f =
-      let n : ℕ = lineLength (drop (i + 1) s) in
-      let k : i - at + 1 ≡ i + 1 - at = omega arith in
-      ap (λ (l : List ℕ). after (i - at) (lineLength l)) (drop-at s i h)
-      ∙ ap (λ (b : Bool). after (i - at) (cond b 1 (longer n))) (ne-eqb (getD s i 0) 10 f)
-      ∙ after-longer (i - at) n ∙ ap (λ (k : ℕ). after k n) k
+  to-joined : (l s : List ℕ) → ((i : ℕ) → i < length l → getD l i 0 ≢ b) → lengthTo b (l ++ b ∷ s) ≡ length l
+  to-joined [] s h = simp (eq-eqb b b refl)
+  to-joined (c ∷ l) s h = simp (ne-eqb c b (h 0 (omega arith)), to-joined l s (λ i k. h (suc i) (omega arith)))
 
-  pub line-over : length s ≤ i → after (i - at) (lineLength (drop i s)) ≡ 0
-  unfolding lineLength
-  line-over h = ap (λ (l : List ℕ). after (i - at) (lineLength l)) (drop-of-length-le s h)
+-- ---- lines
 
-longer-most : (n m : ℕ) → n ≤ m → longer n ≤ suc m
-longer-most zero m h = omega arith
-longer-most (suc n) m h = omega arith
+pub line-ended : (s : List ℕ) → lengthTo 10 s < length s → lineLength s ≡ lengthTo 10 s + 1
+unfolding lineLength
+line-ended s h = simp (lt-ltb (lengthTo 10 s) (length s) h)
+
+pub line-unended : (s : List ℕ) → length s ≤ lengthTo 10 s → lineLength s ≡ 0
+unfolding lineLength
+line-unended s h = simp (le-ltb (lengthTo 10 s) (length s) h)
+
+line-some : (s : List ℕ) → 0 < lineLength s → (lengthTo 10 s < length s) × (lineLength s ≡ lengthTo 10 s + 1)
+line-some s some = elim (decLt (lengthTo 10 s) (length s)) [
+  | yes h ↦ (h, line-ended s h)
+  | no h ↦ absurd (omega (arith, line-unended s (omega arith)))
+]
 
 pub line-most : (s : List ℕ) → lineLength s ≤ length s
-unfolding lineLength
-line-most [] = omega arith
-line-most (b ∷ s) = by (eqb b 10) (line-most s)
-  where
-    by : (t : Bool) → lineLength s ≤ length s → cond t 1 (longer (lineLength s)) ≤ suc (length s)
-    by true h = omega arith
-    by false h = longer-most (lineLength s) (length s) h
-
-longer-past : (n i : ℕ) → suc i < longer n → (i < n) × (longer n ≡ suc n)
-longer-past zero i h = absurd (omega arith)
-longer-past (suc n) i h = (omega arith, refl)
+line-most s = elim (decLt (lengthTo 10 s) (length s)) [
+  | yes h ↦ omega (arith, line-ended s h)
+  | no h ↦ omega (arith, line-unended s (omega arith))
+]
 
 pub line-skip : (s : List ℕ) (i : ℕ) → i < lineLength s → lineLength s ≡ i + lineLength (drop i s)
-unfolding lineLength
-line-skip s zero h = omega arith
-line-skip [] (suc i) h = absurd (omega (arith, line-most []))
-line-skip (b ∷ s) (suc i) h = by (eqb b 10) refl (λ k. line-skip s i k)
-  where
-    by : (t : Bool) → eqb b 10 ≡ t → (i < lineLength s → lineLength s ≡ i + lineLength (drop i s)) → lineLength (b ∷ s) ≡ suc i + lineLength (drop i s)
-    by true e r = absurd (let is : lineLength (b ∷ s) ≡ 1 = simp e in omega arith)
-    by false e r =
-        let is : lineLength (b ∷ s) ≡ longer (lineLength s) = simp e in
-        let past = longer-past (lineLength s) i (omega arith) in omega (arith, past .1, r (past .0))
+line-skip s i h =
+    let line = line-some s (omega arith) in
+    let skip = to-skip 10 s i (omega (arith, line .1)) in
+    omega (arith, line .1, line-ended (drop i s) (omega (arith, line .0, length-drop i s)))
 
 -- a line: bytes but 10, and byte 10
 pub line-joined : (l s : List ℕ) → ((i : ℕ) → i < length l → getD l i 0 ≢ 10) → lineLength (l ++ 10 ∷ s) ≡ length l + 1
-unfolding lineLength
-line-joined [] s h = refl
-line-joined (b ∷ l) s h =
-    ap (λ (t : Bool). cond t 1 (longer (lineLength (l ++ 10 ∷ s)))) (ne-eqb b 10 (h 0 (omega arith)))
-    ∙ ap longer (line-joined l s (λ i k. h (suc i) (omega arith)) ∙ add-one (length l)) ∙ (let z : suc (suc (length l)) ≡ suc (length l) + 1 = omega arith in z)
+line-joined l s h =
+    let to = to-joined 10 l s h in line-ended (l ++ 10 ∷ s) (omega (arith, length-append l (10 ∷ s))) ∙ ap (λ (n : ℕ). n + 1) to
 
 pub line-ends : (s : List ℕ) → 0 < lineLength s → take (lineLength s) s ≡ take (lineLength s - 1) s ++ (10 ∷ [])
-unfolding lineLength
-line-ends [] h = absurd (omega arith)
-line-ends (b ∷ s) h = by (eqb b 10) refl (λ k. line-ends s k) h
-  where
-    on : (n : ℕ) → 0 < longer n → (0 < n → take n s ≡ take (n - 1) s ++ (10 ∷ [])) → take (longer n) (b ∷ s) ≡ take (longer n - 1) (b ∷ s) ++ (10 ∷ [])
-    on zero h r = absurd (omega arith)
-    on (suc n) h r =
-        let less : suc n - 1 ≡ n = omega arith in
-        let more : suc (suc n) - 1 ≡ suc n = omega arith in
-        let ended : take (suc n) s ≡ take n s ++ (10 ∷ []) = rw less at (r (omega arith)) in rw more (ap (λ (l : List ℕ). b ∷ l) ended)
-
-    by : (t : Bool) → eqb b 10 ≡ t → (0 < lineLength s → take (lineLength s) s ≡ take (lineLength s - 1) s ++ (10 ∷ [])) → 0 < cond t 1 (longer (lineLength s))
-        → take (cond t 1 (longer (lineLength s))) (b ∷ s) ≡ take (cond t 1 (longer (lineLength s)) - 1) (b ∷ s) ++ (10 ∷ [])
-    by true e r h = ap (λ (c : ℕ). c ∷ []) (eqb-true b 10 e)
-    by false e r h = on (lineLength s) h r
+line-ends s some =
+    let line = line-some s some in
+    let n : ℕ = lengthTo 10 s in
+    let less : lineLength s - 1 ≡ n = omega (arith, line .1) in
+    ap (λ (k : ℕ). take k s) (line .1 ∙ add-one n) ∙ take-suc s n 0 (line .0)
+    ∙ ap₂ (λ (k c : ℕ). take k s ++ (c ∷ [])) (sym less) (to-found 10 s (line .0))
 
 pub line-inside : (s : List ℕ) (i : ℕ) → suc i < lineLength s → getD s i 0 ≢ 10
 line-inside s i h e =
-    let found : lineLength (drop i s) ≡ i - i + 1 = sym (line-start s i) ∙ line-found s i i (omega arith) (omega (arith, line-most s)) e in
-    omega (arith, line-skip s i (omega arith))
+    let line = line-some s (omega arith) in
+    omega (arith, line .1, to-skip 10 s i (omega (arith, line .1)), to-here 10 s i (omega (arith, line .0, line .1)) e)
 
--- ---- the end of a word
-
-module _ (s : List ℕ) (at i : ℕ) (low : at ≤ i) where
-  pub word-found : i < length s → getD s i 0 ≡ 32 → i - at + wordLength (drop i s) ≡ i - at
-  unfolding wordLength
-  word-found h e =
-      let z : wordLength (drop i s) ≡ 0 =
-      ap wordLength (drop-at s i h) ∙ ap (λ (b : Bool). cond b 0 (suc (wordLength (drop (i + 1) s)))) (eq-eqb (getD s i 0) 32 e) in omega arith
-
-  pub word-on : i < length s → getD s i 0 ≢ 32 → i - at + wordLength (drop i s) ≡ i + 1 - at + wordLength (drop (i + 1) s)
-  unfolding wordLength
-  word-on h f =
-      let z : wordLength (drop i s) ≡ suc (wordLength (drop (i + 1) s)) =
-      ap wordLength (drop-at s i h) ∙ ap (λ (b : Bool). cond b 0 (suc (wordLength (drop (i + 1) s)))) (ne-eqb (getD s i 0) 32 f) in omega arith
-
-  pub word-over : length s ≤ i → i - at + wordLength (drop i s) ≡ i - at
-  unfolding wordLength
-  word-over h = let z : wordLength (drop i s) ≡ 0 = ap wordLength (drop-of-length-le s h) in omega arith
+-- ---- words
 
 pub word-most : (s : List ℕ) → wordLength s ≤ length s
 unfolding wordLength
-word-most [] = omega arith
-word-most (b ∷ s) = by (eqb b 32) (word-most s)
-  where
-    by : (t : Bool) → wordLength s ≤ length s → cond t 0 (suc (wordLength s)) ≤ suc (length s)
-    by true h = omega arith
-    by false h = omega arith
+word-most s = to-most 32 s
 
 pub words-last : (s : List ℕ) → wordLength s ≡ length s → wordsOf s ≡ take (wordLength s) s ∷ []
 unfolding wordLength wordsOf
@@ -180,19 +150,6 @@ words-more (b ∷ s) h = by (eqb b 32) (words-more s) h
     by false r h = ap (withByte b) (r (omega arith))
 
 -- ---- digits
-
-module _ (w : List ℕ) (i : ℕ) where
-  pub digits-none : length w ≤ i → allDigits (drop i w) ≡ true
-  unfolding allDigits
-  digits-none h = ap allDigits (drop-of-length-le w h)
-
-  pub digits-other : i < length w → isDigit (getD w i 0) ≡ false → allDigits (drop i w) ≡ false
-  unfolding allDigits
-  digits-other h e = ap allDigits (drop-at w i h) ∙ ap (λ (b : Bool). b && allDigits (drop (i + 1) w)) e
-
-  pub digits-more : i < length w → isDigit (getD w i 0) ≡ true → allDigits (drop i w) ≡ allDigits (drop (i + 1) w)
-  unfolding allDigits
-  digits-more h e = ap allDigits (drop-at w i h) ∙ ap (λ (b : Bool). b && allDigits (drop (i + 1) w)) e
 
 pub decimal-none : (w : List ℕ) → length w ≡ 0 → isDecimal w ≡ false
 unfolding isDecimal

@@ -13,6 +13,7 @@ use mathlib.Core.Bool.{Bool, true, false, not, _&&_}
 use mathlib.Core.List.{List, [], _∷_, _++_, foldl}
 use Prim.Native.Nat.{ℕ, zero, suc, _+_, _-_, _*_, _/_, _%_}
 use lib.Dec.{leb, ltb, eqb}
+use Rattle.lent_bytes.specs.Each.{each}
 
 -- ---- the digits of a number
 
@@ -51,8 +52,7 @@ abbrev pub isDigit : ℕ → Bool
 isDigit c = leb 48 c && leb c 57
 
 unfoldable pub allDigits : List ℕ → Bool
-allDigits [] = true
-allDigits (c ∷ w) = isDigit c && allDigits w
+allDigits w = each isDigit w
 
 -- one digit, or more of which the first is not 0
 unfoldable pub isDecimal : List ℕ → Bool

@@ -7,10 +7,11 @@
 --   hexDigitValue c     the digit of the character c
 --   hexValue w     the number that the digits w spell
 -- Assumes nothing.
-use mathlib.Core.Bool.{Bool, true, cond, _&&_, _||_}
+use mathlib.Core.Bool.{Bool, cond, _&&_, _||_}
 use mathlib.Core.List.{List, [], _∷_, _++_, foldl}
 use Prim.Native.Nat.{ℕ, _+_, _-_, _*_, _/_, _%_}
 use lib.Dec.{leb, ltb}
+use Rattle.lent_bytes.specs.Each.{each}
 
 -- the character of the digit d: 0 to 9, then a to f
 unfoldable pub hexDigit : ℕ → ℕ
@@ -28,8 +29,7 @@ unfoldable pub isHexDigit : ℕ → Bool
 isHexDigit c = (leb 48 c && leb c 57) || (leb 97 c && leb c 102)
 
 unfoldable pub allHexDigits : List ℕ → Bool
-allHexDigits [] = true
-allHexDigits (c ∷ w) = isHexDigit c && allHexDigits w
+allHexDigits w = each isHexDigit w
 
 -- the digit of the character c
 unfoldable pub hexDigitValue : ℕ → ℕ

@@ -4,34 +4,21 @@ ghost use Prim.Native.Nat.{_-_, _<_, min};
 ghost use lib.ListN.{drop};
 ghost use Rattle.text.specs.Buffer.{usizeMax};
 ghost use Rattle.text.specs.Decimal.{isDigit, allDigits, isDecimal, withDigit, valueOf};
-ghost use Rattle.text.specs.TextLines.{lineLength, wordLength};
+ghost use Rattle.text.specs.TextLines.{lengthTo, lineLength, wordLength};
 
 // The length of the line at `at`, its byte 10 included; 0 where none ends it.
 pub fn line_length(text: &[u8], at: usize) -> usize
     ensures { λ r. ⌜ r ≡ lineLength (drop at (now (text .entry))) ⌝ }
 {
-    let mut i = at;
-    while i < text.len() {
-        if text[i] == b'\n' {
-            return i - at + 1;
-        }
-        i += 1;
-    }
-    0
+    let n = length_to(text, at, b'\n');
+    if at + n < text.len() { n + 1 } else { 0 }
 }
 
 // The length of the word at `at`: up to a space, or to the end.
 pub fn word_length(text: &[u8], at: usize) -> usize
     ensures { λ r. ⌜ r ≡ wordLength (drop at (now (text .entry))) ⌝ }
 {
-    let mut i = at;
-    while i < text.len() {
-        if text[i] == b' ' {
-            return i - at;
-        }
-        i += 1;
-    }
-    i - at
+    length_to(text, at, b' ')
 }
 
 // Whether a word is a number in decimal, without leading zeros.
@@ -58,6 +45,20 @@ pub fn value_of(digits: &[u8]) -> u64
         i += 1;
     }
     value
+}
+
+// The length of what stands at `at`, up to the first `byte`, or to the end.
+fn length_to(text: &[u8], at: usize, byte: u8) -> usize
+    ensures { λ r. ⌜ r ≡ lengthTo byte (drop at (now (text .entry))) ⌝ }
+{
+    let mut i = at;
+    while i < text.len() {
+        if text[i] == byte {
+            return i - at;
+        }
+        i += 1;
+    }
+    i - at
 }
 
 // Whether all characters are digits.

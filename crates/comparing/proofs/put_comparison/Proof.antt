@@ -13,7 +13,8 @@ use Rattle.comparing.specs.Lines.{textOf}
 use Rattle.comparing.specs.Differences.{headLines, entryLines}
 use Rattle.comparing.specs.Runs.{runLines}
 use Rattle.comparing.specs.Comparing.{refusalLines}
-use Rattle.comparing.proofs.CallLaws.{comparison-refused, comparison-refused-2, comparison-accepted, list-part, data-part}
+use Rattle.comparing.proofs.CallLaws.{comparison-refused, comparison-refused-2, comparison-accepted, data-part}
+use Rattle.par1_read.proofs.ReadingLaws.{read-list}
 use borrow.Author.Needs.{needs}
 use Rattle.comparing.proofs.put_comparison.Statement.{statement}
 use Rattle.comparing.proofs.put_comparison.Tie as tie
@@ -56,8 +57,8 @@ returns-3 c =
     let first = sym (s .pre .0) ∙ one-accepted .first .given .1 in
     let second = sym (s .pre .1) ∙ two-accepted .second .given .1 in
     let list-text =
-    ap₂ (λ (a b : List ℕ). textOf (entryLines 1 (entriesOf a .pieces) (entriesOf b .pieces))) (lists .before .before .before .part .ensures ∙ list-part one first)
-    (lists .before .before .part2 .ensures ∙ list-part two second) in
+    ap₂ (λ (a b : List ℕ). textOf (entryLines 1 (entriesOf a .pieces) (entriesOf b .pieces))) (lists .before .before .before .part .ensures ∙ read-list one first)
+    (lists .before .before .part2 .ensures ∙ read-list two second) in
     let data-text =
     ap₂ (λ (a b : List ℕ). textOf (runLines a b)) (runs .before .before .before .part3 .ensures ∙ data-part one first)
     (runs .before .before .part4 .ensures ∙ data-part two second) in

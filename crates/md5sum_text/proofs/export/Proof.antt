@@ -11,7 +11,7 @@ use Rattle.refusals.specs.declared.Refusal.{Refusal}
 use Rattle.par1_read.specs.Reading.{entriesIn, readOf, readingRefusal}
 use Rattle.par1_read.specs.declared.reading.Reading.the-variants as reading
 use Rattle.md5sum_text.specs.Export.{exportText, allFitting}
-use Rattle.md5sum_text.proofs.CallLaws.{read-list, export-unread, export-unfit, export-fit}
+use Rattle.md5sum_text.proofs.CallLaws.{read-entries, export-unread, export-unfit, export-fit}
 use Rattle.md5sum_text.proofs.export.Statement.{statement}
 use Rattle.md5sum_text.proofs.export.Tie as tie
 
@@ -33,7 +33,7 @@ tested : (c : tie.After-all-fitting)
 tested c =
     let known = c .before .before in
     let f : List ℕ = now (known .before .before .before .before .before .before .args .file) in
-    c .all-fitting .ensures ∙ ap allFitting (read-list f (accepted known) (c .before .part .ensures))
+    c .all-fitting .ensures ∙ ap allFitting (read-entries f (accepted known) (c .before .part .ensures))
 
 returns-2 : tie.Need-returns-2
 returns-2 c =
@@ -55,7 +55,7 @@ returns-3 c =
     let known = t .before .before in
     let a = known .before .before .before .before .before .before .args in
     let fit = sym (tested t) ∙ not-false (t .all-fitting .result) (list .before .before .if1 .left) in
-    let entries = read-list (now (a .file)) (accepted known) (t .before .part .ensures) in
+    let entries = read-entries (now (a .file)) (accepted known) (t .before .part .ensures) in
     export-fit (now (a .file)) (now (a .out)) (accepted known) fit
     (list .export-list .ensures ∙ ap (λ (es : List (List ℕ)). written (exportText es) (now (a .out))) entries)
 

@@ -17,7 +17,8 @@ use Rattle.md5sum_text.specs.declared.lines.Shapes.{Shapes}
 use Rattle.text.specs.Buffer.{Buffer, buffer, put as putOf}
 use Rattle.text.proofs.BufferLaws.{put-whole}
 use Rattle.lent_bytes.proofs.WritingLaws.{written-fits, written-short}
-use Rattle.md5sum_text.proofs.CallLaws.{read-list, read-count, import-unread, import-faulty, import-right}
+use Rattle.par1_read.proofs.ReadingLaws.{read-count}
+use Rattle.md5sum_text.proofs.CallLaws.{read-entries, import-unread, import-faulty, import-right}
 use Rattle.md5sum_text.proofs.import.Statement.{statement}
 use Rattle.md5sum_text.proofs.import.Tie as tie
 
@@ -41,7 +42,7 @@ faults c =
     let known = c .before .before .before in
     let a = known .before .before .before .before .before .before .before .args in
     c .refusal .ensures
-    ∙ ap (λ (es : List (List ℕ)). textRefusal es (linesOf (now (a .text)))) (read-list (now (a .file)) (accepted known) (c .before .before .part .ensures))
+    ∙ ap (λ (es : List (List ℕ)). textRefusal es (linesOf (now (a .text)))) (read-entries (now (a .file)) (accepted known) (c .before .before .part .ensures))
 
 returns-2 : tie.Need-returns-2
 returns-2 c =
@@ -76,7 +77,7 @@ returns-4 c =
     let out : List ℕ = now (s .args .out) in
     let answer : List ℕ → ℕ = answerFor (linesOf (now (s .args .text)) .pieces) in
     let bytes : List ℕ = map answer (entriesIn f) in
-    let entries = read-list f (accepted known) (r .before .before .part .ensures) in
+    let entries = read-entries f (accepted known) (r .before .before .part .ensures) in
     let size : length bytes ≡ length (entriesIn f) = simp length-map in
     let fits : length bytes ≤ length out = omega (arith, room .if2 .left, read-count f (accepted known)) in
     let whole = put .put-answers .ensures ∙ ap (λ (es : List (List ℕ)). putOf (buffer out 0) (map answer es)) entries

@@ -1,15 +1,13 @@
--- `text::all_hex_digits` meets its contract. The invariant: what holds of the bytes that remain holds of all.
+-- `text::all_hex_digits` meets its contract. The invariant: the characters that remain decide.
 -- Assumes nothing.
 use denote.Ref.{now}
-use mathlib.Core.Path.{_≡_, refl, sym, _∙_}
-use mathlib.Core.List.{List}
-use Prim.Native.Nat.{ℕ, _-_, _≤_}
+use mathlib.Core.Path.{_≡_, refl}
+use Prim.Native.Nat.{_≤_, _-_}
 use native.Mathlib.Omega.{arith}
-use lib.ListN.{length, drop}
+use lib.ListN.{length, drop, drop-of-length-le}
 use borrow.Author.Needs.{needs}
-use borrow.Author.Tests.{not-true, not-false}
-use Rattle.text.specs.Hex.{allHexDigits}
-use Rattle.text.proofs.HexLaws.{lower-none, lower-more}
+use Rattle.lent_bytes.proofs.EachLaws.{drop-at, each-over, each-stops, each-goes}
+use Rattle.text.specs.Hex.{isHexDigit, allHexDigits}
 use Rattle.text.proofs.all_hex_digits.Statement.{statement}
 use Rattle.text.proofs.all_hex_digits.Tie as tie
 
@@ -20,23 +18,21 @@ abbrev μ-loop : tie.MeasureT-loop
 μ-loop word i₀ i = length word - i
 
 returns : tie.Need-returns Inv-loop μ-loop
+unfolding allHexDigits
 returns c =
-    let b = c .before .before .before .before in
-    let w : List ℕ = now (b .before .before .args .word) in
-    let more = lower-more w (b .loop .i) (omega arith) (c .before .is-hex-digit .ensures) in
-    sym (more ∙ simp (not-true (c .before .is-hex-digit .result) (c .if1 .taken))) ∙ b .loop .inv .1
+    let l = c .before .before .before .before in
+    each-stops isHexDigit (l .loop .inv .1) (drop-at (now (l .before .before .args .word)) (l .loop .i) (omega arith)) (c .before .is-hex-digit .ensures) (c .if1 .taken)
 
 loop-again : tie.Need-loop-again Inv-loop μ-loop
+unfolding allHexDigits
 loop-again c =
-    let b = c .before .before .before .before in
-    let w : List ℕ = now (b .before .before .args .word) in
-    let more = lower-more w (b .loop .i) (omega arith) (c .before .is-hex-digit .ensures) in
-    (omega arith, sym (more ∙ simp (not-false (c .before .is-hex-digit .result) (c .if1 .left))) ∙ b .loop .inv .1)
+    let l = c .before .before .before .before in
+    (omega arith, each-goes isHexDigit (l .loop .inv .1) (drop-at (now (l .before .before .args .word)) (l .loop .i) (omega arith)) (c .before .is-hex-digit .ensures) (c .if1 .left))
 
 returns-2 : tie.Need-returns-2 Inv-loop μ-loop
+unfolding allHexDigits
 returns-2 c =
-    let b = c .before in
-    sym (lower-none (now (b .before .before .args .word)) (b .loop .i) (omega arith)) ∙ b .loop .inv .1
+    let l = c .before in each-over isHexDigit (l .loop .inv .1) (drop-of-length-le (now (l .before .before .args .word)) (c .loop-test .left))
 
 pub all-hex-digits-spec : {M : Type 1} → statement M
 all-hex-digits-spec =

@@ -2,16 +2,14 @@
 -- start gives. The measure is the length of what remains.
 -- Assumes nothing.
 use denote.Ref.{now}
-use mathlib.Core.Path.{_≡_, refl, sym, ap, _∙_}
-use mathlib.Core.List.{List, _∷_}
-use Prim.Native.Nat.{ℕ, _+_, _-_, _≤_, _<_}
-use native.Mathlib.Numerals.{add-one}
+use mathlib.Core.Path.{_≡_, refl, _∙_}
+use Prim.Native.Nat.{_-_, _≤_}
 use native.Mathlib.Omega.{arith}
-use lib.ListN.{length, getD, drop, drop-of-length-le}
-use lib.Seq.{drop-cons}
+use lib.ListN.{length, drop, drop-of-length-le}
 use borrow.Author.Needs.{needs}
-use Rattle.text.specs.Buffer.{Buffer, buffer, usizeMax, put}
-use Rattle.text.proofs.BufferLaws.{put-nil, put-rest}
+use Rattle.lent_bytes.proofs.EachLaws.{drop-at}
+use Rattle.text.specs.Buffer.{buffer, usizeMax, put}
+use Rattle.text.proofs.BufferLaws.{put-over, put-goes}
 use Rattle.text.proofs.put_bytes.Statement.{statement}
 use Rattle.text.proofs.put_bytes.Tie as tie
 
@@ -23,31 +21,18 @@ Inv-loop out₀ start text at₀ i₀ out at i =
 abbrev μ-loop : tie.MeasureT-loop
 μ-loop out₀ start text at₀ i₀ out at i = length text - i
 
-loop-holds : tie.Need-loop-holds Inv-loop μ-loop
-loop-holds c = (omega arith, refl, omega arith, refl)
-
 loop-again : tie.Need-loop-again Inv-loop μ-loop
 loop-again c =
-    let l = c .before .before .before .before .before .before .loop in
-    let s : List ℕ = now (c .before .before .before .before .before .before .before .before .before .args .text) in
-    let h : l .i < length s = c .before .before .before .before .before .loop-test .taken in
-    let b : Buffer = buffer (l .out) (l .at) in
-    let d : drop (l .i) s ≡ getD s (l .i) 0 ∷ drop (l .i + 1) s = rw (add-one, drop-cons s (l .i) 0) in (
-      omega arith,
-      c .before .before .put .kept .0 ∙ l .inv .1,
-      omega arith,
-      put-rest b _ _ (omega arith) (c .before .before .put .ensures) ∙ ap (put b) (sym d) ∙ l .inv .3,
-    )
+    let l = c .before .before .before .before .before .before in
+    let more = drop-at (now (l .before .before .before .args .text)) (l .loop .i) (omega arith) in
+    (omega arith, c .before .before .put .kept .0 ∙ l .loop .inv .1, omega arith, put-goes _ _ (l .loop .inv .3) _ _ (omega arith) more (c .before .before .put .ensures))
 
 returns : tie.Need-returns Inv-loop μ-loop
 returns c =
-    let l = c .before .loop in
-    let s : List ℕ = now (c .before .before .before .before .args .text) in
-    sym (put-nil (l .out) (l .at) (l .inv .2))
-    ∙ ap (put (buffer (l .out) (l .at))) (sym (drop-of-length-le s (c .loop-test .left)))
-    ∙ l .inv .3
+    let l = c .before in
+    put-over _ _ (l .loop .inv .3) (l .loop .inv .2) (drop-of-length-le (now (l .before .before .before .args .text)) (c .loop-test .left))
 
 pub put-bytes-spec : {M : Type 1} → statement M
 put-bytes-spec =
     tie.close
-    (tie.spec Inv-loop μ-loop loop-holds (λ c. omega arith) (λ c κs. search needs) (λ c. omega arith) (λ c. omega arith) loop-again (λ c. omega arith) returns)
+    (tie.spec Inv-loop μ-loop (λ c. (omega arith, refl, omega arith, refl)) (λ c. omega arith) (λ c κs. search needs) (λ c. omega arith) (λ c. omega arith) loop-again (λ c. omega arith) returns)

@@ -1,17 +1,18 @@
 -- `comparing::lists::put_all` meets its contract. The loop's invariant: the lines on the entries that remain, put after those so far, are all of
 -- them.
 -- Assumes nothing.
-use mathlib.Core.Path.{_≡_, refl, sym, ap, _∙_}
+use mathlib.Core.Path.{_≡_, refl, _∙_}
 use Prim.Native.Nat.{_≤_, _-_, _+_}
 use native.Mathlib.Omega.{arith}
 use lib.ListN.{length, drop}
 use denote.Ref.{now}
 use Rattle.text.specs.Buffer.{buffer, usizeMax, put}
-use Rattle.text.proofs.BufferLaws.{put-nil, put-rest}
+use Rattle.text.proofs.BufferLaws.{put-over, put-goes}
 use Rattle.entries.specs.Walk.{entriesOf}
+use Rattle.entries.proofs.WalkLaws.{EntryHere, entry-here, no-entry}
 use Rattle.comparing.specs.Lines.{textOf}
 use Rattle.comparing.specs.Differences.{allLines}
-use Rattle.comparing.proofs.ListLaws.{EntryHere, entry-here, entry-none, none-lacking, more-lacking}
+use Rattle.comparing.proofs.ListLaws.{none-lacking, more-lacking}
 use borrow.Author.Needs.{needs}
 use Rattle.comparing.proofs.lists.put_all.Statement.{statement}
 use Rattle.comparing.proofs.lists.put_all.Tie as tie
@@ -36,10 +37,9 @@ loop-holds c = (refl, omega arith, c .before .before .pre, refl)
 
 returns : tie.Need-returns Inv-loop μ-loop
 returns c =
-    let l = c .before .before .loop in
-    let list = now (c .before .before .before .before .before .args .list) in
-    let none = none-lacking (l .place) (entry-none list (l .from) (c .before .length-at .ensures) (c .if1 .taken)) in
-    sym (put-nil (l .out) (l .at) (l .inv .1)) ∙ ap (put (buffer (l .out) (l .at))) (sym none) ∙ l .inv .3
+    let l = c .before .before in
+    let none = no-entry (now (l .before .before .before .args .list)) (l .loop .from) (c .before .length-at .ensures) (c .if1 .taken) in
+    put-over _ _ (l .loop .inv .3) (l .loop .inv .1) (none-lacking (l .loop .place) none)
 
 add-place : tie.Need-add-place Inv-loop μ-loop
 add-place c = let i = here (c .before .before .before .before .before) in omega (arith, i .low, i .fits)
@@ -58,9 +58,7 @@ loop-again c =
       put-one .kept .0 ∙ l .inv .0,
       omega arith,
       omega (arith, i .low),
-      put-rest (buffer (l .out) (l .at)) _ _ (omega arith) (put-one .ensures)
-          ∙ ap (put (buffer (l .out) (l .at))) (sym (more-lacking (l .place) (i .pieces-are)))
-          ∙ l .inv .3,
+      put-goes _ _ (l .inv .3) _ _ (omega arith) (more-lacking (l .place) (i .pieces-are)) (put-one .ensures),
     )
 
 pub put-all-spec : {M : Type 1} → statement M

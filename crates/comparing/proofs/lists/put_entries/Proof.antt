@@ -7,12 +7,13 @@ use native.Mathlib.Omega.{arith}
 use lib.ListN.{length, drop}
 use denote.Ref.{now}
 use Rattle.text.specs.Buffer.{buffer, usizeMax, put}
-use Rattle.text.proofs.BufferLaws.{put-rest}
+use Rattle.text.proofs.BufferLaws.{put-goes}
 use mathlib.Core.List.{List, map, _++_}
 use Rattle.entries.specs.Walk.{entriesOf}
+use Rattle.entries.proofs.WalkLaws.{EntryHere, entry-here, no-entry}
 use Rattle.comparing.specs.Lines.{Line, entry, textOf}
 use Rattle.comparing.specs.Differences.{entryTable, differing, entryLines}
-use Rattle.comparing.proofs.ListLaws.{EntryHere, entry-here, entry-none, lines-left, lines-right, lines-more}
+use Rattle.comparing.proofs.ListLaws.{lines-left, lines-right, lines-more}
 use borrow.Author.Needs.{needs}
 use Rattle.comparing.proofs.lists.put_entries.Statement.{statement}
 use Rattle.comparing.proofs.lists.put_entries.Tie as tie
@@ -44,7 +45,7 @@ returns : tie.Need-returns Inv-loop μ-loop
 returns c =
     let over = c .before .before .before .before in
     let l = over .before .before .loop in
-    let none = entry-none (now (over .before .before .before .before .before .before .args .one)) (l .i) (over .before .length-at .ensures) (over .if1 .taken) in
+    let none = no-entry (now (over .before .before .before .before .before .before .args .one)) (l .i) (over .before .length-at .ensures) (over .if1 .taken) in
     c .before .before .put-all .ensures
     ∙ ap (λ (ls : List Line). put (buffer (l .out) (l .at)) (textOf ls)) (sym (lines-left (l .place) _ none))
     ∙ l .inv .4
@@ -53,7 +54,7 @@ returns-2 : tie.Need-returns-2 Inv-loop μ-loop
 returns-2 c =
     let over = c .before .before .before .before in
     let l = over .before .before .before .before .loop in
-    let none = entry-none (now (over .before .before .before .before .before .before .before .before .args .two)) (l .j) (over .before .length-at2 .ensures) (over .if2 .taken) in
+    let none = no-entry (now (over .before .before .before .before .before .before .before .before .args .two)) (l .j) (over .before .length-at2 .ensures) (over .if2 .taken) in
     c .before .before .put-all2 .ensures
     ∙ ap (λ (ls : List Line). put (buffer (l .out) (l .at)) (textOf ls)) (sym (lines-right (l .place) _ none))
     ∙ l .inv .4
@@ -80,7 +81,6 @@ loop-again c =
     let i = one-here known in
     let j = two-here known in
     let fields = c .before .before .put-fields in
-    let here = buffer (l .out) (l .at) in
     let parts =
     ap₂ (λ (e d : List ℕ). textOf (map (entry (l .place)) (differing entryTable e d))) (c .before .before .before .before .part .ensures) (c .before .before .before .part2 .ensures) in
     let ones = entriesOf (drop (l .i + n) (now (s .args .one))) .pieces in
@@ -90,9 +90,8 @@ loop-again c =
       omega arith,
       omega (arith, i .low),
       omega (arith, j .low),
-      put-rest here _ _ (omega arith) (fields .ensures)
-          ∙ ap (put here) (ap (λ (t : List ℕ). t ++ rest) parts ∙ sym (lines-more (l .place) (i .pieces-are) (j .pieces-are)))
-          ∙ l .inv .4,
+      put-goes _ _ (l .inv .4) _ rest (omega arith)
+          (lines-more (l .place) (i .pieces-are) (j .pieces-are) ∙ ap (λ (t : List ℕ). t ++ rest) (sym parts)) (fields .ensures),
     )
 
 pub put-entries-spec : {M : Type 1} → statement M

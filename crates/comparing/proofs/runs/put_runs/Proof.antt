@@ -7,7 +7,7 @@ use native.Mathlib.Omega.{arith}
 use lib.ListN.{length}
 use denote.Ref.{now}
 use Rattle.text.specs.Buffer.{buffer, usizeMax, put}
-use Rattle.text.proofs.BufferLaws.{put-nil, put-rest}
+use Rattle.text.proofs.BufferLaws.{put-over, put-goes}
 use mathlib.Core.List.{List, _∷_, map, flatten}
 use Rattle.comparing.specs.Lines.{textOf}
 use Rattle.comparing.specs.Runs.{Run, runOf, runLine, runLines, runsOf, runsFrom, differs}
@@ -58,9 +58,7 @@ returns c =
     let d = differs (now (s .args .a)) (now (s .args .b)) in
     let n = c .before .before .before .greater .result in
     let none = runs-none d n (l .from) (rw (sym (l .inv .0)) at (c .before .difference-from .ensures)) (c .if1 .taken) in
-    sym (put-nil (l .out) (l .at) (l .inv .2))
-    ∙ ap (λ (rs : List Run). put (buffer (l .out) (l .at)) (textOf (map (λ r. runLine r) rs))) (sym none)
-    ∙ l .inv .3
+    put-over _ _ (l .inv .3) (l .inv .2) (ap (λ (rs : List Run). textOf (map (λ r. runLine r) rs)) none)
 
 sub-put-run : tie.Need-sub-put-run Inv-loop μ-loop
 sub-put-run c = omega (arith, next (c .before) .0)
@@ -77,9 +75,7 @@ loop-again c =
       l .inv .0,
       line .kept .0 ∙ l .inv .1,
       omega arith,
-      put-rest (buffer (l .out) (l .at)) _ _ (omega arith) (line .ensures)
-          ∙ ap (λ (rs : List Run). put (buffer (l .out) (l .at)) (textOf (map (λ r. runLine r) rs))) (sym (next (c .before .before .before .before) .1))
-          ∙ l .inv .3,
+      put-goes _ _ (l .inv .3) _ _ (omega arith) (ap (λ (rs : List Run). textOf (map (λ r. runLine r) rs)) (next (c .before .before .before .before) .1)) (line .ensures),
     )
 
 pub put-runs-spec : {M : Type 1} → statement M

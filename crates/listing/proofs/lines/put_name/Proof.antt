@@ -9,7 +9,7 @@ use denote.Ref.{now}
 use Rattle.entries.specs.Entry.{unitsOf}
 use Rattle.entries.proofs.NameLaws.{units-more, units-none}
 use Rattle.text.specs.Buffer.{buffer, usizeMax, put}
-use Rattle.text.proofs.BufferLaws.{put-nil, put-rest}
+use Rattle.text.proofs.BufferLaws.{put-over, put-goes}
 use Rattle.listing.specs.Lines.{shown}
 use borrow.Author.Needs.{needs}
 use Rattle.listing.proofs.lines.put_name.Statement.{statement}
@@ -23,52 +23,22 @@ Inv-loop out₀ start name at₀ i₀ out at i =
 abbrev μ-loop : tie.MeasureT-loop
 μ-loop out₀ start name at₀ i₀ out at i = length name - i
 
-loop-holds : tie.Need-loop-holds Inv-loop μ-loop
-loop-holds c = (omega arith, refl, omega arith, refl)
-
-sub-loop : tie.Need-sub-loop Inv-loop μ-loop
-sub-loop c = omega arith
-
-read16-requires : tie.Need-read16-requires Inv-loop μ-loop
-read16-requires c κs = search needs
-
-shown-requires : tie.Need-shown-requires Inv-loop μ-loop
-shown-requires c κs = search needs
-
-put-requires : tie.Need-put-requires Inv-loop μ-loop
-put-requires c κs = search needs
-
-add-i : tie.Need-add-i Inv-loop μ-loop
-add-i c = omega arith
-
-loop-less : tie.Need-loop-less Inv-loop μ-loop
-loop-less c = omega arith
-
 loop-again : tie.Need-loop-again Inv-loop μ-loop
 loop-again c =
-    let l = c .before .before .before .before .before .before .before .loop in
-    let a = c .before .before .before .before .before .before .before .before .before .before .args in
+    let l = c .before .before .before .before .before .before .before in
+    let name : List ℕ = now (l .before .before .before .args .name) in
     let unit = c .before .before .before .shown .ensures ∙ ap shown (c .before .before .before .before .read16 .ensures) in
-    let more = ap (map shown) (units-more (now (a .name)) (l .i) (omega arith)) in
-    let rest : List ℕ = map shown (unitsOf (drop (l .i + 2) (now (a .name)))) in (
-      omega arith,
-      c .before .before .put .kept .0 ∙ l .inv .1,
-      omega arith,
-      put-rest (buffer (l .out) (l .at)) _ _ (omega arith) (c .before .before .put .ensures)
-          ∙ ap (put (buffer (l .out) (l .at))) (ap (λ (u : ℕ). u ∷ rest) unit ∙ sym more)
-          ∙ l .inv .3,
-    )
-
-same-length : tie.Need-same-length Inv-loop μ-loop
-same-length c = omega arith
+    let rest : List ℕ = map shown (unitsOf (drop (l .loop .i + 2) name)) in
+    let more = ap (map shown) (units-more name (l .loop .i) (omega arith)) ∙ ap (λ (u : ℕ). u ∷ rest) (sym unit) in
+    (omega arith, c .before .before .put .kept .0 ∙ l .loop .inv .1, omega arith, put-goes _ _ (l .loop .inv .3) _ rest (omega arith) more (c .before .before .put .ensures))
 
 returns : tie.Need-returns Inv-loop μ-loop
 returns c =
-    let l = c .before .loop in
-    let none = units-none (now (c .before .before .before .before .args .name)) (l .i) (omega arith) in
-    sym (put-nil (l .out) (l .at) (l .inv .2)) ∙ ap (λ (us : List ℕ). put (buffer (l .out) (l .at)) (map shown us)) (sym none) ∙ l .inv .3
+    let l = c .before in
+    put-over _ _ (l .loop .inv .3) (l .loop .inv .2) (ap (map shown) (units-none (now (l .before .before .before .args .name)) (l .loop .i) (omega arith)))
 
 pub put-name-spec : {M : Type 1} → statement M
 put-name-spec =
     tie.close
-    (tie.spec Inv-loop μ-loop loop-holds sub-loop read16-requires shown-requires put-requires add-i loop-less loop-again same-length returns)
+    (tie.spec Inv-loop μ-loop (λ c. (omega arith, refl, omega arith, refl)) (λ c. omega arith) (λ c κs. search needs) (λ c κs. search needs)
+    (λ c κs. search needs) (λ c. omega arith) (λ c. omega arith) loop-again (λ c. omega arith) returns)

@@ -1,20 +1,17 @@
 -- `md5sum_text::exports::all_fitting` meets its contract. The loop's invariant: the entries that remain decide.
 -- Assumes nothing.
 use denote.Ref.{now}
-use mathlib.Core.Path.{_≡_, refl, sym, ap, _∙_}
-use mathlib.Core.List.{List}
-use Prim.Native.Nat.{ℕ, _-_, _≤_}
+use mathlib.Core.Path.{_≡_, refl, ap, _∙_}
+use Prim.Native.Nat.{_-_, _≤_}
 use native.Mathlib.Omega.{arith}
-use lib.ListN.{length, drop}
-use borrow.Author.Tests.{not-true, not-false}
+use lib.ListN.{length, take, drop}
+use Rattle.lent_bytes.proofs.EachLaws.{each-over, each-stops, each-goes}
 use borrow.Author.Needs.{needs}
-use Rattle.entries.specs.Entry.{unitsOf}
+use Rattle.entries.specs.Entry.{nameOf, unitsOf}
 use Rattle.entries.specs.Walk.{entriesOf}
-use Rattle.entries.proofs.EntryLaws.{EntryAt, entry-at}
-use Rattle.entries.proofs.WalkLaws.{entries-none}
+use Rattle.entries.proofs.WalkLaws.{EntryHere, entry-here, no-entry}
 use Rattle.md5sum_text.specs.Names.{unitsFit, isFitting}
 use Rattle.md5sum_text.specs.Export.{allFitting}
-use Rattle.md5sum_text.proofs.WalkLaws.{fitting-more}
 use Rattle.md5sum_text.proofs.exports.all_fitting.Statement.{statement}
 use Rattle.md5sum_text.proofs.exports.all_fitting.Tie as tie
 
@@ -25,44 +22,39 @@ abbrev μ-loop : tie.MeasureT-loop
 μ-loop list from₀ from = length list - from
 
 -- the entry at hand
-entry-in : (c : tie.After-known-told Inv-loop μ-loop)
-    → let e = c .before .length .given .0 in
-    let l = c .before .before .before .before in
-    EntryAt (now (l .before .before .args .list)) (l .loop .from) (e .0) (e .1 .0) (e .1 .1 .0)
-entry-in c = entry-at _ _ (c .before .before .before .at .ensures) (c .before .length .given .1)
+here : (c : tie.Else1 Inv-loop μ-loop)
+    → let l = c .before .before in EntryHere (now (l .before .before .args .list)) (l .loop .from) (c .before .length-at .result)
+here c = entry-here _ _ (c .before .length-at .ensures) (c .if1 .left)
 
 returns : tie.Need-returns Inv-loop μ-loop
-unfolding allFitting
 returns c =
-    let none = entries-none _ _ (c .before .at .ensures) (c .match .keys2) in sym (ap allFitting none) ∙ c .before .before .loop .inv .1
+    let l = c .before .before in
+    each-over isFitting (l .loop .inv .1) (no-entry (now (l .before .before .args .list)) (l .loop .from) (c .before .length-at .ensures) (c .if1 .taken))
 
 -- whether it fits
-tested : (c : tie.After-units-fit Inv-loop μ-loop) → c .units-fit .result ≡ isFitting (now (c .before .before .part .result))
-tested c = c .units-fit .ensures ∙ ap (λ (n : List ℕ). unitsFit (unitsOf n)) (c .before .name-of .ensures)
+tested : (c : tie.After-units-fit Inv-loop μ-loop)
+    → let h = c .before .before .before in
+    let l = h .before .before in
+    c .units-fit .result ≡ isFitting (take (h .before .length-at .result) (drop (l .loop .from) (now (l .before .before .args .list))))
+tested c = c .units-fit .ensures ∙ ap unitsFit (ap unitsOf (c .before .name-of .ensures ∙ ap nameOf (c .before .before .part .ensures)))
 
 returns-2 : tie.Need-returns-2 Inv-loop μ-loop
 returns-2 c =
-    let t = c .before in
-    let known = t .before .before .before in
-    let not-fitting = sym (tested t) ∙ not-true (t .units-fit .result) (c .if1 .taken) in
-    sym (fitting-more (entry-in known) (t .before .before .part .ensures) ∙ simp not-fitting) ∙ known .before .before .before .before .loop .inv .1
+    let h = c .before .before .before .before in each-stops isFitting (h .before .before .loop .inv .1) (here h .pieces-are) (tested (c .before)) (c .if2 .taken)
 
 loop-again : tie.Need-loop-again Inv-loop μ-loop
 loop-again c =
-    let t = c .before in
-    let known = t .before .before .before in
-    let i = entry-in known in
-    let fitting = sym (tested t) ∙ not-false (t .units-fit .result) (c .if1 .left) in
-    (i .fits, sym (fitting-more i (t .before .before .part .ensures) ∙ simp fitting) ∙ known .before .before .before .before .loop .inv .1)
+    let h = c .before .before .before .before in
+    (here h .fits, each-goes isFitting (h .before .before .loop .inv .1) (here h .pieces-are) (tested (c .before)) (c .if2 .left))
 
 add-from : tie.Need-add-from Inv-loop μ-loop
-add-from c = omega (arith, entry-in (c .before .before .before .before) .fits)
+add-from c = omega (arith, here (c .before .before .before .before) .fits)
 
 loop-less : tie.Need-loop-less Inv-loop μ-loop
-loop-less c = let i = entry-in (c .before .before .before .before) in omega (arith, i .low, i .fits)
+loop-less c = let i = here (c .before .before .before .before) in omega (arith, i .low, i .fits)
 
 pub all-fitting-spec : {M : Type 1} → statement M
 all-fitting-spec =
     tie.close
-    (tie.spec Inv-loop μ-loop (λ c. (omega arith, refl)) (λ c κs. search needs) (λ c. search needs) returns (λ c κs. search needs) (λ c κs. search needs)
+    (tie.spec Inv-loop μ-loop (λ c. (omega arith, refl)) (λ c κs. search needs) returns (λ c κs. search needs) (λ c κs. search needs)
     (λ c κs. search needs) returns-2 add-from loop-less loop-again)

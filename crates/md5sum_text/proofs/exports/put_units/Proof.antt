@@ -11,7 +11,7 @@ use borrow.Author.Needs.{needs}
 use Rattle.entries.specs.Entry.{unitsOf}
 use Rattle.entries.proofs.NameLaws.{units-more, units-none}
 use Rattle.text.specs.Buffer.{buffer, usizeMax, put}
-use Rattle.text.proofs.BufferLaws.{put-nil, put-rest}
+use Rattle.text.proofs.BufferLaws.{put-over, put-goes}
 use Rattle.md5sum_text.specs.Names.{unitsFit}
 use Rattle.md5sum_text.proofs.NameLaws.{fits-first, fits-rest}
 use Rattle.md5sum_text.proofs.exports.put_units.Statement.{statement}
@@ -39,22 +39,19 @@ loop-again c =
     let l = c .before .before .before .before .before .before in
     let s : List ℕ = now (l .before .before .before .args .name) in
     let more = units-more s (l .loop .i) (omega arith) in
-    let here = buffer (l .loop .out) (l .loop .at) in
     let rest : List ℕ = unitsOf (drop (l .loop .i + 2) s) in (
       omega arith,
       c .before .before .put .kept .0 ∙ l .loop .inv .1,
       omega arith,
       fits-rest s (l .loop .i) (l .loop .inv .3) (omega arith),
-      put-rest here _ _ (omega arith) (c .before .before .put .ensures)
-          ∙ ap (put here) (ap (λ (u : ℕ). u ∷ rest) (c .before .before .before .before .read16 .ensures) ∙ sym more)
-          ∙ l .loop .inv .4,
+      put-goes _ _ (l .loop .inv .4) _ rest (omega arith) (more ∙ ap (λ (u : ℕ). u ∷ rest) (sym (c .before .before .before .before .read16 .ensures)))
+          (c .before .before .put .ensures),
     )
 
 returns : tie.Need-returns Inv-loop μ-loop
 returns c =
-    let l = c .before .loop in
-    let none = units-none (now (c .before .before .before .before .args .name)) (l .i) (omega arith) in
-    sym (put-nil (l .out) (l .at) (l .inv .2)) ∙ ap (put (buffer (l .out) (l .at))) (sym none) ∙ l .inv .4
+    let l = c .before in
+    put-over _ _ (l .loop .inv .4) (l .loop .inv .2) (units-none (now (l .before .before .before .args .name)) (l .loop .i) (omega arith))
 
 pub put-units-spec : {M : Type 1} → statement M
 put-units-spec =

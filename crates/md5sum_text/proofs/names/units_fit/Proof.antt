@@ -1,16 +1,15 @@
--- `md5sum_text::names::units_fit` meets its contract. The loop's invariant: the test of the units that remain decides.
+-- `md5sum_text::names::units_fit` meets its contract. The loop's invariant: the units that remain decide.
 -- Assumes nothing.
-use mathlib.Core.Path.{_≡_, refl, sym, ap, _∙_}
-use Prim.Native.Nat.{ℕ, _≤_, _-_}
+use mathlib.Core.Path.{_≡_, refl, ap, _∙_}
+use Prim.Native.Nat.{_≤_, _-_}
 use native.Mathlib.Omega.{arith}
 use lib.ListN.{length, drop}
-use mathlib.Core.List.{List}
 use denote.Ref.{now}
-use Rattle.entries.specs.Entry.{unitsOf}
-use Rattle.md5sum_text.specs.Names.{unitFits, unitsFit}
-use Rattle.md5sum_text.proofs.NameLaws.{fit-more, fit-none}
-use borrow.Author.Tests.{not-true, not-false}
 use borrow.Author.Needs.{needs}
+use Rattle.lent_bytes.proofs.EachLaws.{each-over, each-stops, each-goes}
+use Rattle.entries.specs.Entry.{unitsOf}
+use Rattle.entries.proofs.NameLaws.{units-none, units-more}
+use Rattle.md5sum_text.specs.Names.{unitFits, unitsFit}
 use Rattle.md5sum_text.proofs.names.units_fit.Statement.{statement}
 use Rattle.md5sum_text.proofs.names.units_fit.Tie as tie
 
@@ -20,44 +19,24 @@ Inv-loop name at₀ at = (at ≤ length name) × (unitsFit (unitsOf (drop at nam
 abbrev μ-loop : tie.MeasureT-loop
 μ-loop name at₀ at = length name - at
 
-loop-holds : tie.Need-loop-holds Inv-loop μ-loop
-loop-holds c = (omega arith, refl)
-
-sub-loop : tie.Need-sub-loop Inv-loop μ-loop
-sub-loop c = omega arith
-
-read16-requires : tie.Need-read16-requires Inv-loop μ-loop
-read16-requires c κs = search needs
-
-unit-fits-requires : tie.Need-unit-fits-requires Inv-loop μ-loop
-unit-fits-requires c κs = search needs
-
 returns : tie.Need-returns Inv-loop μ-loop
 returns c =
-    let b = c .before .before .before .before in
-    let s : List ℕ = now (b .before .before .args .name) in
-    let e = c .before .unit-fits .ensures ∙ ap unitFits (c .before .before .read16 .ensures) in
-    sym (fit-more s (b .loop .at) (omega arith) e ∙ simp (not-true (c .before .unit-fits .result) (c .if1 .taken))) ∙ b .loop .inv .1
-
-add-at : tie.Need-add-at Inv-loop μ-loop
-add-at c = omega arith
-
-loop-less : tie.Need-loop-less Inv-loop μ-loop
-loop-less c = omega arith
+    let l = c .before .before .before .before .loop in
+    let is = c .before .unit-fits .ensures ∙ ap unitFits (c .before .before .read16 .ensures) in
+    each-stops unitFits (l .inv .1) (units-more _ _ (omega arith)) is (c .if1 .taken)
 
 loop-again : tie.Need-loop-again Inv-loop μ-loop
 loop-again c =
-    let b = c .before .before .before .before in
-    let s : List ℕ = now (b .before .before .args .name) in
-    let e = c .before .unit-fits .ensures ∙ ap unitFits (c .before .before .read16 .ensures) in
-    (omega arith, sym (fit-more s (b .loop .at) (omega arith) e ∙ simp (not-false (c .before .unit-fits .result) (c .if1 .left))) ∙ b .loop .inv .1)
+    let l = c .before .before .before .before .loop in
+    let is = c .before .unit-fits .ensures ∙ ap unitFits (c .before .before .read16 .ensures) in
+    (omega arith, each-goes unitFits (l .inv .1) (units-more _ _ (omega arith)) is (c .if1 .left))
 
 returns-2 : tie.Need-returns-2 Inv-loop μ-loop
 returns-2 c =
-    let b = c .before in
-    sym (fit-none (now (b .before .before .args .name)) (b .loop .at) (omega arith)) ∙ b .loop .inv .1
+    let l = c .before in each-over unitFits (l .loop .inv .1) (units-none (now (l .before .before .args .name)) (l .loop .at) (omega arith))
 
 pub units-fit-spec : {M : Type 1} → statement M
 units-fit-spec =
     tie.close
-    (tie.spec Inv-loop μ-loop loop-holds sub-loop read16-requires unit-fits-requires returns add-at loop-less loop-again returns-2)
+    (tie.spec Inv-loop μ-loop (λ c. (omega arith, refl)) (λ c. omega arith) (λ c κs. search needs) (λ c κs. search needs) returns (λ c. omega arith)
+    (λ c. omega arith) loop-again returns-2)

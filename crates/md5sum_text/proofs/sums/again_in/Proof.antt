@@ -11,12 +11,10 @@ use borrow.Author.Needs.{needs}
 use Rattle.computed_tests.specs.Lists.{firstBelow}
 use Rattle.computed_tests.proofs.Lists.{first-is}
 use Rattle.entries.specs.Walk.{entriesOf}
-use Rattle.entries.proofs.EntryLaws.{EntryAt, entry-at}
-use Rattle.entries.proofs.WalkLaws.{entries-none}
+use Rattle.entries.proofs.WalkLaws.{EntryHere, entry-here, no-entry}
 use Rattle.md5sum_text.specs.Lines.{linesOf}
 use Rattle.md5sum_text.specs.Import.{isAgain, againIn}
 use Rattle.md5sum_text.proofs.SumLaws.{again-end, again-more}
-use Rattle.md5sum_text.proofs.WalkLaws.{entries-at}
 use Rattle.md5sum_text.proofs.sums.again_in.Statement.{statement}
 use Rattle.md5sum_text.proofs.sums.again_in.Tie as tie
 
@@ -29,11 +27,9 @@ abbrev μ-loop : tie.MeasureT-loop
 μ-loop list text count first₀ from₀ first from = length list - from
 
 -- the entry at hand
-entry-in : (c : tie.After-known-told Inv-loop μ-loop)
-    → let e = c .before .length .given .0 in
-    let l = c .before .before .before .before in
-    EntryAt (now (l .before .before .before .args .list)) (l .loop .from) (e .0) (e .1 .0) (e .1 .1 .0)
-entry-in c = entry-at _ _ (c .before .before .before .at .ensures) (c .before .length .given .1)
+here : (c : tie.Else1 Inv-loop μ-loop)
+    → let l = c .before .before in EntryHere (now (l .before .before .before .args .list)) (l .loop .from) (c .before .length-at .result)
+here c = entry-here _ _ (c .before .length-at .ensures) (c .if1 .left)
 
 loop-holds : tie.Need-loop-holds Inv-loop μ-loop
 unfolding againIn
@@ -45,22 +41,23 @@ loop-holds c =
 returns : tie.Need-returns Inv-loop μ-loop
 returns c =
     let l = c .before .before in
-    let ls : List (List ℕ) = linesOf (now (l .before .before .before .args .text)) .pieces in
-    again-end (l .loop .first) ls (entries-none _ _ (c .before .at .ensures) (c .match .keys2)) ∙ l .loop .inv .2
+    let a = l .before .before .before .args in
+    let none = no-entry (now (a .list)) (l .loop .from) (c .before .length-at .ensures) (c .if1 .taken) in
+    again-end (l .loop .first) (linesOf (now (a .text)) .pieces) none ∙ l .loop .inv .2
 
 add-from : tie.Need-add-from Inv-loop μ-loop
-add-from c = omega (arith, entry-in (c .before .before) .fits)
+add-from c = omega (arith, here (c .before .before) .fits)
 
 loop-less : tie.Need-loop-less Inv-loop μ-loop
-loop-less c = let i = entry-in (c .before .before) in omega (arith, i .low, i .fits)
+loop-less c = let i = here (c .before .before) in omega (arith, i .low, i .fits)
 
 loop-again : tie.Need-loop-again Inv-loop μ-loop
 loop-again c =
     let known = c .before .before in
-    let i = entry-in known in
-    let l = known .before .before .before .before in
+    let i = here known in
+    let l = known .before .before in
     let a = l .before .before .before .args in
-    let n : ℕ = known .before .length .given .0 .0 in
+    let n : ℕ = known .before .length-at .result in
     let ls : List (List ℕ) = linesOf (now (a .text)) .pieces in
     let e : List ℕ = take n (drop (l .loop .from) (now (a .list))) in
     let es : List (List ℕ) = entriesOf (drop (l .loop .from + n) (now (a .list))) .pieces in
@@ -68,11 +65,11 @@ loop-again c =
       i .fits,
       omega (arith, found, first-is (l .loop .first) (isAgain (e ∷ []) ls) .within, l .loop .inv .1),
       ap (λ (k : ℕ). firstBelow k (isAgain es ls)) found ∙ again-more (l .loop .first) e es ls
-          ∙ ap (λ (ds : List (List ℕ)). firstBelow (l .loop .first) (isAgain ds ls)) (sym (entries-at i)) ∙ l .loop .inv .2,
+          ∙ ap (λ (ds : List (List ℕ)). firstBelow (l .loop .first) (isAgain ds ls)) (sym (i .pieces-are)) ∙ l .loop .inv .2,
     )
 
 pub again-in-spec : {M : Type 1} → statement M
 again-in-spec =
     tie.close
-    (tie.spec Inv-loop μ-loop loop-holds (λ c κs. search needs) (λ c. search needs) returns (λ c κs. search needs)
-    (λ c κs. c .before .before .before .before .before .loop .inv .1) add-from loop-less loop-again)
+    (tie.spec Inv-loop μ-loop loop-holds (λ c κs. search needs) returns (λ c κs. search needs)
+    (λ c κs. c .before .before .before .loop .inv .1) add-from loop-less loop-again)

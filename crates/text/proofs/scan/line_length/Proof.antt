@@ -1,45 +1,37 @@
--- `text::scan::line_length` meets its contract. The invariant: what remains of the line, with the bytes so far, is the line.
+-- `text::scan::line_length` meets its contract: a line that has its byte 10, and one that has not.
 -- Assumes nothing.
-use mathlib.Core.Path.{_≡_, sym, _∙_}
-use Prim.Native.Nat.{_≤_, _-_}
+use mathlib.Core.Path.{_≡_, sym, ap, _∙_}
+use mathlib.Core.List.{List}
+use Prim.Native.Nat.{ℕ, _+_}
 use native.Mathlib.Omega.{arith}
-use lib.ListN.{length, drop}
+use lib.ListN.{drop, length-drop}
 use denote.Ref.{now}
-use Rattle.text.specs.TextLines.{lineLength}
-use Rattle.text.proofs.ScanLaws.{after, line-start, line-found, line-on, line-over}
+use borrow.Author.Needs.{needs}
+use Rattle.text.specs.TextLines.{lengthTo}
+use Rattle.text.proofs.ScanLaws.{to-most, line-ended, line-unended}
 use Rattle.text.proofs.scan.line_length.Statement.{statement}
 use Rattle.text.proofs.scan.line_length.Tie as tie
 
-abbrev Inv-loop : tie.InvT-loop
-Inv-loop text at i₀ i = (at ≤ i) × (after (i - at) (lineLength (drop i text)) ≡ lineLength (drop at text))
+add-if1 : tie.Need-add-if1
+add-if1 c =
+    let a = c .before .before .args in
+    let s : List ℕ = drop (a .at) (now (a .text)) in
+    let n : c .length-to .result ≡ lengthTo 10 s = c .length-to .ensures in
+    omega (arith, to-most 10 s, length-drop (a .at) (now (a .text)))
 
-abbrev μ-loop : tie.MeasureT-loop
-μ-loop text at i₀ i = length text - i
-
-loop-holds : tie.Need-loop-holds Inv-loop μ-loop
-loop-holds c = (omega arith, line-start (now (c .args .text)) (c .args .at))
-
-returns : tie.Need-returns Inv-loop μ-loop
+returns : tie.Need-returns
 returns c =
-    let l = c .before .before .before in
-    let a = l .before .args in
-    sym (line-found (now (a .text)) (a .at) (l .loop .i) (l .loop .inv .0) (c .before .before .loop-test .taken) (c .if1 .taken)) ∙ l .loop .inv .1
+    let a = c .before .before .before .args in
+    let s : List ℕ = drop (a .at) (now (a .text)) in
+    let n : c .before .length-to .result ≡ lengthTo 10 s = c .before .length-to .ensures in
+    ap (λ (k : ℕ). k + 1) n ∙ sym (line-ended s (omega (arith, length-drop (a .at) (now (a .text)))))
 
-loop-again : tie.Need-loop-again Inv-loop μ-loop
-loop-again c =
-    let l = c .before .before .before in
-    let a = l .before .args in
-    let on = line-on (now (a .text)) (a .at) (l .loop .i) (l .loop .inv .0) (c .before .before .loop-test .taken) (c .if1 .left) in
-    (omega arith, sym on ∙ l .loop .inv .1)
-
-returns-2 : tie.Need-returns-2 Inv-loop μ-loop
+returns-2 : tie.Need-returns-2
 returns-2 c =
-    let l = c .before in
-    let a = l .before .args in
-    sym (line-over (now (a .text)) (a .at) (l .loop .i) (l .loop .inv .0) (c .loop-test .left)) ∙ l .loop .inv .1
+    let a = c .before .before .before .args in
+    let s : List ℕ = drop (a .at) (now (a .text)) in
+    let n : c .before .length-to .result ≡ lengthTo 10 s = c .before .length-to .ensures in
+    sym (line-unended s (omega (arith, length-drop (a .at) (now (a .text)))))
 
 pub line-length-spec : {M : Type 1} → statement M
-line-length-spec =
-    tie.close
-    (tie.spec Inv-loop μ-loop loop-holds (λ c. omega arith) (λ c. omega arith) (λ c. omega arith) returns (λ c. omega arith) (λ c. omega arith) loop-again
-    returns-2)
+line-length-spec = tie.close (tie.spec (λ c κs. search needs) add-if1 (λ c. search needs) returns returns-2)

@@ -1,4 +1,4 @@
--- `md5sum_text::names::name_of` meets its contract.
+-- `par1_rules::layout::name_of` meets its contract.
 -- Assumes nothing.
 use mathlib.Core.Path.{_∙_}
 use native.Mathlib.Omega.{arith}
@@ -6,8 +6,8 @@ use denote.Ref.{now}
 use lib.ListN.{length, drop, length-drop}
 use lib.Seq.{take-all}
 use borrow.Author.Needs.{needs}
-use Rattle.md5sum_text.proofs.names.name_of.Statement.{statement}
-use Rattle.md5sum_text.proofs.names.name_of.Tie as tie
+use Rattle.par1_rules.proofs.layout.name_of.Statement.{statement}
+use Rattle.par1_rules.proofs.layout.name_of.Tie as tie
 
 returns : tie.Need-returns
 returns c =
