@@ -1,6 +1,6 @@
 -- Which lines there are on entries.
 --
---   all-lacking     of entries that one side lacks: one at each place
+--   in-lacking, lacking-in     of entries that one side lacks: one at each place
 --   all-iff         of two lists: an entry as a whole, exactly where one of them alone has it
 --   entry-iff       and a field of an entry, exactly where both have it and the bytes of the field differ
 -- Assumes nothing.
@@ -38,9 +38,6 @@ lacking-in p k (e ∷ es) low high = by (lacking-in p (suc k) es) (eq-or-lt-of-l
         → List·Memᴰ (all p) (all k ∷ allLines (suc k) es)
     by r (inl e) = List·Memᴰ·head (ap all (sym e))
     by r (inr h) = List·Memᴰ·tail (r (omega arith) (omega arith))
-
-pub all-lacking : (p k : ℕ) (es : List (List ℕ)) → List·Memᴰ (all p) (allLines k es) ↔ ((k ≤ p) × (p < k + length es))
-all-lacking p k es = (in-lacking p k es, λ h. lacking-in p k es (h .0) (h .1))
 
 no-field-lacking : {p : ℕ} {e : EntryField} (k : ℕ) (es : List (List ℕ)) → List·Memᴰ (entry p e) (allLines k es) → ⊥
 unfolding allLines

@@ -6,10 +6,10 @@ use mathlib.Core.Bool.{Bool, cond}
 use mathlib.Core.List.{[]}
 use Rattle.lent_bytes.specs.Equal.{equal}
 use lib.Seq.{take-all}
-use lib.ListN.{drop, length-drop}
+use lib.ListN.{length, drop, length-drop}
 use denote.Ref.{now}
-use Rattle.text.specs.Buffer.{buffer, put}
-use Rattle.text.proofs.BufferLaws.{last, then, puts}
+use Rattle.text.specs.Buffer.{Buffer, buffer, put}
+use Rattle.text.proofs.BufferLaws.{put-length, last, then, puts}
 use Rattle.comparing.specs.Lines.{entry, entryText}
 use Rattle.text.specs.Ascii.{ascii}
 use Rattle.comparing.specs.Differences.{entryTable}
@@ -17,21 +17,6 @@ use Rattle.comparing.proofs.FieldLaws.{differing-text}
 use borrow.Author.Needs.{needs}
 use Rattle.comparing.proofs.fields.put_fields.Statement.{statement}
 use Rattle.comparing.proofs.fields.put_fields.Tie as tie
-
-same-length : tie.Need-same-length
-same-length c =
-    let c6 = c .before .before in
-    let c5 = c6 .before .before .before .before .before in
-    let c4 = c5 .before .before .before .before .before in
-    let c3 = c4 .before .before .before .before .before in
-    let c2 = c3 .before .before .before .before .before in
-    let c1 = c2 .before .before .before .before .before in
-    c6 .put-entry-field6 .kept .0
-    ∙ c5 .put-entry-field5 .kept .0
-    ∙ c4 .put-entry-field4 .kept .0
-    ∙ c3 .put-entry-field3 .kept .0
-    ∙ c2 .put-entry-field2 .kept .0
-    ∙ c1 .put-entry-field .kept .0
 
 returns : tie.Need-returns
 returns c =
@@ -57,6 +42,9 @@ returns c =
     (last (c6 .put-entry-field6 .ensures ∙ ap (put _) name)))))))
     (omega (arith, s .good .0 .0))
     ∙ ap (put (buffer (now (s .args .out)) (s .args .at))) (sym (differing-text (entry (s .args .place)) (now (s .args .one)) (now (s .args .two)) entryTable))
+
+same-length : tie.Need-same-length
+same-length c = ap (λ (b : Buffer). length (b .bytes)) (returns c) ∙ put-length _ _
 
 pub put-fields-spec : {M : Type 1} → statement M
 put-fields-spec =

@@ -3,35 +3,15 @@
 use mathlib.Core.Path.{sym, ap, _∙_}
 use native.Mathlib.Omega.{arith}
 use denote.Ref.{now}
-use Rattle.text.specs.Buffer.{buffer, put}
-use Rattle.text.proofs.BufferLaws.{last, then, puts}
+use lib.ListN.{length}
+use Rattle.text.specs.Buffer.{Buffer, buffer, put}
+use Rattle.text.proofs.BufferLaws.{put-length, last, then, puts}
 use Rattle.comparing.specs.Lines.{head}
 use Rattle.comparing.specs.Differences.{headTable, headLines}
 use Rattle.comparing.proofs.FieldLaws.{differing-text}
 use borrow.Author.Needs.{needs}
 use Rattle.comparing.proofs.fields.put_header.Statement.{statement}
 use Rattle.comparing.proofs.fields.put_header.Tie as tie
-
-same-length : tie.Need-same-length
-same-length c =
-    let c9 = c .before .before in
-    let c8 = c9 .before .before .before .before .before in
-    let c7 = c8 .before .before .before .before .before in
-    let c6 = c7 .before .before .before .before .before in
-    let c5 = c6 .before .before .before .before .before in
-    let c4 = c5 .before .before .before .before .before in
-    let c3 = c4 .before .before .before .before .before in
-    let c2 = c3 .before .before .before .before .before in
-    let c1 = c2 .before .before .before .before .before in
-    c9 .put-head-field9 .kept .0
-    ∙ c8 .put-head-field8 .kept .0
-    ∙ c7 .put-head-field7 .kept .0
-    ∙ c6 .put-head-field6 .kept .0
-    ∙ c5 .put-head-field5 .kept .0
-    ∙ c4 .put-head-field4 .kept .0
-    ∙ c3 .put-head-field3 .kept .0
-    ∙ c2 .put-head-field2 .kept .0
-    ∙ c1 .put-head-field .kept .0
 
 returns : tie.Need-returns
 unfolding headLines
@@ -58,6 +38,9 @@ returns c =
     (last (c9 .put-head-field9 .ensures))))))))))
     (omega (arith, s .good .0 .0))
     ∙ ap (put (buffer (now (s .args .out)) (s .args .at))) (sym (differing-text head (now (s .args .one)) (now (s .args .two)) headTable))
+
+same-length : tie.Need-same-length
+same-length c = ap (λ (b : Buffer). length (b .bytes)) (returns c) ∙ put-length _ _
 
 pub put-header-spec : {M : Type 1} → statement M
 put-header-spec =
