@@ -18,7 +18,7 @@ use Rattle.cut_lists.specs.Pieces.{cutIn, cut}
 use Rattle.codes.specs.declared.Code.{Code}
 use Rattle.little_endian.specs.Bytes.{fromLe, toLe, leAt}
 use Rattle.lent_bytes.specs.Equal.{equal}
-use Rattle.entries.specs.Entry.{unitsOf, isCounted, unitAllowed, eachUnit, isDots, nameAllowed, entrySizeAllowed, bodyAllowed, entryAllowed, lengthOf}
+use Rattle.entries.specs.Entry.{unitsOf, isCounted, unitAllowed, isDots, nameAllowed, entrySizeAllowed, bodyAllowed, entryAllowed, lengthOf}
 use Rattle.entries.specs.Numbering.{savedOf}
 use Rattle.entries.specs.Walk.{entriesOf, walkOf}
 use Rattle.entries.specs.declared.Walked.the-variants as walked
@@ -55,11 +55,11 @@ module _ (a b c d : ℕ → ℕ) where
   length-list = refl
 
   walked-so : walkOf list ≡ walked.Entries (record { entries = 2; saved = 1; greatest = 5 })
-  unfolding exampleList listBelow flatten fromLe toLe leAt cut cutIn lengthOf entryAllowed bodyAllowed entrySizeAllowed nameAllowed unitsOf eachUnit unitAllowed isDots equal isCounted walkOf
+  unfolding exampleList listBelow flatten fromLe toLe leAt cut cutIn lengthOf entryAllowed bodyAllowed entrySizeAllowed nameAllowed unitsOf unitAllowed isDots equal isCounted walkOf
   walked-so = refl
 
   lines-are : entryLines 0 (entriesOf list .pieces) ≡ ascii "1 5 A.LOG\n- 12 NOTE.TXT\n"
-  unfolding exampleList listBelow flatten fromLe toLe leAt cut cutIn lengthOf entryAllowed bodyAllowed entrySizeAllowed nameAllowed unitsOf eachUnit unitAllowed isDots equal isCounted shown label lineOf entryLines decimal decimalIn
+  unfolding exampleList listBelow flatten fromLe toLe leAt cut cutIn lengthOf entryAllowed bodyAllowed entrySizeAllowed nameAllowed unitsOf unitAllowed isDots equal isCounted shown label lineOf entryLines decimal decimalIn
   lines-are = refl
 
 module _ (code : Code) (program : ℕ) (small : program < 2 ^ 32) (l : List ℕ) (size : length l ≡ 138)
