@@ -139,9 +139,7 @@ module _ {t : Totals} {h : Md5} {p : List ℕ} {sc : Scan} (m : Amid t h p sc) (
   step-is : {w : Bool} → whole (snoc p b) ≡ w
       → stepOf sc b ≡ cond w (entryEnded after (sc .totals) (sc .hash)) (scanWith after (sc .at + 1) b named (sc .totals) (sc .hash))
   unfolding stepOf
-  step-is e =
-      ap (λ (w : Bool). cond w (entryEnded after (sc .totals) (sc .hash)) (scanWith after (sc .at + 1) b named (sc .totals) (sc .hash)))
-      (ap₂ (isWhole after) next-at next-named ∙ test-is next-head ∙ e)
+  step-is e = simp (next-at, next-named, test-is next-head, e)
 
   pub step-more : whole (snoc p b) ≡ false → Amid t h (snoc p b) (stepOf sc b)
   step-more e =

@@ -2,7 +2,7 @@
 --
 --   found-refused    amid an entry the list is refused
 -- Assumes nothing.
-use mathlib.Core.Path.{_≡_, sym, ap, ap₂, _∙_}
+use mathlib.Core.Path.{_≡_}
 use Prim.Native.Nat.{ℕ, _+_, _%_, _^_}
 use native.Mathlib.Nat.{pos-of-ne-zero}
 use Rattle.cut_lists.proofs.CutLaws.{ifZero-pos}
@@ -16,5 +16,4 @@ use Rattle.list_scan.specs.Found.{faultAt, foundOf}
 pub found-refused : (sc : Scan) {f : Fault} {n : ℕ} {r : Refusal} → (sc .at ≡ 0 → ⊥) → f ≡ faultAt (sc .head) (sc .at)
     → n ≡ (sc .totals .entries + 1) % 2 ^ 64 → r ≡ refusalAt f n → walked.Refused r ≡ foundOf sc
 unfolding foundOf
-found-refused sc h e g i =
-    ap walked.Refused i ∙ ap₂ (λ (f : Fault) (n : ℕ). walked.Refused (refusalAt f n)) e g ∙ sym (ifZero-pos (sc .at) _ _ (pos-of-ne-zero h))
+found-refused sc h e g i = cc (ifZero-pos (sc .at) _ _ (pos-of-ne-zero h))

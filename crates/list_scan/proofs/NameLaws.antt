@@ -9,7 +9,7 @@
 --   named-head, named-units           what is known with a run of bytes before the name, or of whole units
 -- Assumes nothing.
 use mathlib.Core.Path.{_≡_, refl, sym, ap, ap₂, _∙_}
-use mathlib.Core.Bool.{Bool, not, _&&_, and-true, and-false, and-assoc}
+use mathlib.Core.Bool.{Bool, _&&_, and-true, and-false, and-assoc}
 use mathlib.Core.List.{List, [], _∷_, _++_}
 use Prim.Native.Nat.{ℕ, zero, suc, _+_, _-_, _*_, _%_, _≤_, _<_}
 use native.Mathlib.Decide.{ℕ-discrete, decLt}
@@ -122,10 +122,7 @@ dots-end us m some size = elim (decLt 60 m) [
 
 pub name-end : (n : List ℕ) (m : ℕ) → 2 ≤ length n → length n % 2 ≡ 0 → m ≡ 56 + length n → nameEnded (soFar n) m ≡ nameAllowed n
 unfolding nameEnded
-name-end n m low even size =
-    ap (λ (d : Bool). unitsAllowed (unitsOf n) && not d)
-    (dots-end (unitsOf n) m (omega (arith, length-units n)) (omega (arith, length-units n)))
-    ∙ sym (name-units n low even)
+name-end n m low even size = simp (dots-end (unitsOf n) m (omega (arith, length-units n)) (omega (arith, length-units n)), name-units)
 
 -- ---- a run of bytes
 
@@ -143,8 +140,7 @@ named-units named at low (a ∷ b ∷ l) h even whole = let u : ℕ = a + 256 * 
     let unit : a + 256 * b ≡ u = omega arith in
     let first : nameByte named at low a ≡ named = byte-low named at low a (λ odd. omega arith) in
     let now : NameSoFar = nameByte (nameByte named at low a) (at + 1) a b in
-    let second : now ≡ nameUnit named u =
-    byte-high (nameByte named at low a) (at + 1) a b (omega arith) (omega arith) ∙ ap₂ (λ (w : NameSoFar) (k : ℕ). nameUnit w k) first unit in
+    let second : now ≡ nameUnit named u = cc (byte-high (nameByte named at low a) (at + 1) a b (omega arith) (omega arith)) in
     named-units now (at + 1 + 1) b l (omega arith) (omega arith) (omega arith)
     ∙ ap (λ (w : NameSoFar). nameUnits w (unitsOf l)) second
     ∙ same-name (and-assoc (named .allowed) (unitAllowed u) (unitsAllowed (unitsOf l))) (and-assoc (named .dots) (isDot u) (onlyDots (unitsOf l)))

@@ -10,7 +10,7 @@
 use mathlib.Core.Path.{_≡_, refl, sym, ap, ap₂, _∙_, subst}
 use mathlib.Core.Logic.{_⊎_, inl, inr}
 use mathlib.Core.Bool.{Bool, true, false, cond}
-use mathlib.Core.List.{List, [], _∷_, foldl}
+use mathlib.Core.List.{List, [], _∷_}
 use Prim.Native.Nat.{ℕ, suc, _+_, _-_, _*_, _%_, _≤_, _<_, min}
 use native.Mathlib.Numerals.{add-one}
 use native.Mathlib.Omega.{arith}
@@ -48,15 +48,11 @@ module _ (t : Totals) (h : Md5) where
       let place : at + 1 + length (c ∷ l) ≡ at + length (b ∷ c ∷ l) = omega arith in
       let last : ℕ = lastOr low (b ∷ c ∷ l) in
       let all : NameSoFar = namedAfter named at low (b ∷ c ∷ l) in
-      ap (λ (w : Bool). foldl stepOf (cond w (entryEnded (set hd at b) t h) (scanWith (set hd at b) (at + 1) b now t h)) (c ∷ l))
-      (none 1 (omega arith) (omega arith) now)
-      ∙ scan-run (set hd at b) (at + 1) b now (c ∷ l) (omega arith) later
-      ∙ ap₂ (λ (p n : ℕ). settled (sets (set hd at b) p (c ∷ l)) n last all t h) (add-one at) place
+      cc (none 1 (omega arith) (omega arith) now, scan-run (set hd at b) (at + 1) b now (c ∷ l) (omega arith) later, add-one at)
     where
       later : NoneEnds (set hd at b) (at + 1) (c ∷ l)
       later k pos less w = let place : at + 1 + k ≡ at + suc k = omega arith in
-          ap₂ (λ (p n : ℕ). isWhole (sets (set hd at b) p (take k (c ∷ l))) n w) (add-one at) place
-          ∙ none (suc k) (omega arith) (omega arith) w
+          cc (add-one at, none (suc k) (omega arith) (omega arith) w)
 
 -- ---- what the code takes
 

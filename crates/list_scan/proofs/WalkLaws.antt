@@ -8,7 +8,7 @@
 --   found-walk         the scan over a list finds what the walk over it finds
 --   scan-set-hash      its hash ends in the set hash
 -- Assumes nothing.
-use mathlib.Core.Path.{_≡_, refl, sym, ap, ap₂, _∙_, subst}
+use mathlib.Core.Path.{_≡_, refl, sym, ap, _∙_, subst}
 use mathlib.Core.Bool.{true, false}
 use mathlib.Core.List.{List, [], _∷_, _++_, append-assoc, append-nil, foldl, foldl-append}
 use Prim.Native.Nat.{ℕ, zero, suc, _+_, _%_, _^_, _≤_, _<_}
@@ -97,8 +97,7 @@ unfolding foundOf
 found-amid {t} {h} {p} {sc} m some fits =
     let place : (sc .totals .entries + 1) % 2 ^ 64 ≡ t .entries + 1 =
     ap (λ (u : Totals). (u .entries + 1) % 2 ^ 64) (m .totals-is) ∙ omega arith in
-    ifZero-pos (sc .at) _ _ (omega (arith, m .at-is))
-    ∙ ap₂ (λ (f : Fault) (n : ℕ). walked.Refused (refusalAt f n)) (fault-is m) place
+    cc (ifZero-pos (sc .at) _ _ (omega (arith, m .at-is)), fault-is m)
 
 -- ---- the whole list
 
