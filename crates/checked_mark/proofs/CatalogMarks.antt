@@ -58,9 +58,7 @@ module _ (n m : ℕ) where
   row-is h = simp (append-assoc, append-nil)
 
   row-number : (h : List ℕ) → numberOf (row n m h) ≡ numberOf front
-  row-number h =
-      ap (λ (r : List ℕ). numberOf r) (row-is h)
-      ∙ leAt-append 4 front h 0 (omega (arith, length-append (toLe 4 n) (toLe 8 m), length-toLe 4 n, length-toLe 8 m))
+  row-number h = simp (row-is, leAt-append 4 front h 0 (omega (arith, length-append (toLe 4 n) (toLe 8 m), length-toLe 4 n, length-toLe 8 m)))
 
 -- ---- the rooms
 
@@ -135,9 +133,7 @@ module _ {f g : List ℕ} (a : AlikeButMarks f g) where
 
   pub opened-same : (out : List ℕ) → openOf f out ≡ openOf g out
   unfolding openOf
-  opened-same out =
-      ap₂ (λ (r : Refusal) (rows : List (List ℕ)). writtenUnless r (catalogBytes rows []) out)
-      (ap (openRefusal f) (read-same a) ∙ open-refusal (readOf g)) (rows-same 0 (entries-alike a))
+  opened-same out = simp (read-same a, open-refusal (readOf g), rows-same 0 (entries-alike a))
 
   module _ (b : List ℕ) where
     add-number : addNumber b f ≡ addNumber b g

@@ -45,12 +45,7 @@ module _ {f g : List ℕ} (a : AlikeButMarks f g) where
   part-first i k h = sym (part-take i k 16 f h) ∙ ap (λ (s : List ℕ). take k (drop i s)) (a .first-same) ∙ part-take i k 16 g h
 
   part-later : (i k : ℕ) → i + k ≤ 64 → take k (drop (32 + i) f) ≡ take k (drop (32 + i) g)
-  part-later i k h =
-      ap (take k) (sym (drop-drop i 32 f))
-      ∙ sym (part-take i k 64 (drop 32 f) h)
-      ∙ ap (λ (s : List ℕ). take k (drop i s)) (a .header-same)
-      ∙ part-take i k 64 (drop 32 g) h
-      ∙ ap (take k) (drop-drop i 32 g)
+  part-later i k h = cc (drop-drop i 32 f, part-take i k 64 (drop 32 f) h, a .header-same, part-take i k 64 (drop 32 g) h, drop-drop i 32 g)
 
   first : (k i : ℕ) → i + k ≤ 16 → leAt k f i ≡ leAt k g i
   unfolding leAt

@@ -5,17 +5,17 @@
 --   walked-alike, walk-same     so they do, and give the same
 --   first-alike        the claim
 -- Assumes nothing.
-use mathlib.Core.Path.{_≡_, refl, sym, ap, ap₂, _∙_}
+use mathlib.Core.Path.{_≡_, refl, sym, ap, _∙_}
 use mathlib.Core.Bool.{Bool, true, false, cond}
 use mathlib.Core.List.{List, _++_}
 use Prim.Native.Nat.{ℕ, _+_, _≤_, _<_}
 use native.Mathlib.Omega.{arith}
-use lib.ListN.{length, take, drop, length-append}
+use lib.ListN.{length, length-append}
 use lib.Seq.{take-append-seam, drop-append-seam}
 use Rattle.cut_lists.specs.Pieces.{none, before}
 use Rattle.cut_lists.proofs.CutLaws.{cut-stop, cut-more}
 use Rattle.entries.specs.Entry.{entrySize, fileSizeOf, fileSizeAllowed, entrySizeAllowed, bodyAllowed, entryAllowed, lengthOf}
-use Rattle.entries.specs.Walk.{faultOf, refusalAt, itemOf, firstOf, entriesOf, totalsOf, walkedTo, walkOf}
+use Rattle.entries.specs.Walk.{faultOf, itemOf, firstOf, entriesOf, totalsOf, walkedTo, walkOf}
 use Rattle.entries.specs.declared.Fault.{Fault}
 use Rattle.entries.specs.declared.Fault.the-variants.{FileSize, Name}
 use Rattle.entries.specs.declared.Item.{Item}
@@ -61,9 +61,7 @@ module _ {e : List ℕ} (z : SizeRight e) (s : List ℕ) where
 
   front-taken : bodyAllowed e ≡ true → entriesOf (e ++ s) ≡ before e (entriesOf s)
   front-taken right = let n : lengthOf (e ++ s) ≡ length e = front-length ∙ simp right in
-      cut-more lengthOf (e ++ s) front-some (omega (arith, low))
-      ∙ ap (λ (k : ℕ). before (take k (e ++ s)) (entriesOf (drop k (e ++ s)))) n
-      ∙ ap₂ (λ (p q : List ℕ). before p (entriesOf q)) (take-append-seam e s) (drop-append-seam e s)
+      simp (cut-more lengthOf (e ++ s) front-some (omega (arith, low)), n, take-append-seam, drop-append-seam)
 
   front-left : bodyAllowed e ≡ false → entriesOf (e ++ s) ≡ none (e ++ s)
   front-left wrong = cut-stop lengthOf (e ++ s) (front-length ∙ simp wrong)
@@ -87,11 +85,8 @@ module _ {e g s t : List ℕ} (z : SizeRight e) (a : EntryAlike e g) (others : W
 
   left-same : (n : Totals) → walkedTo n (e ++ s) ≡ walkedTo n (g ++ t)
   left-same n =
-      let faults : faultOf (e ++ s) ≡ faultOf (g ++ t) =
-      front-fault z s ∙ ap (λ (k : ℕ). cond (fileSizeAllowed k) Name FileSize) (file-size a) ∙ sym (front-fault other t) in
-      stopped n (e ++ s) (front-some z s)
-      ∙ ap (λ (f : Fault). walked.Refused (refusalAt f (n .entries + 1))) faults
-      ∙ sym (stopped n (g ++ t) (front-some other t))
+      let faults : faultOf (e ++ s) ≡ faultOf (g ++ t) = simp (front-fault z s, file-size a, front-fault other t) in
+      simp (stopped n (e ++ s) (front-some z s), faults, stopped n (g ++ t) (front-some other t))
 
   more-alike : (b : Bool) → bodyAllowed e ≡ b → bodyAllowed g ≡ b → WalkedAlike (e ++ s) (g ++ t)
   more-alike true p q = let one = front-taken z s p in
@@ -115,11 +110,7 @@ walk-same {s} {t} l = let w = walked-alike l in
 
 pub first-alike : FirstAlike
 first-alike s t (rest-same _) = refl
-first-alike _ _ (entry-more {e} {g} {s} {t} z a l) =
-    ap withoutMarks (front-item z s)
-    ∙ by (bodyAllowed e)
-    ∙ ap (λ (b : Bool). withoutMarks (cond b (itemOf g) (fault g))) (body-allowed a)
-    ∙ sym (ap withoutMarks (front-item (sized-alike a z) t))
+first-alike _ _ (entry-more {e} {g} {s} {t} z a l) = cc (front-item z s, by (bodyAllowed e), body-allowed a, front-item (sized-alike a z) t)
   where
     fault : List ℕ → Item
     fault = λ d. item.Fault (cond (fileSizeAllowed (fileSizeOf d)) Name FileSize)

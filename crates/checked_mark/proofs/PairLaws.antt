@@ -5,7 +5,7 @@
 --   count-same     they are as long as each other
 --   kept-same      what is the same of each two elements is the same of those that a test keeps
 -- Assumes nothing.
-use mathlib.Core.Path.{_≡_, refl, ap, ap₂, _∙_}
+use mathlib.Core.Path.{_≡_, refl, ap, ap₂}
 use mathlib.Core.Bool.{Bool, true, false, cond}
 use mathlib.Core.List.{List, [], _∷_, map}
 use Prim.Native.Nat.{ℕ, zero, suc}
@@ -31,8 +31,7 @@ module _ {A : Type 0} {R : A → A → Type 0} where
   pub kept-same : {X : Type 0} (F : A → X) (t : A → Bool) → ((x y : A) → R x y → F x ≡ F y) → ((x y : A) → R x y → t x ≡ t y)
       → {xs ys : List A} → Pairs R xs ys → map F (keep t xs) ≡ map F (keep t ys)
   kept-same F t same test pairs-none = refl
-  kept-same {X} F t same test (pairs-more {x} {y} {xs} {ys} r ps) =
-      by (t x) (kept-same F t same test ps) ∙ ap (λ (b : Bool). map F (cond b (y ∷ keep t ys) (keep t ys))) (test x y r)
+  kept-same {X} F t same test (pairs-more {x} {y} {xs} {ys} r ps) = cc (by (t x) (kept-same F t same test ps), test x y r)
     where
       by : (b : Bool) → map F (keep t xs) ≡ map F (keep t ys)
           → map F (cond b (x ∷ keep t xs) (keep t xs)) ≡ map F (cond b (y ∷ keep t ys) (keep t ys))

@@ -34,7 +34,6 @@ use Rattle.par1_set.proofs.Sets.{volume-set, index-set}
 use Rattle.par1_write.specs.EntryWriting.{entryBytes}
 use Rattle.par1_write.proofs.EntryWritingLaws.{length-entry}
 use Rattle.parity.specs.Coefficient.{ruleOf}
-use Rattle.parity.specs.Parity.{parity}
 use Rattle.checked_mark.specs.Claim.{Remarked, SomeMarked}
 use Rattle.checked_mark.specs.Marks.{unmarked, Pairs, pairs-none, pairs-more, EntryAlike, SizeRight, ListsAlike, rest-same, entry-more, FileAlike}
 use Rattle.checked_mark.proofs.EntryMarks.{saved-same}
@@ -121,9 +120,7 @@ module _ {fs gs : List File} (ps : Pairs FileAlike fs gs) where
       (λ x y a. saved-same _ _ (a .status-alike)) ps)
 
   data-same : (rule : ℕ → ℕ → ℕ) (v : ℕ) → dataFor rule v fs ≡ dataFor rule v gs
-  data-same rule v =
-      ap (λ (n : ℕ). parity rule n (contentsOf fs) v (dataSizeFor fs)) count-is
-      ∙ ap₂ (λ (X : ℕ → List ℕ) (m : ℕ). parity rule (fileCount gs) X v m) contents-are data-size
+  data-same rule v = simp (count-is, contents-are, data-size)
 
 -- ---- volumes and indices
 

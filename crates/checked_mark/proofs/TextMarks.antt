@@ -5,7 +5,7 @@
 --   answers-same                what an import answers
 --   export-same, import-same    the calls
 -- Assumes nothing.
-use mathlib.Core.Path.{_≡_, refl, ap, ap₂, _∙_, fun-ext}
+use mathlib.Core.Path.{_≡_, refl, ap, ap₂, fun-ext}
 use mathlib.Core.Bool.{Bool, cond, _&&_, _||_}
 use mathlib.Core.List.{List, [], _∷_, _++_, map}
 use Prim.Native.Nat.{ℕ, _+_}
@@ -13,7 +13,6 @@ use lib.Dec.{ltb}
 use lib.ListN.{length, take, getD}
 use Rattle.computed_tests.specs.Lists.{firstBelow}
 use Rattle.cut_lists.specs.Pieces.{Cut}
-use Rattle.lent_bytes.specs.Writing.{writtenUnless}
 use Rattle.md5sum_text.specs.Export.{lineFor, exportText, allFitting, exportRefusal, exportInto}
 use Rattle.md5sum_text.specs.Import.{any, isListed, hasOther, isAgain, againIn, shapeRefusal, textRefusal, answerFor, importRefusal, importInto}
 use Rattle.md5sum_text.specs.Lines.{linesOf}
@@ -81,9 +80,7 @@ module _ {f g : List ℕ} (a : AlikeButMarks f g) where
 
   pub export-same : (out : List ℕ) → exportInto f out ≡ exportInto g out
   unfolding exportInto
-  export-same out =
-      ap₂ (λ (r : Refusal) (s : List ℕ). writtenUnless r s out)
-      (ap (λ (r : Reading). exportRefusal r f) (read-same a) ∙ export-refusal (readOf g)) (text-same (entries-alike a))
+  export-same out = simp (read-same a, export-refusal (readOf g), text-same (entries-alike a))
 
   import-refusal : (r : Reading) (s : List ℕ) → importRefusal r f s ≡ importRefusal r g s
   import-refusal (reading.Accepted p) s = refusal-same (entries-alike a) (linesOf s)
@@ -91,6 +88,4 @@ module _ {f g : List ℕ} (a : AlikeButMarks f g) where
 
   pub import-same : (s out : List ℕ) → importInto f s out ≡ importInto g s out
   unfolding importInto
-  import-same s out =
-      ap₂ (λ (r : Refusal) (bytes : List ℕ). writtenUnless r bytes out)
-      (ap (λ (r : Reading). importRefusal r f s) (read-same a) ∙ import-refusal (readOf g) s) (answers-same (linesOf s .pieces) (entries-alike a))
+  import-same s out = simp (read-same a, import-refusal (readOf g) s, answers-same (linesOf s .pieces) (entries-alike a))

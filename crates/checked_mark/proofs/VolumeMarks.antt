@@ -76,8 +76,7 @@ module _ (code : Code) (program number : ℕ) (area : List ℕ) {s t : List ℕ}
 
   header-same : header code program number s area ≡ header code program number t area
   header-same = let es = walked-alike l .entries-alike in
-      ap₂ (λ (n k : ℕ). setHash (entriesOf s .pieces) ++ numberBytes number n k (length area)) (count-same es) (lists-length l)
-      ∙ ap (λ (h : List ℕ). h ++ numberBytes number (length (entriesOf t .pieces)) (length t) (length area)) (set-hash-same es)
+      simp (count-same es, lists-length l, set-hash-same es)
 
   passed-alike : ListPassed number s (length area) → ListPassed number t (length area)
   passed-alike p = record {
