@@ -16,7 +16,6 @@ use Rattle.codes.proofs.CodeLaws.{number-small}
 use Rattle.lent_bytes.specs.Writing.{accepted, refused, written, withNumber}
 use Rattle.little_endian.specs.Bytes.{numbers, numbersAt}
 use Rattle.little_endian.proofs.NumberLists.{numbers-back}
-use Rattle.par1_read.specs.declared.reading.Parts.{Parts}
 use Rattle.refusals.specs.Tests.{bare}
 use Rattle.refusals.specs.declared.Refusal.{Refusal}
 use Rattle.answer_bytes.specs.Claim.{PartsPlaced, EntryAt, EntryPlaced}

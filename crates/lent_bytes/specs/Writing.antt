@@ -10,7 +10,6 @@
 --   withNumber w            what it gives, where it answers with the number alone
 --   Kept w out              where the answer is a refusal, the bytes are those of out
 -- Assumes nothing.
-use mathlib.Core.Path.{_≡_}
 use Prim.Native.Nat.{ℕ}
 use mathlib.Core.Path.{_≡_}
 use mathlib.Core.Bool.{cond}

@@ -36,7 +36,7 @@ use Rattle.par1_rules.specs.Layout.{listStartOf, listSizeOf, dataStartOf, dataS
 use Rattle.par1_rules.specs.Hashes.{setHash, controlHash}
 use Rattle.par1_rules.specs.Rules.{lengthAllowed, versionAllowed, layoutAllowed}
 use Rattle.par1_rules.proofs.RuleLaws as rules
-use Rattle.par1_rules.proofs.RuleLaws.{code-versions, between, long-enough, Laid, laid, not-laid, laid-out}
+use Rattle.par1_rules.proofs.RuleLaws.{code-versions, between, long-enough, Laid, not-laid, laid-out}
 use Rattle.par1_read.specs.Reading.{headerRefusal, controlRefusal, totalsRefusal, listRefusal, refusalFrom, entriesIn, readOf}
 use Rattle.par1_read.specs.declared.reading.Reading.the-variants.{Refused}
 use Rattle.par1_read.proofs.ReadingLaws.{refusalOf, read-refused, refused-is, refused-some}
