@@ -1,5 +1,4 @@
 // The first line of a log: the number of files, and their sizes.
-ghost use mathlib.Core.Path.{_≡_};
 ghost use Rattle.replay.specs.FirstLine.{LineOpened, NumbersRead};
 use codes::Code;
 use inventory::Inventory;
