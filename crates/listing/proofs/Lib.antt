@@ -2,3 +2,4 @@ mod AcceptedLaws
 mod Examples
 pub mod LengthLaws
 pub mod LineLaws
+pub mod RefusedLines

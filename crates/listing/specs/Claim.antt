@@ -8,6 +8,7 @@
 -- The claims:
 --   LineNumbered      the line of each entry has its file number
 --   InputFits         the listing of any input is written whole into room for the longest input
+--   RefusedListed     a file that is refused is listed as one line, with its place where it has one; so is a longer input
 --   ExampleLists      document 01's example
 -- The contracts of list and list_input cite listingOf and inputListing.
 -- Assumes nothing.
@@ -19,17 +20,19 @@ use lib.ListN.{length, drop}
 use Rattle.codes.specs.declared.Code.{Code}
 use Rattle.little_endian.specs.Bytes.{toLe}
 use Rattle.refusals.specs.Limits.{maxListedLength}
+use Rattle.refusals.specs.declared.Refusal.{Refusal}
 use Rattle.lent_bytes.specs.Writing.{written}
 use Rattle.lent_bytes.specs.declared.Writing.the-variants.{Written}
 use Rattle.entries.specs.Entry.{statusOf, savedCount}
 use Rattle.entries.specs.Numbering.{savedOf, fileNumber}
 use Rattle.par1_read.specs.Reading.{readOf}
 use Rattle.par1_read.specs.declared.reading.Parts.{Parts}
-use Rattle.par1_read.specs.declared.reading.Reading.the-variants.{Accepted}
+use Rattle.par1_read.specs.declared.reading.Reading.the-variants.{Accepted, Refused}
 use Rattle.par1_write.specs.VolumeWriting.{volumeBytes}
 use Rattle.text.specs.Ascii.{ascii}
+use Rattle.text.specs.Decimal.{decimal}
 use Rattle.listing.specs.Lines.{entryLine, entryLines}
-use Rattle.listing.specs.Listing.{inputListing}
+use Rattle.listing.specs.Listing.{listingOf, inputListing}
 
 -- "Files are numbered 1 to n over the saved entries only, in list order; entries not saved have no number": the lines of the entries es
 -- before an entry e, its own with its file number, and those of the entries fs after it
@@ -45,6 +48,17 @@ abbrev pub InputFits : Type 0
 InputFits =
     (input out : List ℕ) → maxListedLength ≤ length out
     → let lines = inputListing input in written lines out ≡ (Written (length lines), lines ++ drop (length lines) out)
+
+-- "writes either the line `refused N`, or .."; document 02, 2026-01: "For these the listing writes `refused N P`"
+-- proved: proofs/RefusedLines.antt, `refused-listed`
+pub record RefusedListed : Type 0 where
+  pub with-place : (f : List ℕ) (r : Refusal) → readOf f ≡ Refused r → 16 ≤ r .number → r .number ≤ 19
+      → listingOf f ≡ ascii "refused " ++ (decimal (r .number) ++ (ascii " " ++ (decimal (r .place) ++ ascii "\n")))
+  pub without : (f : List ℕ) (r : Refusal) → readOf f ≡ Refused r → r .number < 16
+      → listingOf f ≡ ascii "refused " ++ (decimal (r .number) ++ ascii "\n")
+  -- "The listing program takes at most 65,536 bytes; more is refused with 1."
+  pub taken : (s : List ℕ) → length s ≤ 65536 → inputListing s ≡ listingOf s
+  pub too-long : (s : List ℕ) → 65536 < length s → inputListing s ≡ ascii "refused 1\n"
 
 -- ---- document 01's example: "An index listing A.LOG (saved, 5 bytes) and NOTE.TXT (not saved, 12 bytes), no comment"
 
