@@ -54,21 +54,18 @@ module _ (code : Code) (program v : ℕ) (fs : List File) (p : program < 2 ^ 32)
   file = getD fs (placeOf fs (c .file)) noFile
 
   file-passes : 1 ≤ c .file → c .file ≤ fileCount fs → fileAllowed (c .file) vol ≡ true
-  file-passes low high =
-      let is = volume-is code program v fs p right in
+  file-passes low high = let is = volume-is code program v fs p right in
       ap₂ (λ (n k : ℕ). leb 1 n && isFile k (c .file)) (is .number-is) (is .count-is)
       ∙ simp (le-leb 1 v (right .volume-low), isFile-in (fileCount fs) (c .file) low high)
 
   file-tells : fileAllowed (c .file) vol ≡ true → (1 ≤ c .file) × (c .file ≤ fileCount fs)
-  file-tells e =
-      let is = volume-is code program v fs p right in
+  file-tells e = let is = volume-is code program v fs p right in
       let both = and-both (leb 1 v) _ (sym (ap₂ (λ (n k : ℕ). leb 1 n && isFile k (c .file)) (is .number-is) (is .count-is)) ∙ e) in
       isFile-inside (fileCount fs) (c .file) (both .1)
 
   module _ (low : 1 ≤ c .file) (high : c .file ≤ fileCount fs) where
     own-entry : entryIn (c .file) (entriesIn vol) ≡ entryFor file
-    own-entry =
-        let is = volume-is code program v fs p right in
+    own-entry = let is = volume-is code program v fs p right in
         ap (λ (es : List (List ℕ)). entryIn (c .file) es) (is .entries-are)
         ∙ ap (λ (ss : List ℕ). getD (entriesFor fs) (savedPlace ss (c .file - 1)) []) (statuses-are (is .files-are))
         ∙ entries-at fs (placeOf fs (c .file)) (change-placed c fs low high .within)
@@ -81,15 +78,13 @@ module _ (code : Code) (program v : ℕ) (fs : List File) (p : program < 2 ^ 32)
 
     module _ (change : ChangeRight (contentsOf fs (c .file)) c) (after : All FileBack (amended c fs)) where
       length-afresh : length (amendVolume ruleOf c (entryAfter c fs) vol) ≡ 96 + length (listFor fs) + dataSizeFor (amended c fs)
-      length-afresh =
-          let gs : List File = amended c fs in
+      length-afresh = let gs : List File = amended c fs in
           ap length (amend-to v c fs low high change after code program p right)
           ∙ length-bytes after v (dataFor (ruleOf code) v gs) code program
           ∙ ap₂ (λ (l d : ℕ). 96 + l + d) (amended-list-length c fs) (length-data (ruleOf code) v gs)
 
   amend-passes : AmendRight c fs → changeRefusal ruleOf c (entryAfter c fs) vol .number ≡ 0
-  amend-passes a =
-      let after : All FileBack (amended c fs) = set-back (volume-set (amended-right v c fs right a) (ruleOf code)) in
+  amend-passes a = let after : All FileBack (amended c fs) = set-back (volume-set (amended-right v c fs right a) (ruleOf code)) in
       let m : List ℕ = contentsOf fs (c .file) in
       let e : List ℕ = entryFor file in
       let d : List ℕ = entryAfter c fs in
@@ -114,8 +109,7 @@ module _ (code : Code) (program v : ℕ) (fs : List File) (p : program < 2 ^ 32)
 
   amend-tells : take (length (c .old)) (drop (c .place) (contentsOf fs (c .file))) ≡ c .old
       → changeRefusal ruleOf c (entryAfter c fs) vol .number ≡ 0 → AmendRight c fs
-  amend-tells old-true z =
-      let d : List ℕ = entryAfter c fs in
+  amend-tells old-true z = let d : List ℕ = entryAfter c fs in
       let m : List ℕ = contentsOf fs (c .file) in
       let t = change-passed ruleOf c d vol z in
       let in-range = file-tells (t .file-right) in
@@ -150,8 +144,7 @@ module _ (code : Code) (program v : ℕ) (fs : List File) (c : Change) (n : ℕ)
 
   make : AmendRight c fs → length (volumeFor (versionFor code) (ruleOf code) program v (amended c fs)) ≤ length out
       → amendOf ruleOf n c (entryAfter c fs) out ≡ accepted (volumeFor (versionFor code) (ruleOf code) program v (amended c fs)) out
-  make a fits =
-      let d : List ℕ = entryAfter c fs in
+  make a fits = let d : List ℕ = entryAfter c fs in
       let s : List ℕ = volumeFor (versionFor code) (ruleOf code) program v fs in
       amend-holds d
       ∙ ap (λ (t : List ℕ). writtenUnless (changeRefusal ruleOf c d s) t out) (amend-volume code program v c fs p right a)
@@ -165,8 +158,7 @@ module _ (code : Code) (program v : ℕ) (fs : List File) (c : Change) (n : ℕ)
 
   amend-written : {k : ℕ} {room : List ℕ} → take (length (c .old)) (drop (c .place) (contentsOf fs (c .file))) ≡ c .old
       → amendOf ruleOf n c (entryAfter c fs) out ≡ (Written k, room) → Amended k room
-  amend-written {k} {room} old-true e =
-      let d : List ℕ = entryAfter c fs in
+  amend-written {k} {room} old-true e = let d : List ℕ = entryAfter c fs in
       let vol : List ℕ = volumeFor (versionFor code) (ruleOf code) program v fs in
       let s : List ℕ = amendVolume ruleOf c d vol in
       let m = changeRefusal ruleOf c d vol in
@@ -191,8 +183,7 @@ run-calls code program v p right holds calls-none = (right, holds)
 run-calls code program v p right holds (calls-written {fs} {n = n} {out = out} c old-true e r) =
     let done = amend-written code program v fs c n out p right holds old-true e in
     run-calls code program v p (amended-right v c fs right (done .may)) (done .held) r
-run-calls code program v p right holds (calls-refused {fs} {n = n} {out = out} c d e r) =
-    let same = amend-refused ruleOf n c d out _ .1 _ e .1 in
+run-calls code program v p right holds (calls-refused {fs} {n = n} {out = out} c d e r) = let same = amend-refused ruleOf n c d out _ .1 _ e .1 in
     run-calls code program v p right (subst (λ (t : List ℕ). Holds code program v fs n t) (sym same) holds) r
 
 pub calls-afresh : CallsAfresh

@@ -43,17 +43,15 @@ module _ (x : File) (fs : List File) where
   placed-here e = record { within = omega arith; saved = e; file-is = simp e; after = λ y h. simp (e, h) }
 
   placed-skip : {j k : ℕ} → isSaved (x .status) ≡ false → Placed fs j k → Placed (x ∷ fs) j (suc k)
-  placed-skip e p =
-      record { within = omega (arith, p .within); saved = p .saved; file-is = simp e (p .file-is); after = λ y h. simp e (p .after y h) }
+  placed-skip e p = record { within = omega (arith, p .within); saved = p .saved; file-is = simp e (p .file-is); after = λ y h. simp e (p .after y h) }
 
   placed-step : {j k : ℕ} → isSaved (x .status) ≡ true → Placed fs j k → Placed (x ∷ fs) (suc j) (suc k)
-  placed-step e p =
-      record {
-        within = omega (arith, p .within);
-        saved = p .saved;
-        file-is = simp e (p .file-is);
-        after = λ y h. simp e (ap (λ (l : List File). x ∷ l) (p .after y h));
-      }
+  placed-step e p = record {
+    within = omega (arith, p .within);
+    saved = p .saved;
+    file-is = simp e (p .file-is);
+    after = λ y h. simp e (ap (λ (l : List File). x ∷ l) (p .after y h));
+  }
 
 pub placed : (fs : List File) (j : ℕ) → j < fileCount fs → Placed fs j (savedPlace (statuses fs) j)
 placed [] j h = absurd (omega arith)
@@ -107,8 +105,7 @@ pub spliced-length : (c : Change) (m : List ℕ) → Stretch m c → length (spl
 spliced-length c m kind = by kind
   where
     parts : c .place ≤ length m → length (spliced c m) ≡ c .place + (length (c .new) + (length m - (c .place + length (c .old))))
-    parts h =
-        let rest : List ℕ = drop (c .place + length (c .old)) m in
+    parts h = let rest : List ℕ = drop (c .place + length (c .old)) m in
         let front = length-take-le (c .place) m h in
         let left = length-drop (c .place + length (c .old)) m in
         omega (arith, length-append (take (c .place) m) (c .new ++ rest), length-append (c .new) rest)
@@ -118,8 +115,7 @@ spliced-length c m kind = by kind
     by (on-end e h) = omega (arith, parts (omega arith), ap length e)
 
 pub file-fits : (fs : List File) (g : ℕ) → 1 ≤ g → g ≤ fileCount fs → length (contentsOf fs g) ≤ dataSizeFor fs
-file-fits fs g low high =
-    omega (arith, saved-size fs, file-le-greatest (fileCount fs) (λ f. length (contentsOf fs f)) g low high)
+file-fits fs g low high = omega (arith, saved-size fs, file-le-greatest (fileCount fs) (λ f. length (contentsOf fs f)) g low high)
 
 -- the greatest size, where one file is no shorter than it was
 sizes-set : (xs : List File) (k : ℕ) (y : File) → k < length xs → length (getD xs k noFile .contents) ≤ length (y .contents)
@@ -154,8 +150,7 @@ statuses-are (all-more b bs) = ap₂ _∷_ (b .status-is) (statuses-are bs)
 
 pub amended-list : (c : Change) {fs : List File} → All FileBack fs
     → amendedList (c .file) (entryFor (changed c (getD fs (placeOf fs (c .file)) noFile))) (listFor fs) ≡ listFor (amended c fs)
-amended-list c {fs} bs =
-    let e : List ℕ = entryFor (changed c (getD fs (placeOf fs (c .file)) noFile)) in
+amended-list c {fs} bs = let e : List ℕ = entryFor (changed c (getD fs (placeOf fs (c .file)) noFile)) in
     ap (λ k. flatten (set (k .pieces) (savedPlace (statusesOf (k .pieces)) (c .file - 1)) e)) (entries-of bs)
     ∙ ap (λ (ss : List ℕ). flatten (set (entriesFor fs) (savedPlace ss (c .file - 1)) e)) (statuses-are bs)
     ∙ ap flatten (sym (entries-set fs (placeOf fs (c .file)) _))
@@ -165,8 +160,7 @@ list-length : (fs : List File) (k : ℕ) (y : File) → length (y .name) ≡ len
     → length (listFor (set fs k y)) ≡ length (listFor fs)
 unfolding flatten
 list-length [] k y e = refl
-list-length (x ∷ fs) zero y e =
-    let new = length-entry (y .contents) (y .status) (y .name) in
+list-length (x ∷ fs) zero y e = let new = length-entry (y .contents) (y .status) (y .name) in
     let old = length-entry (x .contents) (x .status) (x .name) in
     omega (arith, length-append (entryFor y) (listFor fs), length-append (entryFor x) (listFor fs))
 list-length (x ∷ fs) (suc k) y e =

@@ -50,8 +50,7 @@ use Rattle.amending.proofs.Splices.{place-in, splice-before, splice-gai
 
 pub amended-files : (c : Change) (fs : List File) → All FileRight fs → 1 ≤ c .file → c .file ≤ fileCount fs
     → fileSizeAllowed (length (spliced c (contentsOf fs (c .file)))) ≡ true → All FileRight (amended c fs)
-amended-files c fs right low high size-right =
-    let k : ℕ = placeOf fs (c .file) in
+amended-files c fs right low high size-right = let k : ℕ = placeOf fs (c .file) in
     let x : File = getD fs k noFile in
     let r : FileRight x = all-at noFile right k (change-placed c fs low high .within) in
     let y : FileRight (changed c x) =
@@ -63,8 +62,7 @@ amended-files c fs right low high size-right =
     all-set right k (changed c x) y
 
 pub amended-right : AmendedRight
-amended-right v c fs right a =
-    let count = amended-count c fs (a .low) (a .high) in
+amended-right v c fs right a = let count = amended-count c fs (a .low) (a .high) in
     record {
       files-right = amended-files c fs (right .files-right) (a .low) (a .high) (a .size-right);
       volume-low = right .volume-low;
@@ -88,8 +86,7 @@ pub record VolumeIs (vol : List ℕ) (code : Code) (program v : ℕ) (fs : List 
 
 pub volume-is : (code : Code) (program v : ℕ) (fs : List File) → program < 2 ^ 32 → VolumeRight v fs
     → VolumeIs (volumeFor (versionFor code) (ruleOf code) program v fs) code program v fs
-volume-is code program v fs p right =
-    let vol : List ℕ = volumeFor (versionFor code) (ruleOf code) program v fs in
+volume-is code program v fs p right = let vol : List ℕ = volumeFor (versionFor code) (ruleOf code) program v fs in
     let s = volume-set right (ruleOf code) in
     let bs : All FileBack fs = set-back s in
     let back = set-read-back s code program p (omega (arith, right .volume-high)) in
@@ -118,8 +115,7 @@ module _ (v : ℕ) (c : Change) (fs : List File) (low : 1 ≤ c .file) (high : c
     (change : ChangeRight (contentsOf fs (c .file)) c) where
   pub amended-data : (rule : ℕ → ℕ → ℕ)
       → amendedData (rule (c .file) v) c (dataSizeFor (amended c fs)) (dataFor rule v fs) ≡ dataFor rule v (amended c fs)
-  amended-data rule =
-      let n : ℕ = fileCount fs in
+  amended-data rule = let n : ℕ = fileCount fs in
       let f : ℕ = c .file in
       let X : ℕ → List ℕ = contentsOf fs in
       let Y : ℕ → List ℕ = contentsOf (amended c fs) in
@@ -137,8 +133,7 @@ module _ (v : ℕ) (c : Change) (fs : List File) (low : 1 ≤ c .file) (high : c
   module _ (after : All FileBack (amended c fs)) where
     -- the entry is that of the changed file
     pub back-after : FileBack (changed c (getD fs (placeOf fs (c .file)) noFile))
-    back-after =
-        let k : ℕ = placeOf fs (c .file) in
+    back-after = let k : ℕ = placeOf fs (c .file) in
         let y : File = changed c (getD fs k noFile) in
         let few = change-placed c fs low high .within in
         subst FileBack (getD-set-same fs k y noFile few) (all-at noFile after k (omega (arith, length-set fs k y)))
@@ -150,8 +145,7 @@ module _ (v : ℕ) (c : Change) (fs : List File) (low : 1 ≤ c .file) (high : c
       body-to : amendedBody ruleOf c (entryAfter c fs) (volumeFor (versionFor code) (ruleOf code) program v fs)
           ≡ hashedFor v (amended c fs) (dataFor (ruleOf code) v (amended c fs))
       unfolding amendedBody
-      body-to =
-          let vol : List ℕ = volumeFor (versionFor code) (ruleOf code) program v fs in
+      body-to = let vol : List ℕ = volumeFor (versionFor code) (ruleOf code) program v fs in
           let gs : List File = amended c fs in
           let e : List ℕ = entryAfter c fs in
           let is = volume-is code program v fs p right in

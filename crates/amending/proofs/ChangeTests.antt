@@ -73,8 +73,7 @@ module _ (place old new : ℕ) (e d : List ℕ) where
 
   pub change-told : changeAllowed place old new e d ≡ true → ChangeTold
   unfolding changeAllowed
-  change-told t =
-      let stretch : Bool = stretchAllowed (fileSizeOf e) place old new in
+  change-told t = let stretch : Bool = stretchAllowed (fileSizeOf e) place old new in
       let one = and-both (stretch && equal (nameOf d) (nameOf e) && eqb (statusOf d) (statusOf e)) _ t in
       let two = and-both (stretch && equal (nameOf d) (nameOf e)) _ (one .0) in
       let three = and-both stretch _ (two .0) in

@@ -32,22 +32,20 @@ edited = refl
 -- both may be made
 grow-right : AmendRight grow p6
 unfolding isCounted
-grow-right =
-    record {
-      low = omega arith;
-      high = omega arith;
-      change-right = record { kind = on-end refl refl; old-true = refl };
-      size-right = refl;
-      length-right = omega (arith, p6-list);
-    }
+grow-right = record {
+  low = omega arith;
+  high = omega arith;
+  change-right = record { kind = on-end refl refl; old-true = refl };
+  size-right = refl;
+  length-right = omega (arith, p6-list);
+}
 
 edit-right : AmendRight edit p6
 unfolding isCounted
-edit-right =
-    record {
-      low = omega arith;
-      high = omega arith;
-      change-right = record { kind = inside refl (omega arith); old-true = refl };
-      size-right = refl;
-      length-right = omega (arith, p6-list);
-    }
+edit-right = record {
+  low = omega arith;
+  high = omega arith;
+  change-right = record { kind = inside refl (omega arith); old-true = refl };
+  size-right = refl;
+  length-right = omega (arith, p6-list);
+}

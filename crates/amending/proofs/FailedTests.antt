@@ -43,8 +43,7 @@ module _ (f : ℕ) (vol : List ℕ) where
           absurd (false≢true (sym e ∙ right))
 
   missing-not : fileAllowed f vol ≡ true → NoSuchFile f vol → ⊥
-  missing-not e (in-index z) =
-      let low = leb-true 1 (volumeNumberOf vol) (and-both (leb 1 (volumeNumberOf vol)) _ e .0) in omega arith
+  missing-not e (in-index z) = let low = leb-true 1 (volumeNumberOf vol) (and-both (leb 1 (volumeNumberOf vol)) _ e .0) in omega arith
   missing-not e (number-none z) =
       let range = isFile-inside (length (savedOf (entriesIn vol))) f (and-both (leb 1 (volumeNumberOf vol)) _ e .1) in omega (arith, range .0)
   missing-not e (number-high h) =

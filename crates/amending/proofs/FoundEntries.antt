@@ -54,8 +54,7 @@ pub record Read (vol : List ℕ) : Type 0 where
   pub number-right : numberAllowed (volumeNumberOf vol) (length (savedOf (entriesIn vol))) ≡ true
 
 pub volume-read : (vol : List ℕ) {p : Parts} → readOf vol ≡ reading.Accepted p → Read vol × (p ≡ partsOf vol)
-volume-read vol {p} e =
-    let told = read-tells vol p e in
+volume-read vol {p} e = let told = read-tells vol p e in
     let tests = told .tests in
     let header = tests .header in
     let total : 96 + listSizeOf vol + dataSizeOf vol ≡ length vol = omega (arith, header .layout .data-start, header .layout .data-end) in
@@ -83,8 +82,7 @@ pub record Found (vol : List ℕ) (f place : ℕ) (d : List ℕ) : Type 0 where
 
 pub found : (vol : List ℕ) → Read vol → (f place old new : ℕ) (d : List ℕ) → fileAllowed f vol ≡ true → loneRefusal d ≡ 0
     → changeAllowed place old new (entryIn f (entriesIn vol)) d ≡ true → Found vol f place d
-found vol is f place old new d file-right lone change =
-    let es : List (List ℕ) = entriesIn vol in
+found vol is f place old new d file-right lone change = let es : List (List ℕ) = entriesIn vol in
     let e : List ℕ = entryIn f es in
     let two = and-both (leb 1 (volumeNumberOf vol)) _ file-right in
     let low = leb-true 1 (volumeNumberOf vol) (two .0) in
@@ -114,8 +112,7 @@ length-five a b c d e = simp length-append (omega arith)
 
 module _ (vol : List ℕ) (is : Read vol) (c : Change) (d : List ℕ) (at : Found vol (c .file) (c .place) d) where
   pub length-list : length (amendedList (c .file) d (listOf vol)) ≡ listSizeOf vol
-  length-list =
-      let es : List (List ℕ) = entriesIn vol in
+  length-list = let es : List (List ℕ) = entriesIn vol in
       let k : ℕ = placeIn es (c .file) in
       let l : List ℕ = flatten (take k es) in
       let r : List ℕ = flatten (drop (suc k) es) in
@@ -125,8 +122,7 @@ module _ (vol : List ℕ) (is : Read vol) (c : Change) (d : List ℕ) (at : Foun
       omega (arith, at .same-length, ap length (is .joined), is .list-length)
 
   pub length-data : (w : ℕ) → length (amendedData w c (amendedSize d vol) (dataOf vol)) ≡ amendedSize d vol
-  length-data w =
-      let m : ℕ = amendedSize d vol in
+  length-data w = let m : ℕ = amendedSize d vol in
       let zeros : List ℕ = replicate (m - length (dataOf vol)) 0 in
       let size : length (dataOf vol ++ zeros) ≡ m =
       omega (arith, length-append (dataOf vol) zeros, length-replicate {A = ℕ} (m - length (dataOf vol)) 0, is .data-length) in
@@ -134,8 +130,7 @@ module _ (vol : List ℕ) (is : Read vol) (c : Change) (d : List ℕ) (at : Foun
 
   pub length-amended : (rules : Code → ℕ → ℕ → ℕ) → length (amendVolume rules c d vol) ≡ 96 + listSizeOf vol + amendedSize d vol
   unfolding amendVolume amendedBody
-  length-amended rules =
-      let list : List ℕ = amendedList (c .file) d (listOf vol) in
+  length-amended rules = let list : List ℕ = amendedList (c .file) d (listOf vol) in
       let hash : List ℕ = setHash (entriesOf list .pieces) in
       let m : ℕ = amendedSize d vol in
       let area : List ℕ = amendedData (weightIn rules (c .file) vol) c m (dataOf vol) in

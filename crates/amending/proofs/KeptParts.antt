@@ -37,8 +37,7 @@ use Rattle.amending.proofs.Splices.{place-in}
 
 entry-first : (x : File) → take 16 (entryFor x) ≡ toLe 8 (56 + length (x .name)) ++ toLe 8 (x .status)
 unfolding entryBytes flatten
-entry-first x =
-    let a : List ℕ = toLe 8 (56 + length (x .name)) in
+entry-first x = let a : List ℕ = toLe 8 (56 + length (x .name)) in
     let b : List ℕ = toLe 8 (x .status) in
     let size : length (a ++ b) ≡ 16 = omega (arith, length-append a b, length-toLe 8 (56 + length (x .name)), length-toLe 8 (x .status)) in
     ap (take 16) (sym (append-assoc a b _)) ∙ take-at (a ++ b) _ 16 size
@@ -54,12 +53,10 @@ data-stays : (w k : ℕ) (c : Change) (m area : List ℕ) → ChangeRight m c �
 data-stays w k c m area right fits p h outside = by (decLt p (c .place))
   where
     by : Dec (p < c .place) → getD (amendedData w c k area) p 0 ≡ getD area p 0
-    by (yes l) =
-        let zeros : List ℕ = replicate (k - length area) 0 in
+    by (yes l) = let zeros : List ℕ = replicate (k - length area) 0 in
         stretched-before w (c .place) (c .old) (c .new) (area ++ zeros) p (omega (arith, place-in c m right, length-append area zeros)) l
         ∙ List·getD-append area zeros 0 p h
-    by (no l) =
-        let zeros : List ℕ = replicate (k - length area) 0 in
+    by (no l) = let zeros : List ℕ = replicate (k - length area) 0 in
         let q : ℕ = p - c .place in
         let at : c .place + q ≡ p = omega arith in
         let past : length (c .new) ≤ q = omega (arith, outside (omega arith)) in
@@ -77,8 +74,7 @@ data-stays w k c m area right fits p h outside = by (decLt p (c .place))
 module _ (code : Code) (program v : ℕ) (c : Change) (fs : List File) (p : program < 2 ^ 32) (right : VolumeRight v fs) (a : AmendRight c fs) where
   kept-afresh : Kept c (placeOf fs (c .file)) (length (spliced c (contentsOf fs (c .file)))) (volumeFor (versionFor code) (ruleOf code) program v fs)
       (volumeFor (versionFor code) (ruleOf code) program v (amended c fs))
-  kept-afresh =
-      let gs : List File = amended c fs in
+  kept-afresh = let gs : List File = amended c fs in
       let k : ℕ = placeOf fs (c .file) in
       let placed = change-placed c fs (a .low) (a .high) in
       let x : File = getD fs k noFile in

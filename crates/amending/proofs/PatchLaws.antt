@@ -93,8 +93,7 @@ module _ (rules : Code → ℕ → ℕ → ℕ) (c : Change) (d vol out : List �
   patched-is : total ≤ length out
       → patched (planFor rules c d vol) n (c .old) (c .new) d out ≡ amendVolume rules c d vol ++ drop total out
   unfolding amendVolume amendedBody
-  patched-is fits =
-      let l : List ℕ = flatten (take k es) in
+  patched-is fits = let l : List ℕ = flatten (take k es) in
       let e : List ℕ = getD es k [] in
       let r : List ℕ = flatten (drop (suc k) es) in
       let list : List ℕ = flatten (l ∷ d ∷ r ∷ []) in
@@ -134,33 +133,28 @@ module _ (rules : Code → ℕ → ℕ → ℕ) (c : Change) (d vol out : List �
 
 module _ (rules : Code → ℕ → ℕ → ℕ) (n : ℕ) (c : Change) (d out : List ℕ) (h : n ≤ length out) where
   pub amend-refuses : {r : Refusal} → planOf rules c d (take n out) ≡ planned.Refused r → refused r out ≡ amendOf rules n c d out
-  amend-refuses e =
-      let told = refusal-tells rules c d (take n out) e in
+  amend-refuses e = let told = refusal-tells rules c d (take n out) e in
       unless-refused (amendVolume rules c d (take n out)) out (sym (told .0)) (told .1) refl ∙ sym (amend-is rules n c d out h refl)
 
   module _ {plan : Plan} (e : planOf rules c d (take n out) ≡ planned.Amend plan) where
     total-is : length (amendVolume rules c d (take n out)) ≡ plan .total
-    total-is =
-        let told = plan-tells rules c d (take n out) e in
+    total-is = let told = plan-tells rules c d (take n out) e in
         length-amended (take n out) (told .read) c d (told .at) rules ∙ sym (ap (λ (p : Plan). p .total) (told .plan-is))
 
     pub amend-short : {r : Refusal} → r ≡ bare 14 → length out < plan .total → refused r out ≡ amendOf rules n c d out
-    amend-short is short =
-        let told = plan-tells rules c d (take n out) e in
+    amend-short is short = let told = plan-tells rules c d (take n out) e in
         let s : List ℕ = amendVolume rules c d (take n out) in
         rw is (unless-none s out refl (told .none) (written-short s out (omega (arith, total-is))) ∙ sym (amend-is rules n c d out h refl))
 
     -- what the writes need
     pub plan-right : (plan .«stretch_at» ≤ plan .total) × (32 ≤ plan .total)
-    plan-right =
-        let told = plan-tells rules c d (take n out) e in
+    plan-right = let told = plan-tells rules c d (take n out) e in
         let at = told .at .place-in in
         (rw (told .plan-is) (omega arith), rw (told .plan-is) (omega arith))
 
     pub amend-over : {t : List ℕ} → plan .total ≤ length out → t ≡ patched plan n (c .old) (c .new) d out
         → (writing.Written (plan .total), t) ≡ amendOf rules n c d out
-    amend-over fits wrote =
-        let told = plan-tells rules c d (take n out) e in
+    amend-over fits wrote = let told = plan-tells rules c d (take n out) e in
         let vol : List ℕ = take n out in
         let s : List ℕ = amendVolume rules c d vol in
         let is = told .plan-is in

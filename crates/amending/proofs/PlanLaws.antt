@@ -57,8 +57,7 @@ module _ (vol : List ℕ) {p : Parts} (read : readOf vol ≡ reading.Accepted p)
     span-is = found ∙ ap (λ (l : List ℕ). spanIn (entriesOf l .pieces) (f - 1)) list-is
 
     pub was-is : {was : List ℕ} → was ≡ take (span .length) (drop (span .from) list) → was ≡ entryIn f (entriesIn vol)
-    was-is taken =
-        let es : List (List ℕ) = entriesIn vol in
+    was-is taken = let es : List (List ℕ) = entriesIn vol in
         taken ∙ ap₂ (λ (x : Span) (l : List ℕ). take (x .length) (drop (x .from) l)) span-is (list-is ∙ sym (volume-read vol read .0 .joined))
         ∙ part-of-entries es (placeIn es f)
 
@@ -74,8 +73,7 @@ module _ (vol : List ℕ) {p : Parts} (read : readOf vol ≡ reading.Accepted p)
 
     tests-passed : TestsPassed
     unfolding testsRefusal
-    tests-passed =
-        let ten = or-none (test 10 (fileAllowed f vol) 0) _ (ap (λ (k : Refusal). k .number) (sym is) ∙ none) in
+    tests-passed = let ten = or-none (test 10 (fileAllowed f vol) 0) _ (ap (λ (k : Refusal). k .number) (sym is) ∙ none) in
         let lone = or-none (loneRefusal d) _ (ten .1) in
         record {
           file-right = test-passed 10 (fileAllowed f vol) 0 (omega arith) (ten .0) .0;
@@ -124,8 +122,7 @@ module _ (rules : Code → ℕ → ℕ → ℕ) (c : Change) (d vol : List ℕ) 
       (is : r ≡ testsRefusal (fileAllowed (c .file) vol) (c .place) (length (c .old)) (length (c .new)) (entryIn (c .file) (entriesIn vol)) d) where
     pub plan-refused : (r .number ≡ 0 → ⊥) → Refused r ≡ planOf rules c d vol
     unfolding planOf testsRefusal changeRefusal
-    plan-refused some =
-        let e : List ℕ = entryIn (c .file) (entriesIn vol) in
+    plan-refused some = let e : List ℕ = entryIn (c .file) (entriesIn vol) in
         let same : changeRefusal rules c d vol ≡ r =
         decided (fileAllowed (c .file) vol) (loneRefusal d) (changeAllowed (c .place) (length (c .old)) (length (c .new)) e d) _
         (λ z. some (ap (λ (k : Refusal). k .number) is ∙ z)) ∙ sym is in
@@ -141,8 +138,7 @@ module _ (rules : Code → ℕ → ℕ → ℕ) (c : Change) (d vol : List ℕ) 
           (passed .file-right) (passed .lone) (passed .change)
 
       pub parts-fit : {from : ℕ} → from ≡ spanIn (entriesIn vol) (c .file - 1) .from → PartsFit p from (c .file) (c .place) (fileSizeOf d)
-      parts-fit {from} start =
-          let is = volume-read vol read .0 in
+      parts-fit {from} start = let is = volume-read vol read .0 in
           let parts = volume-read vol read .1 in
           let es : List (List ℕ) = entriesIn vol in
           let size : p .«list_size» ≡ listSizeOf vol = ap (λ (q : Parts). q .«list_size») parts in
@@ -158,8 +154,7 @@ module _ (rules : Code → ℕ → ℕ → ℕ) (c : Change) (d vol : List ℕ) 
       pub plan-sized : {from : ℕ} → from ≡ spanIn (entriesIn vol) (c .file - 1) .from
           → sizedPlan rules p from (c .file) (c .place) (fileSizeOf d) ≡ planOf rules c d vol
       unfolding planOf sizedPlan changeRefusal
-      plan-sized {from} start =
-          let is = volume-read vol read .0 in
+      plan-sized {from} start = let is = volume-read vol read .0 in
           let total : ℕ = 96 + listSizeOf vol + amendedSize d vol in
           let same : changeRefusal rules c d vol ≡ bare (test 1 (lengthAllowed total) 0) =
           simp (passed .file-right, passed .lone, passed .change)
@@ -179,8 +174,7 @@ module _ (rules : Code → ℕ → ℕ → ℕ) (c : Change) (d vol : List ℕ) 
           → cond b (Amend (planFor rules c d vol)) (Refused (amendRefusal rules c d vol (readOf vol))) ≡ Refused r
           → (amendRefusal rules c d vol (readOf vol) ≡ r) × (r .number ≡ 0 → ⊥)
       by true z e = absurd (let z : _≡_ {A = ℕ} 0 1 = cc in omega arith)
-      by false z e =
-          let same : amendRefusal rules c d vol (readOf vol) ≡ r = cc in
+      by false z e = let same : amendRefusal rules c d vol (readOf vol) ≡ r = cc in
           (same, λ n. false≢true (sym z ∙ eq-eqb _ 0 (ap (λ (k : Refusal). k .number) same ∙ n)))
 
   pub record PlanTold (plan : Plan) : Type 0 where
@@ -191,8 +185,7 @@ module _ (rules : Code → ℕ → ℕ → ℕ) (c : Change) (d vol : List ℕ) 
 
   accepted-found : (k : Reading) → readOf vol ≡ k → amendRefusal rules c d vol k .number ≡ 0 → Read vol × Found vol (c .file) (c .place) d
   accepted-found (reading.Refused r) e z = absurd (refused-some vol e z)
-  accepted-found (reading.Accepted p) e z =
-      let is = volume-read vol e .0 in
+  accepted-found (reading.Accepted p) e z = let is = volume-read vol e .0 in
       let t = change-passed rules c d vol z in
       (is, found vol is (c .file) (c .place) (length (c .old)) (length (c .new)) d (t .file-right) (t .lone) (t .change))
 
@@ -202,8 +195,7 @@ module _ (rules : Code → ℕ → ℕ → ℕ) (c : Change) (d vol : List ℕ) 
     where
       by : (b : Bool) → eqb (amendRefusal rules c d vol (readOf vol) .number) 0 ≡ b
           → cond b (Amend (planFor rules c d vol)) (Refused (amendRefusal rules c d vol (readOf vol))) ≡ Amend plan → PlanTold plan
-      by true z e =
-          let none = eqb-true _ 0 z in
+      by true z e = let none = eqb-true _ 0 z in
           let both = accepted-found (readOf vol) refl none in
           record { none = none; plan-is = cc; read = both .0; at = both .1 }
       by false z e = absurd (let z : _≡_ {A = ℕ} 0 1 = cc in omega arith)

@@ -63,8 +63,7 @@ module _ (rules : Code → ℕ → ℕ → ℕ) (c : Change) (d vol : List ℕ) 
   refusal-most : (q : Reading) → readOf vol ≡ q → Most (length vol / 58 + 1) (amendRefusal rules c d vol q)
   unfolding changeRefusal
   refusal-most (reading.Refused r) e = most-more (omega arith) (omega arith) (read-within vol e)
-  refusal-most (reading.Accepted p) e =
-      let was : List ℕ = entryIn (c .file) (entriesIn vol) in
+  refusal-most (reading.Accepted p) e = let was : List ℕ = entryIn (c .file) (entriesIn vol) in
       change-most (length vol / 58 + 1) (fileAllowed (c .file) vol) (loneRefusal d)
       (changeAllowed (c .place) (length (c .old)) (length (c .new)) was d) (lengthAllowed (length (amendVolume rules c d vol))) (lone-most d)
 
@@ -78,8 +77,7 @@ module _ (rules : Code → ℕ → ℕ → ℕ) (n : ℕ) (c : Change) (d out : 
   accepted-most {k} {t} e = by (leb n (length out)) e
     where
       by : (b : Bool) → amendBy rules n c d out b ≡ (Written k, t) → k ≤ maxVolumeLength
-      by true e =
-          let vol : List ℕ = take n out in
+      by true e = let vol : List ℕ = take n out in
           let m : Refusal = amendRefusal rules c d vol (readOf vol) in
           let s : List ℕ = amendVolume rules c d vol in
           let told = unless-tells m s out e in
@@ -100,8 +98,7 @@ module _ (rules : Code → ℕ → ℕ → ℕ) (n : ℕ) (c : Change) (d out : 
       tested m s w false f e = refused-by w e
 
       by : (b : Bool) → leb n (length out) ≡ b → amendBy rules n c d out b ≡ (Refused r, t) → Most (length out / 58 + 1) r
-      by true l e =
-          let vol : List ℕ = take n out in
+      by true l e = let vol : List ℕ = take n out in
           let size : length vol ≡ n = length-take-le n out (leb-true n (length out) l) in
           let h = leb-true n (length out) l in
           let m : Refusal = amendRefusal rules c d vol (readOf vol) in

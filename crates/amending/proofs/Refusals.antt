@@ -89,8 +89,7 @@ module _ (rules : Code → ℕ → ℕ → ℕ) (c : Change) (d vol out : List �
   total-low : fileAllowed (c .file) vol ≡ true → loneRefusal d ≡ 0
       → changeAllowed (c .place) (length (c .old)) (length (c .new)) (entryIn (c .file) (entriesIn vol)) d ≡ true
       → 96 ≤ length (amendVolume rules c d vol)
-  total-low f l s =
-      let at = found vol read (c .file) (c .place) (length (c .old)) (length (c .new)) d f l s in
+  total-low f l s = let at = found vol read (c .file) (c .place) (length (c .old)) (length (c .new)) d f l s in
       let size = length-amended vol read c d at rules in omega arith
 
   abbrev was : List ℕ
@@ -111,8 +110,7 @@ module _ (rules : Code → ℕ → ℕ → ℕ) (c : Change) (d vol out : List �
   first-fails (claim.bad-change f l s) = number-refused 21 (simp (file-passes f, l, fails-where (wrong-decides c was d) s)) (λ z. omega arith)
   first-fails (claim.too-long f l s h) =
       number-refused 1 (simp (file-passes f, l, right-passes s, too-long (length (amendVolume rules c d vol)) h)) (λ z. omega arith)
-  first-fails (claim.no-room f l s high h) =
-      let file = file-passes f in
+  first-fails (claim.no-room f l s high h) = let file = file-passes f in
       let change = right-passes s in
       let none = change-none rules c d vol file l change (record { low = total-low file l change; high = high }) in
       sym (unless-none (amendVolume rules c d vol) out (sym none) refl (written-short (amendVolume rules c d vol) out h))
@@ -167,8 +165,7 @@ amend-refused rules n c d out =
 -- where the length passes the room, and where it does not
 module _ (rules : Code → ℕ → ℕ → ℕ) (n : ℕ) (c : Change) (d out : List ℕ) where
   unfoldable pub amendBy : Bool → Writing × List ℕ
-  amendBy b =
-      let vol : List ℕ = take n out in
+  amendBy b = let vol : List ℕ = take n out in
       cond b (writtenUnless (amendRefusal rules c d vol (readOf vol)) (amendVolume rules c d vol) out) (refused (bare 14) out)
 
   written-kept : {k : ℕ} {room : List ℕ} → amendOf rules n c d out ≡ (Written k, room) → (length room ≡ length out) × (drop k room ≡ drop k out)
@@ -176,8 +173,7 @@ module _ (rules : Code → ℕ → ℕ → ℕ) (n : ℕ) (c : Change) (d out : 
   written-kept {k} {room} e = by (leb n (length out)) e
     where
       by : (b : Bool) → amendBy b ≡ (Written k, room) → (length room ≡ length out) × (drop k room ≡ drop k out)
-      by true e =
-          let vol : List ℕ = take n out in
+      by true e = let vol : List ℕ = take n out in
           let s : List ℕ = amendVolume rules c d vol in
           let m : Refusal = amendRefusal rules c d vol (readOf vol) in
           let told = unless-tells m s out e in
@@ -202,8 +198,7 @@ module _ (rules : Code → ℕ → ℕ → ℕ) (c : Change) (d vol : List ℕ) 
 
   pub change-passed : changeRefusal rules c d vol .number ≡ 0 → ChangePassed
   unfolding changeRefusal
-  change-passed z =
-      let ten = or-none (test 10 (fileAllowed (c .file) vol) 0) _ z in
+  change-passed z = let ten = or-none (test 10 (fileAllowed (c .file) vol) 0) _ z in
       let lone = or-none (loneRefusal d) _ (ten .1) in
       let e : List ℕ = entryIn (c .file) (entriesIn vol) in
       let change = test-passed 21 (changeAllowed (c .place) (length (c .old)) (length (c .new)) e d) _ (omega arith) (lone .1) in

@@ -61,22 +61,19 @@ module _ {s : List ℕ} {n status size : ℕ} (i : IsEntry s n status size) (j :
   -- by the entry at the front
   fronted : let es : List (List ℕ) = entriesOf (drop n s) .pieces in
       spanIn (entriesOf s .pieces) j ≡ spanAt (take n s ∷ es) (savedPlace (status ∷ statusesOf es) j)
-  fronted =
-      let es : List (List ℕ) = entriesOf (drop n s) .pieces in
+  fronted = let es : List (List ℕ) = entriesOf (drop n s) .pieces in
       ap (λ c. spanIn (c .pieces) j) (entries-more i)
       ∙ ap (λ (t : ℕ). spanAt (take n s ∷ es) (savedPlace (t ∷ statusesOf es) j)) (sym (i .status-is))
 
   pub span-here : j < savedCount status → spanIn (entriesOf s .pieces) j ≡ span 0 n
   unfolding flatten
-  span-here h =
-      let es : List (List ℕ) = entriesOf (drop n s) .pieces in
+  span-here h = let es : List (List ℕ) = entriesOf (drop n s) .pieces in
       fronted ∙ ap (spanAt (take n s ∷ es)) (place-here status (statusesOf es) j h) ∙ ap (span 0) (length-take-le n s (i .high))
 
   pub span-more : savedCount status ≤ j
       → spanIn (entriesOf s .pieces) j ≡ past n (spanIn (entriesOf (drop n s) .pieces) (j - savedCount status))
   unfolding flatten
-  span-more h =
-      let es : List (List ℕ) = entriesOf (drop n s) .pieces in
+  span-more h = let es : List (List ℕ) = entriesOf (drop n s) .pieces in
       let k : ℕ = savedPlace (statusesOf es) (j - savedCount status) in
       let size : length (flatten (take (suc k) (take n s ∷ es))) ≡ n + length (flatten (take k es)) =
       length-append (take n s) (flatten (take k es)) ∙ ap (λ (m : ℕ). m + length (flatten (take k es))) (length-take-le n s (i .high)) in

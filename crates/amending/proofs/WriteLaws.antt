@@ -26,8 +26,7 @@ use Rattle.amending.specs.declared.planning.Plan.{Plan}
 
 summed-part : (w place : ℕ) (old new x z r : List ℕ) → place ≤ length z
     → summed w (length x + place) (length x + length z) old new (x ++ (z ++ r)) ≡ x ++ (stretched w place old new z ++ r)
-summed-part w place old new x z r h =
-    let t : List ℕ = x ++ (z ++ r) in
+summed-part w place old new x z r h = let t : List ℕ = x ++ (z ++ r) in
     let n : ℕ = length x + place in
     let m : ℕ = length x + length z in
     let left : m - n ≡ length (drop place z) = omega (arith, length-drop place z) in
@@ -60,15 +59,14 @@ all-joined a h ps r = ap (λ (l : List ℕ). a ++ (h ++ l)) (flatten-append ps (
 
 -- what the plan says of a room with n bytes of list, of which i stand before the entry, and k bytes of data
 abbrev pub planWith : ℕ → ℕ → ℕ → ℕ → ℕ → Plan
-planWith i place w n k =
-    record {
-      «entry_at» = 96 + i;
-      «list_size» = n;
-      «data_size» = k;
-      «stretch_at» = 96 + n + place;
-      weight = w;
-      total = 96 + n + k;
-    }
+planWith i place w n k = record {
+  «entry_at» = 96 + i;
+  «list_size» = n;
+  «data_size» = k;
+  «stretch_at» = 96 + n + place;
+  weight = w;
+  total = 96 + n + k;
+}
 
 module _ (a c s m z l e r area tail rest d old new : List ℕ) (w place : ℕ) (ha : length a ≡ 16) (hc : length c ≡ 16) (hs : length s ≡ 16)
     (hm : length m ≡ 40) (hz : length z ≡ 8) (hd : length d ≡ length e) (inside : place ≤ length area + length tail) where
@@ -98,8 +96,7 @@ module _ (a c s m z l e r area tail rest d old new : List ℕ) (w place : ℕ) (
   after-clear : cleared (96 + length list + length area) (plan .total) (flatten (a ∷ c ∷ s ∷ m ∷ z ∷ l ∷ e ∷ r ∷ area ∷ tail ∷ rest ∷ []))
       ≡ flatten (a ∷ c ∷ s ∷ m ∷ z ∷ l ∷ e ∷ r ∷ zeroed ∷ rest ∷ [])
   unfolding flatten
-  after-clear =
-      let t : List ℕ = flatten (a ∷ c ∷ s ∷ m ∷ z ∷ l ∷ e ∷ r ∷ area ∷ tail ∷ rest ∷ []) in
+  after-clear = let t : List ℕ = flatten (a ∷ c ∷ s ∷ m ∷ z ∷ l ∷ e ∷ r ∷ area ∷ tail ∷ rest ∷ []) in
       let n : ℕ = 96 + length list + length area in
       let left : plan .total - n ≡ length tail = omega arith in
       let zeros : List ℕ = replicate (length tail) 0 in
@@ -111,8 +108,7 @@ module _ (a c s m z l e r area tail rest d old new : List ℕ) (w place : ℕ) (
   -- the stretch
   after-sum : summed w (plan .«stretch_at») (plan .total) old new (flatten (a ∷ c ∷ s ∷ m ∷ z ∷ l ∷ e ∷ r ∷ zeroed ∷ rest ∷ []))
       ≡ flatten (a ∷ c ∷ s ∷ m ∷ z ∷ l ∷ e ∷ r ∷ stretched w place old new zeroed ∷ rest ∷ [])
-  after-sum =
-      let front : List (List ℕ) = a ∷ c ∷ s ∷ m ∷ z ∷ l ∷ e ∷ r ∷ [] in
+  after-sum = let front : List (List ℕ) = a ∷ c ∷ s ∷ m ∷ z ∷ l ∷ e ∷ r ∷ [] in
       let x : List ℕ = flatten front in
       let from : plan .«stretch_at» ≡ length x + place = omega (arith, length-front) in
       let to : plan .total ≡ length x + length zeroed = omega (arith, length-front, length-zeroed) in
@@ -127,8 +123,7 @@ module _ (a c s m z l e r area tail rest d old new : List ℕ) (w place : ℕ) (
       → sets (sets (flatten (a ∷ c ∷ s ∷ m ∷ z ∷ l ∷ e ∷ r ∷ y ∷ rest ∷ [])) (96 + length l) d) 88 size
       ≡ flatten (a ∷ c ∷ s ∷ m ∷ size ∷ l ∷ d ∷ r ∷ y ∷ rest ∷ [])
   unfolding flatten
-  after-entry y =
-      let six : length (flatten (a ∷ c ∷ s ∷ m ∷ z ∷ l ∷ [])) ≡ 96 + length l = simp (length-append, ha, hc, hs, hm, hz) (omega arith) in
+  after-entry y = let six : length (flatten (a ∷ c ∷ s ∷ m ∷ z ∷ l ∷ [])) ≡ 96 + length l = simp (length-append, ha, hc, hs, hm, hz) (omega arith) in
       let four : length (flatten (a ∷ c ∷ s ∷ m ∷ [])) ≡ 88 = simp (length-append, ha, hc, hs, hm) in
       ap (λ (t : List ℕ). sets t 88 size) (store-part (a ∷ c ∷ s ∷ m ∷ z ∷ l ∷ []) e d (r ∷ y ∷ rest ∷ []) (96 + length l) six hd)
       ∙ store-part (a ∷ c ∷ s ∷ m ∷ []) z size (l ∷ d ∷ r ∷ y ∷ rest ∷ []) 88 four (length-toLe 8 (length area + length tail) ∙ sym hz)
@@ -137,8 +132,7 @@ module _ (a c s m z l e r area tail rest d old new : List ℕ) (w place : ℕ) (
   after-set : (y : List ℕ) → hashedSet (length list) (flatten (a ∷ c ∷ s ∷ m ∷ size ∷ l ∷ d ∷ r ∷ y ∷ rest ∷ []))
       ≡ flatten (a ∷ c ∷ setHash (entriesOf list .pieces) ∷ m ∷ size ∷ l ∷ d ∷ r ∷ y ∷ rest ∷ [])
   unfolding flatten
-  after-set y =
-      let t : List ℕ = flatten (a ∷ c ∷ s ∷ m ∷ size ∷ l ∷ d ∷ r ∷ y ∷ rest ∷ []) in
+  after-set y = let t : List ℕ = flatten (a ∷ c ∷ s ∷ m ∷ size ∷ l ∷ d ∷ r ∷ y ∷ rest ∷ []) in
       let hash : List ℕ = setHash (entriesOf list .pieces) in
       let two : length (flatten (a ∷ c ∷ [])) ≡ 32 = simp (length-append, ha, hc) in
       let five : length (flatten (a ∷ c ∷ s ∷ m ∷ size ∷ [])) ≡ 96 = simp (length-append, ha, hc, hs, hm, length-toLe) in
@@ -149,8 +143,7 @@ module _ (a c s m z l e r area tail rest d old new : List ℕ) (w place : ℕ) (
       ∙ store-part (a ∷ c ∷ []) s hash (m ∷ size ∷ l ∷ d ∷ r ∷ y ∷ rest ∷ []) 32 two (length-set-hash (entriesOf list .pieces) ∙ sym hs)
 
   length-parts : length (flatten amendedParts) ≡ plan .total - 32
-  length-parts =
-      let y : List ℕ = stretched w place old new zeroed in
+  length-parts = let y : List ℕ = stretched w place old new zeroed in
       let n : length y ≡ length area + length tail = length-stretched w place old new zeroed (omega (arith, length-zeroed)) ∙ length-zeroed in
       let hash = length-set-hash (entriesOf list .pieces) in
       let number = length-toLe 8 (length area + length tail) in
@@ -160,8 +153,7 @@ module _ (a c s m z l e r area tail rest d old new : List ℕ) (w place : ℕ) (
   after-control : controlled (plan .total) (flatten (a ∷ c ∷ (amendedParts ++ (rest ∷ []))))
       ≡ flatten (a ∷ md5 (flatten amendedParts) ∷ (amendedParts ++ (rest ∷ [])))
   unfolding flatten
-  after-control =
-      let t : List ℕ = flatten (a ∷ c ∷ (amendedParts ++ (rest ∷ []))) in
+  after-control = let t : List ℕ = flatten (a ∷ c ∷ (amendedParts ++ (rest ∷ []))) in
       let body : List ℕ = flatten amendedParts in
       let one : length (flatten (a ∷ [])) ≡ 16 = simp (length-append, ha) in
       let two : length (flatten (a ∷ c ∷ [])) ≡ 32 = simp (length-append, ha, hc) in
@@ -173,8 +165,7 @@ module _ (a c s m z l e r area tail rest d old new : List ℕ) (w place : ℕ) (
 
   pub written-parts : patched plan (96 + length list + length area) old new d (flatten (a ∷ c ∷ s ∷ m ∷ z ∷ l ∷ e ∷ r ∷ area ∷ tail ∷ rest ∷ []))
       ≡ flatten (a ∷ md5 (flatten amendedParts) ∷ flatten amendedParts ∷ []) ++ rest
-  written-parts =
-      let y : List ℕ = stretched w place old new zeroed in
+  written-parts = let y : List ℕ = stretched w place old new zeroed in
       let hashed : List ℕ → List ℕ = λ (t : List ℕ). controlled (plan .total) (hashedSet (length list) t) in
       ap (λ (t : List ℕ). hashed (sets (sets (summed w (plan .«stretch_at») (plan .total) old new t) (96 + length l) d) 88 size)) after-clear
       ∙ ap (λ (t : List ℕ). hashed (sets (sets t (96 + length l) d) 88 size)) after-sum

@@ -54,8 +54,7 @@ module _ (f g : List ℕ) where
       ∙ ap (λ (t : List ℕ). textOf (headLines f g) ++ t) (text-append (entryLines 1 (entriesIn f) (entriesIn g)) _)
 
 pub data-part : (f : List ℕ) {p : Parts} → readOf f ≡ Accepted p → take (length f) (drop (p .«data_start») f) ≡ dataOf f
-data-part f {p} e =
-    let told = read-tells f p e in
+data-part f {p} e = let told = read-tells f p e in
     let start : p .«data_start» ≡ 96 + listSizeOf f =
     ap (λ (p : Parts). p .«data_start») (told .parts-are) ∙ told .tests .header .layout .data-start in
     ap (λ (i : ℕ). take (length f) (drop i f)) start ∙ take-all (length f) (dataOf f) (omega (arith, length-drop (96 + listSizeOf f) f))
@@ -66,7 +65,6 @@ empty (b ∷ t) e = absurd (omega arith)
 
 pub fit-none : (t out : List ℕ) {l : List ℕ} {n : ℕ} → buffer l n ≡ put (buffer [] 0) t → length out < usizeMax → n ≡ 0
     → (Written 0, l ++ out) ≡ written t out
-fit-none t out e h z =
-    let none : length t ≡ 0 = omega (arith, ap (λ (b : Buffer). b .at) (e ∙ put-measure t)) in
+fit-none t out e h z = let none : length t ≡ 0 = omega (arith, ap (λ (b : Buffer). b .at) (e ∙ put-measure t)) in
     written-fits t out (omega arith) (sym none)
     (unwritten t out e h ∙ ap (λ (t : List ℕ). t ++ drop (length t) out) (sym (empty t none)))

@@ -40,8 +40,7 @@ module _ (p q : ℕ) where
     where
       by : (b : Bool) → eqb (r .first) (suc q) ≡ b → Covers p (cond b (runOf q (r .last) ∷ rs) (runOf q q ∷ r ∷ rs))
           → (p ≡ q) ⊎ Covers p (r ∷ rs)
-      by true e c =
-          let touch = eqb-true (r .first) (suc q) e in
+      by true e c = let touch = eqb-true (r .first) (suc q) e in
           ⊎-elim
           (λ h. ⊎-elim (λ z. inl (sym z)) (λ z. inr (covers-first (omega arith) (h .1))) (eq-or-lt-of-le (h .0)))
           (λ c. inr (covers-later c)) (covers-cases c)
@@ -56,8 +55,7 @@ module _ (p q : ℕ) where
       by : (b : Bool) → eqb (r .first) (suc q) ≡ b → (p ≡ q) ⊎ Covers p (r ∷ rs)
           → Covers p (cond b (runOf q (r .last) ∷ rs) (runOf q q ∷ r ∷ rs))
       by true e (inl z) = covers-first {r = runOf q (r .last)} (omega arith) (omega arith)
-      by true e (inr c) =
-          ⊎-elim (λ h. covers-first {r = runOf q (r .last)} (omega (arith, h .0)) (h .1)) (λ c. covers-later c) (covers-cases c)
+      by true e (inr c) = ⊎-elim (λ h. covers-first {r = runOf q (r .last)} (omega (arith, h .0)) (h .1)) (λ c. covers-later c) (covers-cases c)
       by false e (inl z) = covers-first {r = runOf q q} (omega arith) (omega arith)
       by false e (inr c) = covers-later c
 
@@ -97,8 +95,7 @@ module _ (d : ℕ → Bool) (p : ℕ) where
 
       by : (b : Bool) → d i ≡ b → (Holds d k (suc i) p → Covers p rest) → (i ≡ p) ⊎ (i < p) → Covers p (cond b (withPlace i rest) rest)
       by true e r (inl z) = with-covers p i (runs-apart d k (suc i)) (inl (sym z))
-      by true e r (inr z) =
-          with-covers p i (runs-apart d k (suc i)) (inr (r (record { low = z; high = omega (arith, h .high); holds = h .holds })))
+      by true e r (inr z) = with-covers p i (runs-apart d k (suc i)) (inr (r (record { low = z; high = omega (arith, h .high); holds = h .holds })))
       by false e r (inl z) = absurd (false≢true (sym e ∙ ap d z ∙ h .holds))
       by false e r (inr z) = r (record { low = z; high = omega (arith, h .high); holds = h .holds })
 
@@ -111,10 +108,8 @@ abbrev pub linesOn : List Run → List Line
 linesOn rs = map (λ r. runLine r) rs
 
 covers-line : {p : ℕ} {rs : List Run} → Covers p rs → InRun p (linesOn rs)
-covers-line (covers-first {r = r} low high) =
-    record { first = r .first; last = r .last; listed = List·Memᴰ·head refl; from = low; to = high }
-covers-line (covers-later c) =
-    let i = covers-line c in
+covers-line (covers-first {r = r} low high) = record { first = r .first; last = r .last; listed = List·Memᴰ·head refl; from = low; to = high }
+covers-line (covers-later c) = let i = covers-line c in
     record { first = i .first; last = i .last; listed = List·Memᴰ·tail (i .listed); from = i .from; to = i .to }
 
 pub line-covers : {p a b : ℕ} (rs : List Run) → a ≤ p → p ≤ b → List·Memᴰ (run a b) (linesOn rs) → Covers p rs
@@ -122,8 +117,7 @@ line-covers [] low high m = absurd (List·Memᴰ·not-nil m)
 line-covers {p} {a} {b} (r ∷ rs) low high m = by (line-covers rs low high) (List·Memᴰ·cases-cons m)
   where
     by : (List·Memᴰ (run a b) (linesOn rs) → Covers p rs) → (run a b ≡ runLine r) ⊎ List·Memᴰ (run a b) (linesOn rs) → Covers p (r ∷ rs)
-    by later (inl e) =
-        let first : a ≡ r .first = cc in
+    by later (inl e) = let first : a ≡ r .first = cc in
         let last : b ≡ r .last = cc in
         covers-first {r = r} (omega arith) (omega arith)
     by later (inr m) = covers-later (later m)

@@ -48,8 +48,7 @@ no-field-lacking {p} {e} k (x ∷ es) m =
 -- ---- an entry as a whole
 
 no-all-here : {p : ℕ} (k : ℕ) (fs : List EntryField) → List·Memᴰ (all p) (map (entry k) fs) → ⊥
-no-all-here {p} k fs m =
-    let found = Memᴰ·of-map (entry k) fs m in
+no-all-here {p} k fs m = let found = Memᴰ·of-map (entry k) fs m in
     let is : entry k (found .0) ≡ all p = found .2 in
     let z : _≡_ {A = ℕ} 0 1 = cc in omega arith
 
@@ -58,8 +57,7 @@ all-one : (p k : ℕ) (es ds : List (List ℕ)) → List·Memᴰ (all p) (entryL
 unfolding entryLines
 all-one p k [] ds m = let h = in-lacking p k ds m in (h .0, inr (λ q. omega arith, h .1))
 all-one p k (e ∷ es) [] m = let h = in-lacking p k (e ∷ es) m in (h .0, inl (h .1, λ q. omega arith))
-all-one p k (e ∷ es) (d ∷ ds) m =
-    by (all-one p (suc k) es ds) (List·Memᴰ·append-cases (map (entry k) (differing entryTable e d)) m)
+all-one p k (e ∷ es) (d ∷ ds) m = by (all-one p (suc k) es ds) (List·Memᴰ·append-cases (map (entry k) (differing entryTable e d)) m)
   where
     by : (List·Memᴰ (all p) (entryLines (suc k) es ds) → (suc k ≤ p) × OnlyOne (p < suc k + length es) (p < suc k + length ds))
         → List·Memᴰ (all p) (map (entry k) (differing entryTable e d)) ⊎ List·Memᴰ (all p) (entryLines (suc k) es ds)
@@ -107,8 +105,7 @@ module _ (p : ℕ) (e : EntryField) where
   unfolding entryLines
   field-here k [] ds m = absurd (no-field-lacking k ds m)
   field-here k (x ∷ es) [] m = absurd (no-field-lacking k (x ∷ es) m)
-  field-here k (x ∷ es) (y ∷ ds) m =
-      by (field-here (suc k) es ds) (List·Memᴰ·append-cases (map (entry k) (differing entryTable x y)) m)
+  field-here k (x ∷ es) (y ∷ ds) m = by (field-here (suc k) es ds) (List·Memᴰ·append-cases (map (entry k) (differing entryTable x y)) m)
     where
       by : (List·Memᴰ (entry p e) (entryLines (suc k) es ds) → FieldDiffers p (suc k) e es ds)
           → List·Memᴰ (entry p e) (map (entry k) (differing entryTable x y)) ⊎ List·Memᴰ (entry p e) (entryLines (suc k) es ds)
@@ -147,12 +144,10 @@ module _ (p : ℕ) (e : EntryField) where
 
       by : (FieldDiffers p (suc k) e es ds → List·Memᴰ (entry p e) (entryLines (suc k) es ds)) → (k ≡ p) ⊎ (k < p)
           → List·Memᴰ (entry p e) (map (entry k) fields ++ entryLines (suc k) es ds)
-      by r (inl z) =
-          let first : 0 ≡ p - k = omega arith in
+      by r (inl z) = let first : 0 ≡ p - k = omega arith in
           let there = differing-iff entryBytes x y entry-table .1 (λ same. h .differs (subst (Same (x ∷ es) (y ∷ ds)) first same)) in
           Memᴰ·append-left (entryLines (suc k) es ds) (Memᴰ·cast (ap (λ (n : ℕ). entry n e) (sym z)) (Memᴰ·map (entry k) there))
-      by r (inr z) =
-          let next : suc (p - suc k) ≡ p - k = omega arith in
+      by r (inr z) = let next : suc (p - suc k) ≡ p - k = omega arith in
           Memᴰ·append-right (map (entry k) fields)
           (r
           (record {

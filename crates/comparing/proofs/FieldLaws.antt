@@ -33,8 +33,7 @@ module _ {A : Type 0} (line : A → Line) (f g : List ℕ) where
   pub differing-text : (t : List (Row A)) → textOf (map line (differing t f g)) ≡ flatten (map rowText t)
   unfolding differing flatten
   differing-text [] = refl
-  differing-text (r ∷ t) =
-      by (equal (r .bytes f) (r .bytes g)) ∙ ap (λ (s : List ℕ). rowText r ++ s) (differing-text t)
+  differing-text (r ∷ t) = by (equal (r .bytes f) (r .bytes g)) ∙ ap (λ (s : List ℕ). rowText r ++ s) (differing-text t)
     where
       by : (b : Bool)
           → textOf (map line (cond b (differing t f g) (r .field ∷ differing t f g)))
@@ -57,8 +56,7 @@ module _ {A : Type 0} (bytesOf : A → List ℕ → List ℕ) (f g : List ℕ) {
   differs-in (r ∷ t) (all-more is rs) m e = by (equal (r .bytes f) (r .bytes g)) refl (λ m. differs-in t rs m e) m
     where
       same : a ≡ r .field → r .bytes f ≡ r .bytes g
-      same q =
-          is f ∙ ap (λ (b : A). bytesOf b f) (sym q) ∙ e ∙ ap (λ (b : A). bytesOf b g) q ∙ sym (is g)
+      same q = is f ∙ ap (λ (b : A). bytesOf b f) (sym q) ∙ e ∙ ap (λ (b : A). bytesOf b g) q ∙ sym (is g)
 
       by : (b : Bool) → equal (r .bytes f) (r .bytes g) ≡ b → (List·Memᴰ a (differing t f g) → ⊥)
           → List·Memᴰ a (cond b (differing t f g) (r .field ∷ differing t f g)) → ⊥
@@ -68,8 +66,7 @@ module _ {A : Type 0} (bytesOf : A → List ℕ → List ℕ) (f g : List ℕ) {
   in-differing : (t : List (Row A)) → List·Memᴰ (row a (bytesOf a)) t → (bytesOf a f ≡ bytesOf a g → ⊥) → List·Memᴰ a (differing t f g)
   unfolding differing
   in-differing [] m h = absurd (List·Memᴰ·not-nil m)
-  in-differing (r ∷ t) m h =
-      by (equal (r .bytes f) (r .bytes g)) refl (λ m. in-differing t m h) (List·Memᴰ·cases-cons m)
+  in-differing (r ∷ t) m h = by (equal (r .bytes f) (r .bytes g)) refl (λ m. in-differing t m h) (List·Memᴰ·cases-cons m)
     where
       by : (b : Bool) → equal (r .bytes f) (r .bytes g) ≡ b → (List·Memᴰ (row a (bytesOf a)) t → List·Memᴰ a (differing t f g))
           → (row a (bytesOf a) ≡ r) ⊎ List·Memᴰ (row a (bytesOf a)) t
@@ -108,8 +105,7 @@ module _ {A : Type 0} (f g : List ℕ) where
   pub differing-pairwise : {R : A → A → Type 0} (t : List (Row A)) → Pairwise (λ r q. R (r .field) (q .field)) t → Pairwise R (differing t f g)
   unfolding differing
   differing-pairwise [] pairwise-none = pairwise-none
-  differing-pairwise {R} (r ∷ t) (pairwise-more p ps) =
-      by (equal (r .bytes f) (r .bytes g)) (differing-all t p) (differing-pairwise t ps)
+  differing-pairwise {R} (r ∷ t) (pairwise-more p ps) = by (equal (r .bytes f) (r .bytes g)) (differing-all t p) (differing-pairwise t ps)
     where
       by : (b : Bool) → All (R (r .field)) (differing t f g) → Pairwise R (differing t f g)
           → Pairwise R (cond b (differing t f g) (r .field ∷ differing t f g))
@@ -166,8 +162,7 @@ pub entry-table : IsTable entryBytes entryTable
 entry-table = record { right = rows; whole = find }
   where
     rows : All (λ r. (f : List ℕ) → r .bytes f ≡ entryBytes (r .field) f) entryTable
-    rows =
-        all-more (λ f. refl) (all-more (λ f. refl) (all-more (λ f. refl) (all-more (λ f. refl) (all-more (λ f. refl) (all-more (λ f. refl) all-none)))))
+    rows = all-more (λ f. refl) (all-more (λ f. refl) (all-more (λ f. refl) (all-more (λ f. refl) (all-more (λ f. refl) (all-more (λ f. refl) all-none)))))
 
     find : (e : EntryField) → List·Memᴰ (row e (entryBytes e)) entryTable
     find length-field = mem-at (row length-field (bytesFrom 0)) entryTable 0 (omega arith)

@@ -84,8 +84,7 @@ line-most (refused side number) s = simp length-append (omega (arith, digits-mos
 text-most : (ls : List Line) → All Small ls → length (textOf ls) ≤ 64 * length ls
 unfolding flatten
 text-most [] all-none = omega arith
-text-most (l ∷ ls) (all-more s ss) =
-    omega (arith, line-most l s, text-most ls ss, length-append (lineText l) (textOf ls))
+text-most (l ∷ ls) (all-more s ss) = omega (arith, line-most l s, text-most ls ss, length-append (lineText l) (textOf ls))
 
 -- ---- how many lines
 
@@ -98,8 +97,7 @@ list-count : (k : ℕ) (es ds : List (List ℕ)) → length (entryLines k es ds)
 unfolding entryLines
 list-count k [] ds = omega (arith, all-count k ds)
 list-count k (e ∷ es) [] = omega (arith, all-count k (e ∷ es))
-list-count k (e ∷ es) (d ∷ ds) =
-    let fields : List EntryField = differing entryTable e d in
+list-count k (e ∷ es) (d ∷ ds) = let fields : List EntryField = differing entryTable e d in
     omega
     (arith, length-append (map (entry k) fields) (entryLines (suc k) es ds), length-map fields (entry k), differing-most e d entryTable, list-count (suc k) es ds)
 
@@ -141,8 +139,7 @@ record Sizes (f : List ℕ) : Type 0 where
   data-most : length (dataOf f) ≤ maxVolumeLength
 
 sizes : (f : List ℕ) → IsAccepted f → Sizes f
-sizes f a =
-    let most : length f ≤ maxVolumeLength = read-tells f (a .0) (a .1) .tests .header .size .high in
+sizes f a = let most : length f ≤ maxVolumeLength = read-tells f (a .0) (a .1) .tests .header .size .high in
     record {
       entries-most = omega (arith, cut-count lengthOf (listOf f), length-take (listSizeOf f) (drop 96 f), length-drop 96 f);
       data-most = omega (arith, length-drop (96 + listSizeOf f) f);
@@ -150,8 +147,7 @@ sizes f a =
 
 module _ (f g : List ℕ) (a : IsAccepted f) (b : IsAccepted g) where
   lines-most : length (linesOf f g) ≤ 9 + 13 * maxVolumeLength
-  lines-most =
-      let s = sizes f a in
+  lines-most = let s = sizes f a in
       let t = sizes g b in
       let lists : List Line = entryLines 1 (entriesIn f) (entriesIn g) in
       let runs : List Line = runLines (dataOf f) (dataOf g) in
@@ -175,8 +171,7 @@ module _ (f g : List ℕ) (a : IsAccepted f) (b : IsAccepted g) where
 
   run-place : {p x y : ℕ} → x ≤ p → p ≤ y → List·Memᴰ (run x y) (runLines (dataOf f) (dataOf g)) → p < 2 ^ 64
   unfolding runLines runsOf
-  run-place {p} low high m =
-      let d = differs (dataOf f) (dataOf g) in
+  run-place {p} low high m = let d = differs (dataOf f) (dataOf g) in
       let n = max (length (dataOf f)) (length (dataOf g)) in
       let h = runs-cover d p n 0 .0 (line-covers (runsFrom d n 0) low high m) in
       omega (arith, h .high, sizes f a .data-most, sizes g b .data-most)
@@ -184,8 +179,7 @@ module _ (f g : List ℕ) (a : IsAccepted f) (b : IsAccepted g) where
 -- ---- every line
 
 refused-small : (f : List ℕ) (n : ℕ) → RefusedWith f n → n < 2 ^ 64
-refused-small f n w =
-    let within = refusal-within f in
+refused-small f n w = let within = refusal-within f in
     omega (arith, within .number-most, w .2, ap (λ (r : Refusal). r .number) (refused-is f (w .1)))
 
 refusal-small : (f g : List ℕ) (side number : ℕ) → List·Memᴰ (refused side number) (linesOf f g) → Small (refused side number)
@@ -195,20 +189,17 @@ refusal-small f g side number m =
 
 accepted-small : (f g : List ℕ) → IsAccepted f → IsAccepted g → (l : Line) → List·Memᴰ l (linesOf f g) → Small l
 accepted-small f g a b (head h) m = tt
-accepted-small f g a b (entry p e) m =
-    place-most f g a b p (inl (entry-iff p e 1 (entriesIn f) (entriesIn g) .0 (in-list f g a b refl .0 m) .one-has))
+accepted-small f g a b (entry p e) m = place-most f g a b p (inl (entry-iff p e 1 (entriesIn f) (entriesIn g) .0 (in-list f g a b refl .0 m) .one-has))
 accepted-small f g a b (all p) m =
     place-most f g a b p
     (⊎-elim (λ o. inl (o .0)) (λ o. inr (o .1)) (all-iff p 1 (entriesIn f) (entriesIn g) .0 (in-list f g a b refl .0 m) .1))
-accepted-small f g a b (run x y) m =
-    let right = ordered f g .1 x y m in
+accepted-small f g a b (run x y) m = let right = ordered f g .1 x y m in
     let listed = in-data f g a b refl .0 m in
     (run-place f g a b (omega arith) right listed, run-place f g a b right (omega arith) listed)
 accepted-small f g a b (refused side number) m = refusal-small f g side number m
 
 refused-lines : (f g : List ℕ) (n : ℕ) → RefusedWith f n ⊎ RefusedWith g n → (l : Line) → List·Memᴰ l (linesOf f g) → Small l
-refused-lines f g n w l m =
-    let found = refused-only f g n w l m in
+refused-lines f g n w l m = let found = refused-only f g n w l m in
     subst Small (sym (found .2)) (refusal-small f g (found .0) (found .1) (Memᴰ·cast (sym (found .2)) m))
 
 -- ---- the comparison

@@ -39,8 +39,7 @@ use Rattle.comparing.proofs.SectionLaws.{in-head, in-list, in-data}
 module _ (k i : ℕ) (f g : List ℕ) (bytes-one : Bytes f) (bytes-two : Bytes g) (fits-one : i + k ≤ length f) (fits-two : i + k ≤ length g) where
   pub number-differs : (take k (drop i f) ≡ take k (drop i g) → ⊥) ↔ (leAt k f i ≡ leAt k g i → ⊥)
   unfolding leAt
-  number-differs =
-      (λ h e. h (sym (to-leAt k f i bytes-one fits-one) ∙ ap (toLe k) e ∙ to-leAt k g i bytes-two fits-two), λ h e. h (ap fromLe e))
+  number-differs = (λ h e. h (sym (to-leAt k f i bytes-one fits-one) ∙ ap (toLe k) e ∙ to-leAt k g i bytes-two fits-two), λ h e. h (ap fromLe e))
 
 -- ---- the header
 
@@ -55,8 +54,7 @@ module _ (f g : List ℕ) (c : Compared f g) where
   low-two = long g (c .accepted-two)
 
   number-at : (k i : ℕ) → i + k ≤ 96 → (take k (drop i f) ≡ take k (drop i g) → ⊥) ↔ (leAt k f i ≡ leAt k g i → ⊥)
-  number-at k i h =
-      number-differs k i f g (c .bytes-one) (c .bytes-two) (omega (arith, low-one)) (omega (arith, low-two))
+  number-at k i h = number-differs k i f g (c .bytes-one) (c .bytes-two) (omega (arith, low-one)) (omega (arith, low-two))
 
   head-differs : (h : HeadField) → (headBytes h f ≡ headBytes h g → ⊥) ↔ HeadDiffers h f g
   head-differs version-field = number-at 4 8 (omega arith)
@@ -81,8 +79,7 @@ in-heads f g h = (
 )
 
 pub head-named : HeadNamed
-head-named f g c h =
-    let lines = in-head f g (c .accepted-one) (c .accepted-two) {l = head h} refl in
+head-named f g c h = let lines = in-head f g (c .accepted-one) (c .accepted-two) {l = head h} refl in
     let heads = in-heads f g h in
     let fields = differing-iff headBytes f g head-table in
     let values = head-differs f g c h in
@@ -103,8 +100,7 @@ entry-differs x y i j md5-16k-field = (λ h. h, λ h. h)
 entry-differs x y i j name-field = (λ h. h, λ h. h)
 
 pub entry-named : EntryNamed
-entry-named f g c p e =
-    let lines = in-list f g (c .accepted-one) (c .accepted-two) {l = entry p e} refl in
+entry-named f g c p e = let lines = in-list f g (c .accepted-one) (c .accepted-two) {l = entry p e} refl in
     let fields = entry-iff p e 1 (entriesIn f) (entriesIn g) in
     let x : List ℕ = entryAt f p in
     let y : List ℕ = entryAt g p in
@@ -126,8 +122,7 @@ entry-named f g c p e =
     )
 
 pub all-named : AllNamed
-all-named f g c p =
-    let lines = in-list f g (c .accepted-one) (c .accepted-two) {l = all p} refl in
+all-named f g c p = let lines = in-list f g (c .accepted-one) (c .accepted-two) {l = all p} refl in
     let alls = all-iff p 1 (entriesIn f) (entriesIn g) in (
       λ m.
           let h = alls .0 (lines .0 m) in
@@ -186,8 +181,7 @@ module _ (a b : List ℕ) (p : ℕ) where
 
 in-runs : (a b : List ℕ) (p : ℕ) → InRun p (runLines a b) ↔ Differ a b p
 unfolding runLines runsOf
-in-runs a b p =
-    let n = max (length a) (length b) in
+in-runs a b p = let n = max (length a) (length b) in
     let places = runs-cover (differs a b) p n 0 in
     let runs = in-run p (runsFrom (differs a b) n 0) in (
       λ i. let h = places .0 (runs .0 i) in differs-in-words a b p (omega (arith, h .high)) (h .holds),
@@ -197,8 +191,7 @@ in-runs a b p =
     )
 
 pub data-named : DataNamed
-data-named f g c p =
-    let a = c .accepted-one in
+data-named f g c p = let a = c .accepted-one in
     let b = c .accepted-two in
     let places = in-runs (dataOf f) (dataOf g) p in (
       λ i.

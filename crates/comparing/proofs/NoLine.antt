@@ -99,8 +99,7 @@ module _ (f : List ℕ) (c : Compared f f) where
   none-listed (head h) m = same-head h f (head-named f f c h .0 m)
   none-listed (entry p e) m = same-entry e (entryAt f p) (entry-named f f c p e .0 m .2)
   none-listed (all p) m = ⊎-elim (λ o. o .1 (o .0)) (λ o. o .0 (o .1)) (all-named f f c p .0 m)
-  none-listed (run a b) m =
-      let right = ordered f f .1 a b m in
+  none-listed (run a b) m = let right = ordered f f .1 a b m in
       same-data f a (data-named f f c a .0 (record { first = a; last = b; listed = m; from = omega arith; to = right }))
   none-listed (refused side number) m =
       ⊎-elim (λ w. not-both f (c .accepted-one) (w .1)) (λ w. not-both f (c .accepted-one) (w .1)) (refused-named f f side number .0 m)
@@ -132,8 +131,7 @@ module _ (f g : List ℕ) (c : Compared f g) (none : linesOf f g ≡ []) where
   same-program = stable (programOf f) (programOf g) (λ d. no-member (head program-field) (head-named f g c program-field .1 d))
 
   same-number : volumeNumberOf f ≡ volumeNumberOf g
-  same-number =
-      stable (volumeNumberOf f) (volumeNumberOf g) (λ d. no-member (head number-field) (head-named f g c number-field .1 d))
+  same-number = stable (volumeNumberOf f) (volumeNumberOf g) (λ d. no-member (head number-field) (head-named f g c number-field .1 d))
 
   same-size : dataSizeOf f ≡ dataSizeOf g
   same-size = stable (dataSizeOf f) (dataSizeOf g) (λ d. no-member (head data-field) (head-named f g c data-field .1 d))
@@ -156,8 +154,7 @@ module _ (f g : List ℕ) (c : Compared f g) (none : linesOf f g ≡ []) where
   same-entries = ext-getD [] (entriesIn f) (entriesIn g) same-count each
     where
       each : (i : ℕ) → i < length (entriesIn f) → getD (entriesIn f) i [] ≡ getD (entriesIn g) i []
-      each i h =
-          let place : i + 1 - 1 ≡ i = omega arith in
+      each i h = let place : i + 1 - 1 ≡ i = omega arith in
           same-fields _ _
           (λ e. stable-bytes _ _
           (λ d. no-member (entry (i + 1) e)
@@ -185,8 +182,7 @@ module _ (f g : List ℕ) (c : Compared f g) (none : linesOf f g ≡ []) where
       differ i h d = let r = data-named f g c i .1 (inr (h, omega (arith, same-size), d)) in no-member _ (r .listed)
 
   pub none-same : f ≡ g
-  none-same =
-      let one = read-tells f (c .accepted-one .0) (c .accepted-one .1) .tests in
+  none-same = let one = read-tells f (c .accepted-one .0) (c .accepted-one .1) .tests in
       let two = read-tells g (c .accepted-two .0) (c .accepted-two .1) .tests in
       let list : listOf f ≡ listOf g = sym (list-joined f one) ∙ ap flatten same-entries ∙ list-joined g two in
       sym (volume-again f (c .bytes-one) one)

@@ -43,15 +43,13 @@ module _ {A : Type 0} (place : A → ℕ) where
   above-all : (n : ℕ) (xs : List A) → allAbove n (map place xs) ≡ true → All (λ x. n < place x) xs
   unfolding allAbove
   above-all n [] e = all-none
-  above-all n (x ∷ xs) e =
-      let both = and-both (ltb n (place x)) (allAbove n (map place xs)) e in
+  above-all n (x ∷ xs) e = let both = and-both (ltb n (place x)) (allAbove n (map place xs)) e in
       all-more (ltb-true n (place x) (both .0)) (above-all n xs (both .1))
 
   ascending-pairwise : (xs : List A) → ascending (map place xs) ≡ true → Pairwise (λ x y. place x < place y) xs
   unfolding ascending
   ascending-pairwise [] e = pairwise-none
-  ascending-pairwise (x ∷ xs) e =
-      let both = and-both (allAbove (place x) (map place xs)) (ascending (map place xs)) e in
+  ascending-pairwise (x ∷ xs) e = let both = and-both (allAbove (place x) (map place xs)) (ascending (map place xs)) e in
       pairwise-more (above-all (place x) xs (both .0)) (ascending-pairwise xs (both .1))
 
 pairwise-map : {A : Type 0} {R Q : A → A → Type 0} {xs : List A} → ((x y : A) → R x y → Q x y) → Pairwise R xs → Pairwise Q xs
@@ -136,8 +134,7 @@ apart-after {p} (apart-more {r = r} low right later) = all-more low (all-map (λ
 
 apart-pairwise : {p : ℕ} {rs : List Run} → Apart p rs → Pairwise (λ r s. r .last + 1 < s .first) rs
 apart-pairwise apart-none = pairwise-none
-apart-pairwise (apart-more {r = r} low right later) =
-    pairwise-more {x = r} (all-map (λ s h. omega arith) (apart-after later)) (apart-pairwise later)
+apart-pairwise (apart-more {r = r} low right later) = pairwise-more {x = r} (all-map (λ s h. omega arith) (apart-after later)) (apart-pairwise later)
 
 pub apart-right : {p : ℕ} {rs : List Run} → Apart p rs → All (λ r. r .first ≤ r .last) rs
 apart-right apart-none = all-none
@@ -201,8 +198,7 @@ abbrev Right : List Line → Type 0
 Right ls = Pairwise Before ls × All RunRight ls
 
 accepted-right : (f g : List ℕ) → Right (headLines f g ++ (entryLines 1 (entriesIn f) (entriesIn g) ++ runLines (dataOf f) (dataOf g)))
-accepted-right f g =
-    let a = dataOf f in
+accepted-right f g = let a = dataOf f in
     let b = dataOf g in
     let lists = list-kind 1 (entriesIn f) (entriesIn g) in
     let after =

@@ -54,10 +54,8 @@ module _ (f g : List ℕ) (side n : ℕ) where
 
   named : (r q : Reading) → List·Memᴰ (refused side n) (linesBy r q f g) → ((side ≡ 1) × With r n) ⊎ ((side ≡ 2) × With q n)
   named (Accepted p) (Accepted q) m = absurd (accepted-none m)
-  named (Accepted p) (Refused r) m =
-      let is : refused side n ≡ refused 2 (r .number) = List·Memᴰ·eq-of-singleton m in inr (cc, (r, refl, cc))
-  named (Refused r) (Accepted p) m =
-      let is : refused side n ≡ refused 1 (r .number) = List·Memᴰ·eq-of-singleton m in inl (cc, (r, refl, cc))
+  named (Accepted p) (Refused r) m = let is : refused side n ≡ refused 2 (r .number) = List·Memᴰ·eq-of-singleton m in inr (cc, (r, refl, cc))
+  named (Refused r) (Accepted p) m = let is : refused side n ≡ refused 1 (r .number) = List·Memᴰ·eq-of-singleton m in inl (cc, (r, refl, cc))
   named (Refused r) (Refused q) m =
       ⊎-elim (λ (is : refused side n ≡ refused 1 (r .number)). inl (cc, (r, refl, cc)))
       (λ m. let is : refused side n ≡ refused 2 (q .number) = List·Memᴰ·eq-of-singleton m in inr (cc, (q, refl, cc))) (List·Memᴰ·cases-cons m)
@@ -68,10 +66,8 @@ module _ (f g : List ℕ) (side n : ℕ) where
 
   listed : (r q : Reading) → ((side ≡ 1) × With r n) ⊎ ((side ≡ 2) × With q n) → List·Memᴰ (refused side n) (linesBy r q f g)
   listed (Accepted p) (Accepted q) w = absurd (⊎-elim (λ w. never (w .1 .1)) (λ w. never (w .1 .1)) w)
-  listed (Accepted p) (Refused r) w =
-      ⊎-elim (λ w. never (w .1 .1)) (λ w. List·Memᴰ·head (line-is (w .0) (w .1 .1) (w .1 .2))) w
-  listed (Refused r) (Accepted q) w =
-      ⊎-elim (λ w. List·Memᴰ·head (line-is (w .0) (w .1 .1) (w .1 .2))) (λ w. never (w .1 .1)) w
+  listed (Accepted p) (Refused r) w = ⊎-elim (λ w. never (w .1 .1)) (λ w. List·Memᴰ·head (line-is (w .0) (w .1 .1) (w .1 .2))) w
+  listed (Refused r) (Accepted q) w = ⊎-elim (λ w. List·Memᴰ·head (line-is (w .0) (w .1 .1) (w .1 .2))) (λ w. never (w .1 .1)) w
   listed (Refused r) (Refused q) w =
       ⊎-elim (λ w. List·Memᴰ·head (line-is (w .0) (w .1 .1) (w .1 .2)))
       (λ w. List·Memᴰ·tail (List·Memᴰ·head (line-is (w .0) (w .1 .1) (w .1 .2)))) w
@@ -87,8 +83,7 @@ only : (f g : List ℕ) (n : ℕ) (r q : Reading) → With r n ⊎ With q n → 
 only f g n (Accepted p) (Accepted q) w l m = absurd (⊎-elim (λ w. never (w .1)) (λ w. never (w .1)) w)
 only f g n (Accepted p) (Refused r) w l m = (2, r .number, List·Memᴰ·eq-of-singleton m)
 only f g n (Refused r) (Accepted q) w l m = (1, r .number, List·Memᴰ·eq-of-singleton m)
-only f g n (Refused r) (Refused q) w l m =
-    ⊎-elim (λ e. (1, r .number, e)) (λ m. (2, q .number, List·Memᴰ·eq-of-singleton m)) (List·Memᴰ·cases-cons m)
+only f g n (Refused r) (Refused q) w l m = ⊎-elim (λ e. (1, r .number, e)) (λ m. (2, q .number, List·Memᴰ·eq-of-singleton m)) (List·Memᴰ·cases-cons m)
 
 pub refused-only : RefusedOnly
 unfolding linesOf

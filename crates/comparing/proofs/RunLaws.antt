@@ -42,8 +42,7 @@ with-apart p (apart-more {r = r} {rs = rs} low right later) = by (eqb (r .first)
   where
     by : (b : Bool) → eqb (r .first) (suc p) ≡ b → Apart p (cond b (runOf p (r .last) ∷ rs) (runOf p p ∷ r ∷ rs))
     by true e = apart-more {p = p} {r = runOf p (r .last)} (omega arith) (omega arith) later
-    by false e =
-        let other = eqb-false (r .first) (suc p) e in
+    by false e = let other = eqb-false (r .first) (suc p) e in
         apart-more {p = p} {r = runOf p p} (omega arith) (omega arith) (apart-more {p = p + 2} {r = r} (omega arith) right later)
 
 with-gap : (p : ℕ) {rs : List Run} → Apart (suc (suc p)) rs → withPlace p rs ≡ runOf p p ∷ rs
@@ -77,8 +76,7 @@ module _ (d : ℕ → Bool) where
   -- j places at which nothing holds
   pub skipped : (j k p : ℕ) → ((q : ℕ) → q < p + j → p ≤ q → d q ≡ false) → runsFrom d (j + k) p ≡ runsFrom d k (p + j)
   skipped zero k p h = ap₂ (runsFrom d) (omega arith) (omega arith)
-  skipped (suc j) k p h =
-      let more : suc j + k ≡ suc (j + k) = omega arith in
+  skipped (suc j) k p h = let more : suc j + k ≡ suc (j + k) = omega arith in
       let place : suc p + j ≡ p + suc j = omega arith in
       ap (λ (m : ℕ). runsFrom d m p) more ∙ runs-skip (j + k) p (h p (omega arith) (omega arith))
       ∙ skipped j k (suc p) (λ q high low. h q (omega arith) (omega arith)) ∙ ap (runsFrom d k) place
@@ -93,15 +91,13 @@ module _ (d : ℕ → Bool) where
   -- j + 1 places at which it holds
   pub joined : (j k p : ℕ) → ((q : ℕ) → q < p + suc j → p ≤ q → d q ≡ true) → (k ≡ 0) ⊎ (d (p + suc j) ≡ false)
       → runsFrom d (suc j + k) p ≡ runOf p (p + j) ∷ runsFrom d k (p + suc j)
-  joined zero k p h e =
-      let more : suc 0 + k ≡ suc k = omega arith in
+  joined zero k p h e = let more : suc 0 + k ≡ suc k = omega arith in
       let here : p + 0 ≡ p = omega arith in
       let next : p + suc 0 ≡ suc p = omega arith in
       ap (λ (m : ℕ). runsFrom d m p) more ∙ runs-with k p (h p (omega arith) (omega arith))
       ∙ with-gap p (after-run k p (rw next at e))
       ∙ ap₂ (λ (x y : ℕ). runOf p x ∷ runsFrom d k y) (sym here) (sym next)
-  joined (suc j) k p h e =
-      let more : suc (suc j) + k ≡ suc (suc j + k) = omega arith in
+  joined (suc j) k p h e = let more : suc (suc j) + k ≡ suc (suc j + k) = omega arith in
       let last : suc p + j ≡ p + suc j = omega arith in
       let next : suc p + suc j ≡ p + suc (suc j) = omega arith in
       ap (λ (m : ℕ). runsFrom d m p) more ∙ runs-with (suc j + k) p (h p (omega arith) (omega arith))
@@ -114,8 +110,7 @@ module _ (d : ℕ → Bool) where
   module _ (n from : ℕ) {first : ℕ} (f : FirstFrom d n from first) where
     pub runs-none : n ≤ first → runsFrom d (n - from) from ≡ []
     unfolding runsFrom
-    runs-none h =
-        let all : n - from ≡ n - from + 0 = omega arith in
+    runs-none h = let all : n - from ≡ n - from + 0 = omega arith in
         ap (λ (m : ℕ). runsFrom d m from) all
         ∙ skipped (n - from) 0 from (λ q high low. f .none-before q (omega arith) low)
 
@@ -126,11 +121,9 @@ module _ (d : ℕ → Bool) where
         -- the first place holds, so it is no end
         by : (first ≡ end) ⊎ (first < end)
             → (first < end) × (runsFrom d (n - from) from ≡ runOf first (end - 1) ∷ runsFrom d (n - end) end)
-        by (inl e) =
-            let here : not (d first) ≡ true = rw (sym e) at (g .found (omega arith)) in
+        by (inl e) = let here : not (d first) ≡ true = rw (sym e) at (g .found (omega arith)) in
             absurd (false≢true (sym (not-true (d first) here) ∙ f .found below))
-        by (inr after) =
-            let low = f .low in
+        by (inr after) = let low = f .low in
             let all : n - from ≡ first - from + (n - first) = omega arith in
             let some : n - first ≡ suc (end - 1 - first) + (n - end) = omega arith in
             let start : from + (first - from) ≡ first = omega arith in

@@ -44,8 +44,7 @@ pub list-kind : (k : ℕ) (es ds : List (List ℕ)) → Kind 1 (entryLines k es 
 unfolding entryLines
 list-kind k [] ds = all-kind k ds
 list-kind k (e ∷ es) [] = all-kind k (e ∷ es)
-list-kind k (e ∷ es) (d ∷ ds) =
-    all-append (all-mapped (entry k) (mem-all (differing entryTable e d) (λ x m. refl))) (list-kind (suc k) es ds)
+list-kind k (e ∷ es) (d ∷ ds) = all-append (all-mapped (entry k) (mem-all (differing entryTable e d) (λ x m. refl))) (list-kind (suc k) es ds)
 
 pub run-kind : (a b : List ℕ) → Kind 2 (runLines a b)
 unfolding runLines

@@ -13,8 +13,7 @@ use Rattle.comparing.specs.Comparing.{comparisonOf}
 pub text-append : (xs ys : List Line) → textOf (xs ++ ys) ≡ textOf xs ++ textOf ys
 unfolding flatten
 text-append [] ys = refl
-text-append (x ∷ xs) ys =
-    ap (λ (t : List ℕ). lineText x ++ t) (text-append xs ys) ∙ sym (append-assoc (lineText x) (textOf xs) (textOf ys))
+text-append (x ∷ xs) ys = ap (λ (t : List ℕ). lineText x ++ t) (text-append xs ys) ∙ sym (append-assoc (lineText x) (textOf xs) (textOf ys))
 
 pub lines-written : LinesWritten
 unfolding comparisonOf

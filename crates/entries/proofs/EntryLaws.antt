@@ -33,8 +33,7 @@ pub record Sized (n m : ℕ) : Type 0 where
 
 pub sized : (n m : ℕ) → entrySizeAllowed n m ≡ true → Sized n m
 unfolding entrySizeAllowed
-sized n m e =
-    let both = and-both (eqb (n % 2) 0 && leb 58 n) (leb n m) e in
+sized n m e = let both = and-both (eqb (n % 2) 0 && leb 58 n) (leb n m) e in
     let two = and-both (eqb (n % 2) 0) (leb 58 n) (both .0) in
     record { even = eqb-true _ _ (two .0); low = leb-true _ _ (two .1); high = leb-true _ _ (both .1) }
 
@@ -108,8 +107,7 @@ no-length s e = simp e
 entry-is : (s : List ℕ) → entryAllowed s ≡ true
     → IsEntry s (length (take (entrySize s) s)) (statusOf (take (entrySize s) s)) (fileSizeOf (take (entrySize s) s))
 unfolding lengthOf
-entry-is s e =
-    let z = allowed-sized s e in
+entry-is s e = let z = allowed-sized s e in
     let n : length (take (entrySize s) s) ≡ entrySize s = length-take-le (entrySize s) s (z .high) in
     record {
       allowed = e;
@@ -132,11 +130,9 @@ view [] = subst (View []) (sym (first-end [] refl)) (view-end refl)
 view (b ∷ s) = by (b ∷ s) (omega arith) (entryAllowed (b ∷ s)) refl
   where
     by : (s : List ℕ) → 0 < length s → (t : Bool) → t ≡ entryAllowed s → View s (firstOf s)
-    by s h true t =
-        let e : firstOf s ≡ itemOf (take (entrySize s) s) = first-some s h ∙ simp (sym t) in
+    by s h true t = let e : firstOf s ≡ itemOf (take (entrySize s) s) = first-some s h ∙ simp (sym t) in
         subst (View s) (sym e) (view-entry (entry-is s (sym t)))
-    by s h false t =
-        let e : firstOf s ≡ item.Fault (faultOf s) = first-some s h ∙ simp (sym t) in
+    by s h false t = let e : firstOf s ≡ item.Fault (faultOf s) = first-some s h ∙ simp (sym t) in
         let n : lengthOf s ≡ 0 = no-length s (sym t) in
         subst (View s) (sym e) (view-fault (record { some = h; length-zero = n; fault-is = refl }))
 
@@ -170,8 +166,7 @@ pub record EntryAt (s : List ℕ) (at n status size : ℕ) : Type 0 where
 
 pub entry-at : (s : List ℕ) (at : ℕ) {n status size : ℕ} {i : Item} → i ≡ firstOf (drop at s) → i ≡ item.Entry n status size
     → EntryAt s at n status size
-entry-at s at {n} answer e =
-    let found = is-entry (sym e ∙ answer) in
+entry-at s at {n} answer e = let found = is-entry (sym e ∙ answer) in
     record {
       entry = found;
       low = found .low;

@@ -41,8 +41,7 @@ sized-right n m even low high = simp (eq-eqb (n % 2) 0 even, le-leb 58 n low, le
 
 pub keeps-first : (s : List ℕ) → 0 < length s → 0 < lengthOf s → Keeps (take (lengthOf s) s)
 unfolding lengthOf entryAllowed bodyAllowed
-keeps-first s some found =
-    let right = length-sized s found in
+keeps-first s some found = let right = length-sized s found in
     let n-is : lengthOf s ≡ entrySize s = simp (right .0) in
     let e : List ℕ = take (entrySize s) s in
     let both = and-both (entrySizeAllowed (entrySize s) (length s)) (bodyAllowed e) (right .0) in
@@ -66,8 +65,7 @@ entries-keep = cut-all lengthOf Keeps keeps-first
 -- ---- what is left after them
 
 rest-faulty : (s : List ℕ) → 0 < length (entriesOf s .rest) → lengthOf (entriesOf s .rest) ≡ 0
-rest-faulty =
-    cut-induct lengthOf (λ s c. 0 < length (c .rest) → lengthOf (c .rest) ≡ 0) (λ h. absurd (omega arith)) (λ s e h. e) (λ s h k e. e)
+rest-faulty = cut-induct lengthOf (λ s c. 0 < length (c .rest) → lengthOf (c .rest) ≡ 0) (λ h. absurd (omega arith)) (λ s e h. e) (λ s h k e. e)
 
 breaks-first : (s : List ℕ) → lengthOf s ≡ 0 → Breaks s (faultNumber (faultOf s))
 unfolding lengthOf entryAllowed bodyAllowed faultOf
@@ -80,8 +78,7 @@ breaks-first s e =
     by false b c p q r = simp p (breaks-size p)
     by true false c p q r = simp (p, q) (breaks-file-size p q)
     by true true false p q r = simp (p, q) (breaks-name p q r)
-    by true true true p q r =
-        let z = sized (entrySize s) (length s) p in
+    by true true true p q r = let z = sized (entrySize s) (length s) p in
         let n : entrySize s ≡ 0 = simp (p, q, r) at e in absurd (omega (arith, z .low))
 
 -- and the rule is the one that the walk names
@@ -111,8 +108,7 @@ broken-first (c ∷ s) some b = (simp (not-allowed (c ∷ s) b), fault-broken (c
 
 pub kept-length : {e : List ℕ} → Keeps e → (t : List ℕ) → (lengthOf (e ++ t) ≡ length e) × (58 ≤ length e)
 unfolding lengthOf entryAllowed bodyAllowed
-kept-length {e} k t =
-    let z = sized (length e) (length e) (k .size-right) in
+kept-length {e} k t = let z = sized (length e) (length e) (k .size-right) in
     let total : length (e ++ t) ≡ length e + length t = length-append e t in
     let own : entrySize (e ++ t) ≡ length e = leAt-append 8 e t 0 (omega (arith, z .low)) ∙ k .fills in
     let size = sized-right (length e) (length (e ++ t)) (z .even) (z .low) (omega arith) in
@@ -122,8 +118,7 @@ entries-kept : {es : List (List ℕ)} → All Keeps es → (t : List ℕ) → le
     → entriesOf (flatten es ++ t) ≡ record { pieces = es; rest = t }
 unfolding flatten
 entries-kept all-none t z = cut-stop lengthOf t z
-entries-kept (all-more {x = e} {xs = es} k ks) t z =
-    let s : List ℕ = flatten es ++ t in
+entries-kept (all-more {x = e} {xs = es} k ks) t z = let s : List ℕ = flatten es ++ t in
     let n = kept-length k s in
     let some : 0 < length (e ++ s) = omega (arith, length-append e s, n .1) in
     ap (λ (l : List ℕ). entriesOf l) (append-assoc e (flatten es) t)
@@ -143,8 +138,7 @@ refused-first s r e = by (entriesOf s .rest) refl e
 
     by : (t : List ℕ) → t ≡ entriesOf s .rest → walkedTo (totalsOf es) t ≡ walked.Refused r → FirstFault s r
     by [] z e = absurd (let z : _≡_ {A = ℕ} 0 1 = cc in omega arith)
-    by (b ∷ t) z e =
-        let is : refusalAt (faultOf (b ∷ t)) (length es + 1) ≡ r = cc in
+    by (b ∷ t) z e = let is : refusalAt (faultOf (b ∷ t)) (length es + 1) ≡ r = cc in
         let some : 0 < length (entriesOf s .rest) = omega (arith, ap length z) in
         let faulty : lengthOf (b ∷ t) ≡ 0 = ap lengthOf z ∙ rest-faulty s some in
         record {
@@ -159,8 +153,7 @@ refused-first s r e = by (entriesOf s .rest) refl e
 
 first-refuses : (s : List ℕ) (r : Refusal) → FirstFault s r → walkOf s ≡ walked.Refused r
 unfolding walkOf
-first-refuses s r f =
-    let told = fault-broken (f .rest) (f .breaks) in
+first-refuses s r f = let told = fault-broken (f .rest) (f .breaks) in
     let found : entriesOf s ≡ record { pieces = f .earlier; rest = f .rest } =
     ap (λ (l : List ℕ). entriesOf l) (sym (f .joined)) ∙ entries-kept (f .keep) (f .rest) (told .0) in
     ap (λ (c : Cut). walkedTo (totalsOf (c .pieces)) (c .rest)) found

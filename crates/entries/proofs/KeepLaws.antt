@@ -31,8 +31,7 @@ module _ {A : Type 0} (f : A → Bool) (d : A) where
   pub keep-at : (xs : List A) (k : ℕ) → k < length xs → f (getD xs k d) ≡ true → KeptAt xs k (length (keep f (take k xs)))
   keep-at [] k h t = absurd (omega arith)
   keep-at (x ∷ xs) zero h t = record { element-is = simp t; within = simp t (omega arith) }
-  keep-at (x ∷ xs) (suc k) h t =
-      let r = keep-at xs k (omega arith) t in
+  keep-at (x ∷ xs) (suc k) h t = let r = keep-at xs k (omega arith) t in
       let m = kept-more (f x) x (keep f xs) (keep f (take k xs)) (getD xs k d) (r .element-is) (r .within) in
       record { element-is = m .0; within = m .1 }
 

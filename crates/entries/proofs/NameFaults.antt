@@ -63,8 +63,7 @@ module _ (f : ℕ → Bool) where
     where
       by : (b : Bool) → f u ≡ b → (each f us ≡ false → FailsAt us) → (b && each f us) ≡ false → FailsAt (u ∷ us)
       by false h later e = record { place = 0; within = omega arith; fails = h }
-      by true h later e =
-          let rest = later e in
+      by true h later e = let rest = later e in
           record { place = suc (rest .place); within = omega (arith, rest .within); fails = rest .fails }
 
   fails-each : (us : List ℕ) (k : ℕ) → k < length us → f (getD us k 0) ≡ false → each f us ≡ false
@@ -127,8 +126,7 @@ pub name-rule : NameRule
 name-rule name = (refused-name name, bad-refused name)
 
 pub names-refused : NamesRefused
-names-refused s size file-size =
-    let z = sized (entrySize s) (length s) size in
+names-refused s size file-size = let z = sized (entrySize s) (length s) size in
     let e : List ℕ = take (entrySize s) s in
     let long : length e ≡ entrySize s = length-take-le (entrySize s) s (z .high) in
     let units = name-units (nameOf e) (omega (arith, z .low, length-drop 56 e)) (omega (arith, z .low, z .even, length-drop 56 e)) in

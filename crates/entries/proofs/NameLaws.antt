@@ -38,8 +38,7 @@ module _ (s : List ℕ) (at : ℕ) where
   units-none h = units-short (drop at s) (omega (arith, length-drop at s))
 
   pub units-more : at + 2 ≤ length s → unitsOf (drop at s) ≡ leAt 2 s at ∷ unitsOf (drop (at + 2) s)
-  units-more h =
-      units-long (drop at s) (omega (arith, length-drop at s)) ∙ rw (leAt-drop, add-zero, drop-drop)
+  units-more h = units-long (drop at s) (omega (arith, length-drop at s)) ∙ rw (leAt-drop, add-zero, drop-drop)
 
 pub unit-last : (u : ℕ) → (u ≡ 0 → ⊥) → (u ≡ 47 → ⊥) → (u ≡ 58 → ⊥) → unitAllowed u ≡ not (eqb u 92)
 unfolding unitAllowed

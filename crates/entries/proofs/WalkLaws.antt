@@ -69,8 +69,7 @@ pub record EntryHere (s : List ℕ) (at n : ℕ) : Type 0 where
 
 module _ (s : List ℕ) (at : ℕ) {n : ℕ} (length-is : n ≡ lengthOf (drop at s)) where
   pub entry-here : (n ≡ 0 → ⊥) → EntryHere s at n
-  entry-here some =
-      let some : 0 < n = omega arith in
+  entry-here some = let some : 0 < n = omega arith in
       let sized = length-sized (drop at s) (omega arith) in
       let cut = cut-more lengthOf (drop at s) (omega (arith, sized .1, sized .2)) (omega arith) in
       record {
@@ -147,8 +146,7 @@ walk-start s = ap (λ (t : Totals). walkedTo t (entriesOf s .rest)) (plus-none (
 pub walk-more : (t : Totals) {s : List ℕ} {n status size : ℕ} → IsEntry s n status size
     → walkFrom (addEntry t status size) (entriesOf (drop n s)) ≡ walkFrom t (entriesOf s)
 unfolding walkFrom
-walk-more t {s} {n} {status} {size} i =
-    let rest : Cut = entriesOf (drop n s) in
+walk-more t {s} {n} {status} {size} i = let rest : Cut = entriesOf (drop n s) in
     let e : List ℕ = take n s in
     ap₂ (λ (x y : ℕ). walkFrom (addEntry t x y) rest) (i .status-is) (i .size-is)
     ∙ ap (λ (u : Totals). walkedTo u (rest .rest)) (plus-entry t e (rest .pieces))
@@ -166,8 +164,7 @@ stopped t (b ∷ s) h = refl
 
 pub walk-fault : (t : Totals) {s : List ℕ} {f : Fault} → IsFault s f → walkFrom t (entriesOf s) ≡ walked.Refused (refusalAt f (t .entries + 1))
 unfolding walkFrom
-walk-fault t {s} i =
-    let place : t .entries + 0 + 1 ≡ t .entries + 1 = omega arith in
+walk-fault t {s} i = let place : t .entries + 0 + 1 ≡ t .entries + 1 = omega arith in
     ap (walkFrom t) (cut-stop lengthOf s (i .length-zero)) ∙ stopped _ s (i .some)
     ∙ ap₂ (λ (f : Fault) (p : ℕ). walked.Refused (refusalAt f p)) (sym (i .fault-is)) place
 
@@ -191,8 +188,7 @@ module _ (s : List ℕ) {t : Totals} (e : walkOf s ≡ walked.Entries t) where
 -- ---- a walk to a fault
 
 pub entries-long : (s : List ℕ) → All (λ e. 58 ≤ length e) (entriesOf s .pieces)
-entries-long =
-    cut-all lengthOf (λ e. 58 ≤ length e) (λ s h k. let z = length-sized s k in omega (arith, z .1, length-take-le (lengthOf s) s (z .2)))
+entries-long = cut-all lengthOf (λ e. 58 ≤ length e) (λ s h k. let z = length-sized s k in omega (arith, z .1, length-take-le (lengthOf s) s (z .2)))
 
 pub entries-most : (s : List ℕ) → length (entriesOf s .pieces) * 58 ≤ length s
 entries-most =
@@ -216,8 +212,7 @@ walk-refused s {r} e = by (entriesOf s .rest) e
   where
     by : (t : List ℕ) → walkedTo (totalsOf (entriesOf s .pieces)) t ≡ walked.Refused r → WalkRefused s r
     by [] e = absurd (let z : _≡_ {A = ℕ} 0 1 = cc in omega arith)
-    by (b ∷ t) e =
-        let f : Fault = faultOf (b ∷ t) in
+    by (b ∷ t) e = let f : Fault = faultOf (b ∷ t) in
         let is : refusalAt f (length (entriesOf s .pieces) + 1) ≡ r = cc in
         let number : faultNumber f ≡ r .number = ap (λ (r : Refusal). r .number) is in
         let place : length (entriesOf s .pieces) + 1 ≡ r .place = ap (λ (r : Refusal). r .place) is in

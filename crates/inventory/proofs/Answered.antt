@@ -36,8 +36,7 @@ module _ (rules : Code → ℕ → ℕ → ℕ) (small : (c : Code) (f v : ℕ) 
     where
       go : (b : Bool) → isFile (s .n) f ≡ b → QueryAnswered s f room
       go false e = (answer.Refused 10, room, query-out-of-range rules s valid f room e)
-      go true e =
-          let l = oneTo-inside (s .n) f e in
+      go true e = let l = oneTo-inside (s .n) f e in
           let b = few-files s valid in
           let (r, room′, a) = answers-there (rules (s .code)) (s .n) (s .files) (s .volumes) (s .nonempty) (f - 1) (omega arith) room in
           (r, room′, query-answered rules small s valid room f e r room′ a)
@@ -55,15 +54,13 @@ module _ (rules : Code → ℕ → ℕ → ℕ) (small : (c : Code) (f v : ℕ) 
   unfolding Step
   call-answered s (change c k) = (_, _, (refl, refl))
   call-answered s count = (_, _, (refl, refl))
-  call-answered s (query f room) =
-      let (a, room′, Q) = any-answered s f room in
+  call-answered s (query f room) = let (a, room′, Q) = any-answered s f room in
       (_, _, (a, room′, Q, refl, refl))
 
   pub answered-for : AnsweredFor rules
   unfolding Run
   answered-for s [] = ([], s, refl)
-  answered-for s (c ∷ cs) =
-      let (r, s₁, D) = call-answered s c in
+  answered-for s (c ∷ cs) = let (r, s₁, D) = call-answered s c in
       let (rs, e, R) = answered-for s₁ cs in
       (r ∷ rs, e, (s₁, D, R))
 

@@ -123,8 +123,7 @@ module _ (rules : Code → ℕ → ℕ → ℕ) (small : (c : Code) (f v : ℕ) 
   all-agree [] away t q off fits (x ∷ r) r′ g g′ = absurd g
   all-agree (c ∷ cs) away t q off fits [] r′ g g′ = absurd g
   all-agree (c ∷ cs) away t q off fits (x ∷ r) [] g g′ = absurd g′
-  all-agree (c ∷ cs) away t q off fits (x ∷ r) (x′ ∷ r′) (g, h) (g′, h′) =
-      let here = away c (List·Memᴰ·head refl) in
+  all-agree (c ∷ cs) away t q off fits (x ∷ r) (x′ ∷ r′) (g, h) (g′, h′) = let here = away c (List·Memᴰ·head refl) in
       let b = next-beside v t q off c here in (
         agrees v t q off rules small fits c here x x′ g g′,
         all-agree cs (λ d m. away d (List·Memᴰ·tail m)) (next t c) (next (beside t q) c .quarantined) (b .off₁)

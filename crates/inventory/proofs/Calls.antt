@@ -60,8 +60,7 @@ next-same t (query f room) = record { same-n = refl; same-size = refl; same-code
 pub after-same : (t : State) (cs : List Call) → Same t (after t cs)
 unfolding after
 after-same t [] = record { same-n = refl; same-size = refl; same-code = refl }
-after-same t (c ∷ cs) =
-    let one = next-same t c in
+after-same t (c ∷ cs) = let one = next-same t c in
     let more = after-same (next t c) cs in
     record { same-n = more .same-n ∙ one .same-n; same-size = more .same-size ∙ one .same-size; same-code = more .same-code ∙ one .same-code }
 
@@ -157,8 +156,7 @@ module _ (rules : Code → ℕ → ℕ → ℕ) (small : (c : Code) (f v : ℕ) 
   unfolding Gives
   gives-one t l (change c k) r r′ p q = p ∙ sym q
   gives-one t l count r r′ p q = p ∙ sym q
-  gives-one t l (query f room) r r′ p q =
-      query-one (rules (t .code)) (small (t .code)) t l f room (isFile (t .n) f) (t .files f) r r′ p q
+  gives-one t l (query f room) r r′ p q = query-one (rules (t .code)) (small (t .code)) t l f room (isFile (t .n) f) (t .files f) r r′ p q
 
   pub givesAll-one : (t : State) → t .n ≤ 254 → (cs : List Call) (r r′ : List Reply) → GivesAll rules t cs r → GivesAll rules t cs r′ → r ≡ r′
   unfolding GivesAll

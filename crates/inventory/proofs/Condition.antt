@@ -41,8 +41,7 @@ unfolding Run GivesAll after
 sound rules size t s [] [] e R q = (tt, subst (Represents size t) q R)
 sound rules size t s [] (r ∷ rs) e R q = absurd q
 sound rules size t s (c ∷ cs) [] e R q = absurd q
-sound rules size t s (c ∷ cs) (r ∷ rs) e R (s₁, d, q) =
-    let m : Gives rules t c r × Represents size (next t c) s₁ = meets rules size t s c r s₁ R d in
+sound rules size t s (c ∷ cs) (r ∷ rs) e R (s₁, d, q) = let m : Gives rules t c r × Represents size (next t c) s₁ = meets rules size t s c r s₁ R d in
     let h : GivesAll rules (next t c) cs rs × Represents size (after (next t c) cs) e =
     sound rules size (next t c) s₁ cs rs e (m .1) q in
     ((m .0, h .0), h .1)
@@ -51,18 +50,15 @@ module _ (rule : ℕ → ℕ → ℕ) (small : (f v : ℕ) → f < 256 → rule 
   -- what the model's reply to a query about a missing file says
   pub missing-exactly : (t : State) (f : ℕ) (room : List ℕ) → 255 ≤ length room → (number : ℕ) (room′ : List ℕ) (r : Reply) → r ≡ queried number room′
       → GivesMissing rule t f room r → (number ≡ 0) ↔ Recoverable rule t f
-  missing-exactly t f room l number room′ r e (undetermined q) =
-      let n : number ≡ 12 = cc in (λ z. absurd (omega arith), λ y. absurd (q y))
+  missing-exactly t f room l number room′ r e (undetermined q) = let n : number ≡ 12 = cc in (λ z. absurd (omega arith), λ y. absurd (q y))
   missing-exactly t f room l number room′ r e (noRoom y b) = absurd (omega arith)
-  missing-exactly t f room l number room′ r e (recoverable y b w W) =
-      let n : number ≡ 0 = cc in (λ z. y, λ z. n)
+  missing-exactly t f room l number room′ r e (recoverable y b w W) = let n : number ≡ 0 = cc in (λ z. y, λ z. n)
 
   missing-weights : (t : State) (f : ℕ) (room room′ : List ℕ) (r : Reply) → r ≡ queried 0 room′
       → GivesMissing rule t f room r → IsWeights rule t f (take 255 room′)
   missing-weights t f room room′ r e (undetermined q) = let z : _≡_ {A = ℕ} 0 12 = cc in absurd (omega arith)
   missing-weights t f room room′ r e (noRoom y b) = let z : _≡_ {A = ℕ} 0 14 = cc in absurd (omega arith)
-  missing-weights t f room room′ r e (recoverable y b w W) =
-      let z : room′ ≡ w ++ drop 255 room = cc in
+  missing-weights t f room room′ r e (recoverable y b w W) = let z : room′ ≡ w ++ drop 255 room = cc in
       subst (IsWeights rule t f) (sym (ap (take 255) z ∙ take-at w (drop 255 room) 255 (W .places))) W
 
   -- following the weights of any file, by its number
@@ -70,15 +66,13 @@ module _ (rule : ℕ → ℕ → ℕ) (small : (f v : ℕ) → f < 256 → rule 
       → (w : List ℕ) → IsWeights rule t f w → (fragment : ℕ → List ℕ) → ComeFrom rule t X fragment
       → (ks : List ℕ) → Once (present t) ks → mulAddAll (place w) fragment ks (replicate (t .size f) 0) ≡ X f
   follow-file t l X hX zero r m w W fragment from ks once = absurd (not-suc-le-zero (oneTo-inside (t .n) zero r .0))
-  follow-file t l X hX (suc f) r m w W fragment from ks once =
-      follow rule small t l X hX f (oneTo-inside (t .n) (suc f) r .1) m w W fragment from ks once
+  follow-file t l X hX (suc f) r m w W fragment from ks once = follow rule small t l X hX f (oneTo-inside (t .n) (suc f) r .1) m w W fragment from ks once
 
 -- ---- after an accepted opening and calls
 
 module _ (d : Code) (n : ℕ) (sizes : List ℕ) (cs : List Call) where
   pub calls-fit : openStep d n sizes .number ≡ 0 → stateAfter d n sizes cs .n ≤ 254
-  calls-fit accepted =
-      subst (λ (k : ℕ). k ≤ 254) (sym (after-same (opened d n (sizeIn sizes)) cs .same-n)) (opened-represents d n sizes accepted .0)
+  calls-fit accepted = subst (λ (k : ℕ). k ≤ 254) (sym (after-same (opened d n (sizeIn sizes)) cs .same-n)) (opened-represents d n sizes accepted .0)
 
   pub calls-file : (f : ℕ) → isFile n f ≡ true → isFile (stateAfter d n sizes cs .n) f ≡ true
   calls-file f r = subst (λ (k : ℕ). isFile k f ≡ true) (sym (after-same (opened d n (sizeIn sizes)) cs .same-n)) r
@@ -86,8 +80,7 @@ module _ (d : Code) (n : ℕ) (sizes : List ℕ) (cs : List Call) where
 module _ (rules : Code → ℕ → ℕ → ℕ) (d : Code) (n : ℕ) (sizes : List ℕ) (accepted : openStep d n sizes .number ≡ 0) (cs : List Call)
     (rs : List Reply) (s : Inventory) (run : Run rules (openStep d n sizes .next) cs rs s) where
   pub calls-sound : GivesAll rules (opened d n (sizeIn sizes)) cs rs × Represents (sizeIn sizes) (stateAfter d n sizes cs) s
-  calls-sound =
-      sound rules (sizeIn sizes) (opened d n (sizeIn sizes)) (openStep d n sizes .next) cs rs s (opened-represents d n sizes accepted .1) run
+  calls-sound = sound rules (sizeIn sizes) (opened d n (sizeIn sizes)) (openStep d n sizes .next) cs rs s (opened-represents d n sizes accepted .1) run
 
   pub asked : (f : ℕ) → isFile n f ≡ true → stateAfter d n sizes cs .files f ≡ false
       → (room : List ℕ) (r : Reply) (e : Inventory) → Step rules s (query f room) r e → GivesMissing (rules d) (stateAfter d n sizes cs) f room r

@@ -78,8 +78,7 @@ some-matches s f h = go (member (s .nonempty) f)
     go false = refl
 
 same-reply : (k k′ : ℕ) (a b : List ℕ) → queried k a ≡ queried k′ b → (k ≡ k′) × (a ≡ b)
-same-reply k k′ a b e =
-    let n : k ≡ k′ = cc in
+same-reply k k′ a b e = let n : k ≡ k′ = cc in
     let r : a ≡ b = cc in
     (n, r)
 

@@ -86,8 +86,7 @@ nonempty-member sizes (suc k) l f =
 pub opened-represents : (d : Code) (n : ℕ) (sizes : List ℕ) → openStep d n sizes .number ≡ 0
     → (n ≤ 254) × Represents (sizeIn sizes) (opened d n (sizeIn sizes)) (openStep d n sizes .next)
 unfolding openStep
-opened-represents d n sizes e =
-    go (oneTo 254 n && eqb (length sizes) n) refl (allBelow n (λ i. leb (getD sizes i 0) 16777216)) e
+opened-represents d n sizes e = go (oneTo 254 n && eqb (length sizes) n) refl (allBelow n (λ i. leb (getD sizes i 0) 16777216)) e
   where
     none : (m : ℕ) → m ≤ 255 → IsSet m (replicate 4 0) (λ k. false)
     none m l = record {
@@ -101,8 +100,7 @@ opened-represents d n sizes e =
         → cond a (cond b (outcome (fresh d n sizes) 0) (refusedOpening 1)) (refusedOpening 10) .number ≡ 0
         → (n ≤ 254) × Represents (sizeIn sizes) (opened d n (sizeIn sizes))
         (cond a (cond b (outcome (fresh d n sizes) 0) (refusedOpening 1)) (refusedOpening 10) .next)
-    go true p true z =
-        let r = and-both (oneTo 254 n) (eqb (length sizes) n) p .0 in
+    go true p true z = let r = and-both (oneTo 254 n) (eqb (length sizes) n) p .0 in
         let l = oneTo-inside 254 n r .1 in (
           l,
           represents r (none n (omega arith)) (none (255 - n) (omega arith)) (none (255 - n) (omega arith)) (λ k h. refl)

@@ -60,8 +60,7 @@ module _ (rule : ℕ → ℕ → ℕ) (t : State) (f : ℕ) (room : List ℕ) (v
   query-not-29 : (inRange has : Bool) → GivesQuery rule t f room inRange has (reply 29 values) → ⊥
   query-not-29 false has g = let z : _≡_ {A = ℕ} 10 29 = cc in omega arith
   query-not-29 true true g = let z : _≡_ {A = ℕ} 13 29 = cc in omega arith
-  query-not-29 true false g =
-      missing-not rule t f room 29 values (λ z. omega arith) (λ z. omega arith) (λ z. omega arith) (reply 29 values) refl g
+  query-not-29 true false g = missing-not rule t f room 29 values (λ z. omega arith) (λ z. omega arith) (λ z. omega arith) (reply 29 values) refl g
 
 -- ---- every call
 
@@ -71,11 +70,9 @@ module _ (rules : Code → ℕ → ℕ → ℕ) (t : State) where
 
   gives-29 : (c : Call) (k : ℕ) (values : List ℕ) → Gives rules t c (reply k values) → (k ≡ 29) ↔ AddsOther (t .code) (t .n) c
   unfolding Gives AddsOther numberOf
-  gives-29 (change addFile f) k values g =
-      (λ e. added-not-29 (isFile (t .n) f) (t .files f) (sym (number-is k _ values g) ∙ e), λ z. absurd z)
+  gives-29 (change addFile f) k values g = (λ e. added-not-29 (isFile (t .n) f) (t .files f) (sym (number-is k _ values g) ∙ e), λ z. absurd z)
   gives-29 (change removeFile f) k values g = (λ e. not-29 (isFile (t .n) f) (t .files f) (sym (number-is k _ values g) ∙ e), λ z. absurd z)
-  gives-29 (change (addVolume c) v) k values g =
-      let same = number-is k (numberOf t (addVolume c) v) values g in
+  gives-29 (change (addVolume c) v) k values g = let same = number-is k (numberOf t (addVolume c) v) values g in
       (λ e. other-29 t c v .0 (sym same ∙ e), λ h. same ∙ other-29 t c v .1 h)
   gives-29 (change removeVolume v) k values g =
       (λ e. not-29 (isVolume (t .n) v) (t .volumes v || t .quarantined v) (sym (number-is k _ values g) ∙ e), λ z. absurd z)
@@ -89,8 +86,7 @@ module _ (rules : Code → ℕ → ℕ → ℕ) (t : State) where
   )
 
 pub other-code-refused-for : (rules : Code → ℕ → ℕ → ℕ) → OtherCodeRefusedFor rules
-other-code-refused-for rules d n sizes well cs rs s run c k values e step =
-    let size : ℕ → ℕ = sizeIn sizes in
+other-code-refused-for rules d n sizes well cs rs s run c k values e step = let size : ℕ → ℕ = sizeIn sizes in
     let start : State = opened d n size in
     let R = calls-sound rules d n sizes well cs rs s run .1 in
     subst (λ (m : ℕ). (k ≡ 29) ↔ AddsOther d m c) (after-same start cs .same-n)

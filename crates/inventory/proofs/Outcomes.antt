@@ -94,13 +94,11 @@ module _ (d : Code) (n : ℕ) (sizes : List ℕ) where
 
     pub open-too-large : (k : ℕ) → k < n → 16777216 < getD sizes k 0 → refusedOpening 1 ≡ openStep d n sizes
     unfolding openStep
-    open-too-large k l h =
-        sym (ap₂ (opening d n sizes) counted (all-false n (fits sizes) k l (lt-leb (getD sizes k 0) 16777216 h)))
+    open-too-large k l h = sym (ap₂ (opening d n sizes) counted (all-false n (fits sizes) k l (lt-leb (getD sizes k 0) 16777216 h)))
 
     pub open-accepted : ((k : ℕ) → k < n → getD sizes k 0 ≤ 16777216) → outcome (fresh d n sizes) 0 ≡ openStep d n sizes
     unfolding openStep
-    open-accepted h =
-        sym (ap₂ (opening d n sizes) counted (all-true n (fits sizes) (λ k l. le-leb (getD sizes k 0) 16777216 (h k l))))
+    open-accepted h = sym (ap₂ (opening d n sizes) counted (all-true n (fits sizes) (λ k l. le-leb (getD sizes k 0) 16777216 (h k l))))
 
 -- ---- the loop of opening
 

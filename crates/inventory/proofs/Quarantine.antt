@@ -81,8 +81,7 @@ module _ (t : State) (v : ℕ) where
   -- elsewhere the same is quarantined after both
   quarantine-off : Off v (insert v (t .quarantined)) (changed removeVolume t v)
   unfolding changed
-  quarantine-off u n =
-      ap (λ (b : Bool). b || t .quarantined u) (ne-eqb u v n) ∙ sym (ap (λ (b : Bool). not b && t .quarantined u) (ne-eqb u v n))
+  quarantine-off u n = ap (λ (b : Bool). b || t .quarantined u) (ne-eqb u v n) ∙ sym (ap (λ (b : Bool). not b && t .quarantined u) (ne-eqb u v n))
 
   -- after removal and addition all is as after release
   release-same : changed (addVolume (t .code)) (changed removeVolume t v) v ≡ changed release t v
@@ -98,8 +97,7 @@ module _ (rules : Code → ℕ → ℕ → ℕ) (small : (c : Code) (f v : ℕ) 
       → GivesAll rules t (change quarantine v ∷ more) (numbered 0 ∷ r) → GivesAll rules t (change removeVolume v ∷ more) (numbered k ∷ r′)
       → (k ≡ 0) × AllAgree more r r′
   unfolding Gives GivesAll changed
-  removal-agrees more away k r r′ (a, g) (b, h) =
-      let accepted = sym (number-is 0 (numberOf t quarantine v) a) in
+  removal-agrees more away k r r′ (a, g) (b, h) = let accepted = sym (number-is 0 (numberOf t quarantine v) a) in
       let removed = quarantine-accepted t v accepted in (
         number-is k (numberOf t removeVolume v) b ∙ removed,
         all-agree rules small v more away (changed removeVolume t v) (insert v (t .quarantined)) (quarantine-off t v) fits r r′
@@ -111,8 +109,7 @@ module _ (rules : Code → ℕ → ℕ → ℕ) (small : (c : Code) (f v : ℕ) 
       → GivesAll rules t (change removeVolume v ∷ change (addVolume (t .code)) v ∷ more) (numbered j ∷ numbered k ∷ r′)
       → (j ≡ 0) × (k ≡ 0) × (r ≡ r′)
   unfolding Gives GivesAll changed
-  adding-same more j k r r′ (a, g) (b, rest) =
-      let accepted = sym (number-is 0 (numberOf t release v) a) in
+  adding-same more j k r r′ (a, g) (b, rest) = let accepted = sym (number-is 0 (numberOf t release v) a) in
       let (removed, added) = release-accepted t v accepted in
       let u : State = changed removeVolume t v in
       let (d, h) = subst (λ (x : State). GivesAll rules x (change (addVolume (t .code)) v ∷ more) (numbered k ∷ r′)) (next-accepted t v removeVolume removed) rest in (
@@ -174,8 +171,7 @@ module _ (rules : Code → ℕ → ℕ → ℕ) (t : State) (v : ℕ) (r r′ : 
   quarantine-refuses : GivesAll rules t (change quarantine v ∷ change (addVolume (t .code)) v ∷ change quarantine v ∷ []) (numbered 0 ∷ r ∷ r′ ∷ [])
       → (r ≡ numbered 27) × (r′ ≡ numbered 11)
   unfolding changed inRange
-  quarantine-refuses g =
-      let accepted = first-accepted quarantine _ _ g in
+  quarantine-refuses g = let accepted = first-accepted quarantine _ _ g in
       let ranged = accepted-tests t quarantine v accepted .0 in
       let u : State = changed quarantine t v in
       let noted = quarantined-27 u v ranged (insert-here (t .quarantined) v) in
@@ -185,8 +181,7 @@ module _ (rules : Code → ℕ → ℕ → ℕ) (t : State) (v : ℕ) (r r′ : 
   removal-refuses : GivesAll rules t (change removeVolume v ∷ change quarantine v ∷ change release v ∷ []) (numbered 0 ∷ r ∷ r′ ∷ [])
       → (r ≡ numbered 11) × (r′ ≡ numbered 11)
   unfolding changed inRange
-  removal-refuses g =
-      let accepted = first-accepted removeVolume _ _ g in
+  removal-refuses g = let accepted = first-accepted removeVolume _ _ g in
       let ranged = accepted-tests t removeVolume v accepted .0 in
       let u : State = changed removeVolume t v in
       let aside = not-present-11 u v ranged (remove-here (t .volumes) v) in
@@ -196,8 +191,7 @@ module _ (rules : Code → ℕ → ℕ → ℕ) (t : State) (v : ℕ) (r r′ : 
   release-once : GivesAll rules t (change quarantine v ∷ change release v ∷ change release v ∷ []) (numbered 0 ∷ r ∷ r′ ∷ [])
       → (r ≡ numbered 0) × (r′ ≡ numbered 11)
   unfolding changed inRange
-  release-once g =
-      let accepted = first-accepted quarantine _ _ g in
+  release-once g = let accepted = first-accepted quarantine _ _ g in
       let ranged = accepted-tests t quarantine v accepted .0 in
       let u : State = changed quarantine t v in
       let back = quarantined-0 u v ranged (insert-here (t .quarantined) v) in
@@ -208,8 +202,7 @@ module _ (rules : Code → ℕ → ℕ → ℕ) (t : State) (v : ℕ) (r r′ : 
   removal-once : GivesAll rules t (change quarantine v ∷ change removeVolume v ∷ change removeVolume v ∷ []) (numbered 0 ∷ r ∷ r′ ∷ [])
       → (r ≡ numbered 0) × (r′ ≡ numbered 11)
   unfolding changed inRange
-  removal-once g =
-      let accepted = first-accepted quarantine _ _ g in
+  removal-once g = let accepted = first-accepted quarantine _ _ g in
       let ranged = accepted-tests t quarantine v accepted .0 in
       let u : State = changed quarantine t v in
       let w : State = changed removeVolume u v in
@@ -223,27 +216,23 @@ module _ (rules : Code → ℕ → ℕ → ℕ) (t : State) (v : ℕ) (r r′ : 
 module _ (rules : Code → ℕ → ℕ → ℕ) (s : Inventory) (given : Given rules s) where
   -- the state that the inventory stands for, of files of some sizes
   stands : (size : ℕ → ℕ) × Represents size (stateOf s size) s
-  stands =
-      let (d, n, sizes, cs, rs, well, run) = given in
+  stands = let (d, n, sizes, cs, rs, well, run) = given in
       let size : ℕ → ℕ = sizeIn sizes in
       let R = calls-sound rules d n sizes well cs rs s run .1 in
       (size, subst (λ (t : State). Represents size t s) (R .state) R)
 
 pub quarantine-as-removal-for : (rules : Code → ℕ → ℕ → ℕ) → ((c : Code) (f v : ℕ) → f < 256 → rules c f v < 256) → QuarantineAsRemovalFor rules
-quarantine-as-removal-for rules small s given v more away k r r′ e e′ run run′ =
-    let (size, R) = stands rules s given in
+quarantine-as-removal-for rules small s given v more away k r r′ e e′ run run′ = let (size, R) = stands rules s given in
     removal-agrees rules small (stateOf s size) (few-files s (R .valid)) v more away k r r′ (sound rules size (stateOf s size) s _ _ e R run .0)
     (sound rules size (stateOf s size) s _ _ e′ R run′ .0)
 
 pub release-as-adding-for : (rules : Code → ℕ → ℕ → ℕ) → ((c : Code) (f v : ℕ) → f < 256 → rules c f v < 256) → ReleaseAsAddingFor rules
-release-as-adding-for rules small s given v more j k r r′ e e′ run run′ =
-    let (size, R) = stands rules s given in
+release-as-adding-for rules small s given v more j k r r′ e e′ run run′ = let (size, R) = stands rules s given in
     adding-same rules small (stateOf s size) (few-files s (R .valid)) v more j k r r′ (sound rules size (stateOf s size) s _ _ e R run .0)
     (sound rules size (stateOf s size) s _ _ e′ R run′ .0)
 
 pub quarantine-refusals-for : (rules : Code → ℕ → ℕ → ℕ) → QuarantineRefusalsFor rules
-quarantine-refusals-for rules s given v r r′ e =
-    let (size, R) = stands rules s given in
+quarantine-refusals-for rules s given v r r′ e = let (size, R) = stands rules s given in
     let t : State = stateOf s size in (
       λ run. quarantine-refuses rules t v r r′ (sound rules size t s _ _ e R run .0),
       λ run. removal-refuses rules t v r r′ (sound rules size t s _ _ e R run .0),

@@ -62,8 +62,7 @@ module _ (rules : Code → ℕ → ℕ → ℕ) (t : State) (v : ℕ) (r r′ : 
 
     quarantine-counts : GivesAll rules t (count ∷ change quarantine v ∷ count ∷ []) (r ∷ numbered 0 ∷ r′ ∷ []) → OneAside r r′
     unfolding numberOf changed
-    quarantine-counts g =
-        let accepted = between-accepted quarantine g in
+    quarantine-counts g = let accepted = between-accepted quarantine g in
         let (ranged, has) = tests-passed (isVolume (t .n) v) (t .volumes v) accepted in
         let l = volume-byte (t .n) v ranged in
         let (before, behind) = between-counts quarantine (numbered 0) accepted g in (
@@ -78,8 +77,7 @@ module _ (rules : Code → ℕ → ℕ → ℕ) (t : State) (v : ℕ) (r r′ : 
 
     release-counts : GivesAll rules t (count ∷ change release v ∷ count ∷ []) (r ∷ numbered 0 ∷ r′ ∷ []) → OneAside r′ r
     unfolding numberOf changed
-    release-counts g =
-        let accepted = between-accepted release g in
+    release-counts g = let accepted = between-accepted release g in
         let (ranged, has) = tests-passed (isVolume (t .n) v) (t .quarantined v) accepted in
         let l = volume-byte (t .n) v ranged in
         let (before, behind) = between-counts release (numbered 0) accepted g in (
@@ -95,8 +93,7 @@ module _ (rules : Code → ℕ → ℕ → ℕ) (t : State) (v : ℕ) (r r′ : 
     removal-counts : t .quarantined v ≡ true → (a : Reply)
         → GivesAll rules t (count ∷ change removeVolume v ∷ count ∷ []) (r ∷ a ∷ r′ ∷ []) → (a ≡ numbered 0) × OneGone r r′
     unfolding changed
-    removal-counts q a g =
-        let ranged = h .quarantined v q in
+    removal-counts q a g = let ranged = h .quarantined v q in
         let l = volume-byte (t .n) v ranged in
         let gone = aside-only q in
         let accepted = aside-removed-0 t v ranged gone q in
@@ -115,8 +112,7 @@ module _ (rules : Code → ℕ → ℕ → ℕ) (t : State) (v : ℕ) (r r′ : 
 -- ---- the claim
 
 pub quarantine-counted-for : (rules : Code → ℕ → ℕ → ℕ) → QuarantineCountedFor rules
-quarantine-counted-for rules d n sizes well cs rs s run v r r′ e =
-    let size : ℕ → ℕ = sizeIn sizes in
+quarantine-counted-for rules d n sizes well cs rs s run v r r′ e = let size : ℕ → ℕ = sizeIn sizes in
     let t : State = after (opened d n size) cs in
     let R = calls-sound rules d n sizes well cs rs s run .1 in
     let h = after-ranged (opened d n size) cs (opened-ranged d n size) in (

@@ -53,14 +53,12 @@ not-refused-recoverable k e = let z : _≡_ {A = ℕ} 0 1 = cc in absurd (omega 
 module _ (rules : Code → ℕ → ℕ → ℕ) where
   pub query-no-inventory : (s : Inventory) (f : ℕ) (room : List ℕ) → isInventory s ≡ false → Queried rules s f room (answer.Refused 10) room
   unfolding answerNumber
-  query-no-inventory s f room e =
-      record { first = λ _. refl; as-model = λ v. absurd (true≢false (sym v ∙ e)); refusal = refused-out-of-range }
+  query-no-inventory s f room e = record { first = λ _. refl; as-model = λ v. absurd (true≢false (sym v ∙ e)); refusal = refused-out-of-range }
 
   answered : {s : Inventory} {f : ℕ} {room : List ℕ} {r : Answer} {room′ : List ℕ} → isInventory s ≡ true → Refusal r
       → ((size : ℕ → ℕ) → Matches s size → Gives rules (stateOf s size) (query f room) (queried (answerNumber r) room′))
       → Queried rules s f room r room′
-  answered valid refusal gives =
-      record { first = λ e. absurd (true≢false (sym valid ∙ e)); as-model = λ _. gives; refusal = refusal }
+  answered valid refusal gives = record { first = λ e. absurd (true≢false (sym valid ∙ e)); as-model = λ _. gives; refusal = refusal }
 
   module _ (s : Inventory) (valid : isInventory s ≡ true) (f : ℕ) (room : List ℕ) where
     as-model : (size : ℕ → ℕ) (inRange has : Bool) (r : Reply) → isFile (s .n) f ≡ inRange → member (s .files) f ≡ has
@@ -72,8 +70,7 @@ module _ (rules : Code → ℕ → ℕ → ℕ) where
 
     pub query-out-of-range : isFile (s .n) f ≡ false → Queried rules s f room (answer.Refused 10) room
     unfolding answerNumber
-    query-out-of-range e =
-        answered valid refused-out-of-range (λ size matches. as-model size false (member (s .files) f) (queried 10 room) e refl refl)
+    query-out-of-range e = answered valid refused-out-of-range (λ size matches. as-model size false (member (s .files) f) (queried 10 room) e refl refl)
 
 -- ---- any other
 
@@ -128,7 +125,6 @@ module _ (rules : Code → ℕ → ℕ → ℕ) (bytes : (c : Code) (f v : ℕ) 
         (recoverable (recovers size matches m ws F) l (take 255 room′) (weighs size matches m ws F l room′ W))))
 
   pub query-answered : (f : ℕ) → isFile (s .n) f ≡ true → (r : Answer) (room′ : List ℕ) → AnswerTo (f - 1) r room′ → Queried rules s f room r room′
-  query-answered f inRange r room′ a =
-      let l = oneTo-inside (s .n) f inRange in
+  query-answered f inRange r room′ a = let l = oneTo-inside (s .n) f inRange in
       let z : suc (f - 1) ≡ f = omega arith in
       subst (λ (k : ℕ). Queried rules s k room r room′) z (at-file (f - 1) (ap (isFile (s .n)) z ∙ inRange) r room′ a)

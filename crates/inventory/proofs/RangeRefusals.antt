@@ -45,8 +45,7 @@ range-exactly n quarantine v = outside-exactly (255 - n) v
 range-exactly n release v = outside-exactly (255 - n) v
 
 pub change-10 : (t : State) (c : Change) (k : ℕ) → (numberOf t c k ≡ 10) ↔ OutOfRange (t .n) (change c k)
-change-10 t c k =
-    let is = model-number t c k in
+change-10 t c k = let is = model-number t c k in
     let ten =
     number-10 (inRange c (t .n) k) (ofOtherCode c (t .code)) (whileQuarantined c (t .quarantined) k)
     (already c (t .files) (t .volumes) (t .quarantined) k) in
@@ -71,19 +70,16 @@ query-10 rule t f room k values true false g = (
 gives-10 : (rules : Code → ℕ → ℕ → ℕ) (t : State) (c : Call) (k : ℕ) (values : List ℕ) → Gives rules t c (reply k values)
     → (k ≡ 10) ↔ OutOfRange (t .n) c
 unfolding Gives OutOfRange
-gives-10 rules t (change c j) k values g =
-    let is : k ≡ numberOf t c j = cc in
+gives-10 rules t (change c j) k values g = let is : k ≡ numberOf t c j = cc in
     let ten = change-10 t c j in
     (λ e. ten .0 (sym is ∙ e), λ o. is ∙ ten .1 o)
 gives-10 rules t count k values g = let is : k ≡ 0 = cc in (λ e. omega arith, λ z. absurd z)
-gives-10 rules t (query f room) k values g =
-    let ten = query-10 (rules (t .code)) t f room k values (isFile (t .n) f) (t .files f) g in
+gives-10 rules t (query f room) k values g = let ten = query-10 (rules (t .code)) t f room k values (isFile (t .n) f) (t .files f) g in
     let out = outside-exactly (t .n) f in
     (λ e. out .0 (ten .0 e), λ o. ten .1 (out .1 o))
 
 pub range-refused-for : (rules : Code → ℕ → ℕ → ℕ) → RangeRefusedFor rules
-range-refused-for rules d n sizes well cs rs s run c k values e step =
-    let start : State = opened d n (sizeIn sizes) in
+range-refused-for rules d n sizes well cs rs s run c k values e step = let start : State = opened d n (sizeIn sizes) in
     let R = calls-sound rules d n sizes well cs rs s run .1 in
     subst (λ (m : ℕ). (k ≡ 10) ↔ OutOfRange m c) (after-same start cs .same-n)
     (gives-10 rules (after start cs) c k values (meets rules (sizeIn sizes) (after start cs) s c (reply k values) e R step .0))

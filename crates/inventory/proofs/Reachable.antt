@@ -41,8 +41,7 @@ use Rattle.inventory.proofs.Answered.{answered-for}
 
 given-valid : (rules : Code → ℕ → ℕ → ℕ) (d : Code) (n : ℕ) (sizes : List ℕ) → openStep d n sizes .number ≡ 0
     → (cs : List Call) (rs : List Reply) (s : Inventory) → Run rules (openStep d n sizes .next) cs rs s → isInventory s ≡ true
-given-valid rules d n sizes well cs rs s run =
-    calls-sound rules d n sizes well cs rs s run .1 .valid
+given-valid rules d n sizes well cs rs s run = calls-sound rules d n sizes well cs rs s run .1 .valid
 
 -- ---- calls keep the number of files, those that are not empty, and the code
 
@@ -107,8 +106,7 @@ module _ (rules : Code → ℕ → ℕ → ℕ) where
   run-kept s [] [] e q w = kept (sym q) w
   run-kept s [] (r ∷ rs) e q w = absurd q
   run-kept s (c ∷ cs) [] e q w = absurd q
-  run-kept s (c ∷ cs) (r ∷ rs) e (s₁, d, q) w =
-      let one = step-kept s c r s₁ d w in
+  run-kept s (c ∷ cs) (r ∷ rs) e (s₁, d, q) w = let one = step-kept s c r s₁ d w in
       let more = run-kept s₁ cs rs e q (one .sets) in
       record {
         same-n = more .same-n ∙ one .same-n;
@@ -160,8 +158,7 @@ module _ (s : Inventory) (valid : isInventory s ≡ true) (w : Sets s) (ew : Wor
 
   size-bit : (f : ℕ) → isFile (s .n) f ≡ true → leb 1 (sizeIn sizes f) ≡ member (s .nonempty) f
   unfolding sizes
-  size-bit f h =
-      let b = oneTo-inside (s .n) f h in
+  size-bit f h = let b = oneTo-inside (s .n) f h in
       let e : suc (f - 1) ≡ f = omega arith in
       ap (leb 1) (listBelow-at (s .n) (λ i. cond (member (s .nonempty) (suc i)) 1 0) (f - 1) (omega arith))
       ∙ one-is (member (s .nonempty) (suc (f - 1))) ∙ ap (member (s .nonempty)) e

@@ -44,8 +44,7 @@ pub set-one : (rules : Code → ℕ → ℕ → ℕ) (s : Inventory) (r r′ : R
 set-one rules s r r′ R R′ = go (isInventory s) refl
   where
     go : (v : Bool) → isInventory s ≡ v → r ≡ r′
-    go true e =
-        let m = someSize s in
+    go true e = let m = someSize s in
         let exactly = R .exactly e m (some-matches s) in
         let exactly′ = R′ .exactly e m (some-matches s) in
         ap₂ (λ (ws : List ℕ) (k : ℕ). record { files = ws; number = k })
@@ -65,8 +64,7 @@ represented-set rules size t s P r R f =
     subst (λ (t : State). (member (r .files) f ≡ true) ↔ RecoverableNow (rules (t .code)) t f) (sym (P .state)) (R .exactly (P .valid) size (P .matches) f)
 
 pub recoverable-after : RecoverableAfter
-recoverable-after d n sizes o cs rs s run r R f =
-    let t : State = after (opened d n (sizeIn sizes)) cs in
+recoverable-after d n sizes o cs rs s run r R f = let t : State = after (opened d n (sizeIn sizes)) cs in
     subst (λ (k : Code). (member (r .files) f ≡ true) ↔ RecoverableNow (ruleOf k) t f) (after-same (opened d n (sizeIn sizes)) cs .same-code)
     (represented-set ruleOf (sizeIn sizes) t s (calls-sound ruleOf d n sizes o cs rs s run .1) r R f)
 
@@ -80,8 +78,7 @@ module _ (rule : ℕ → ℕ → ℕ) (small : (f v : ℕ) → f < 256 → rule 
       let n : number ≡ 10 = cc in (λ now. absurd (false≢true (sym i ∙ now .0)), λ z. absurd (omega arith))
   query-exactly t f room l number room′ true true i h g =
       let n : number ≡ 13 = cc in (λ now. absurd (true≢false (sym h ∙ now .1)), λ z. absurd (omega arith))
-  query-exactly t f room l number room′ true false i h g =
-      let exactly = missing-exactly rule small t f room l number room′ _ refl g in
+  query-exactly t f room l number room′ true false i h g = let exactly = missing-exactly rule small t f room l number room′ _ refl g in
       (λ now. exactly .1 (now .2), λ z. (i, h, exactly .0 z))
 
 module _ (rules : Code → ℕ → ℕ → ℕ) (small : (c : Code) (f v : ℕ) → f < 256 → rules c f v < 256) where
@@ -91,15 +88,13 @@ module _ (rules : Code → ℕ → ℕ → ℕ) (small : (c : Code) (f v : ℕ) 
   set-queried s r R f room l a room′ Q = go (isInventory s) refl
     where
       go : (v : Bool) → isInventory s ≡ v → (member (r .files) f ≡ true) ↔ (answerNumber a ≡ 0)
-      go true e =
-          let size = someSize s in
+      go true e = let size = someSize s in
           let in-set = R .exactly e size (some-matches s) f in
           let asked =
           query-exactly (rules (s .code)) (small (s .code)) (stateOf s size) f room l (answerNumber a) room′ _ _ refl refl
           (Q .as-model e size (some-matches s)) in
           (λ h. asked .0 (in-set .0 h), λ z. in-set .1 (asked .1 z))
-      go false e =
-          let q = Q .first e in
+      go false e = let q = Q .first e in
           let n : answerNumber a ≡ 10 = cc in (
             λ h. absurd (false≢true (sym (member-none f) ∙ sym (ap (λ (x : RecoverableFiles). member (x .files) f) (R .first e)) ∙ h)),
             λ z. absurd (omega arith),

@@ -45,7 +45,6 @@ module _ (rules : Code → ℕ → ℕ → ℕ) (small : (c : Code) (f v : ℕ) 
   set-there s = go (isInventory s) refl
     where
       go : (v : Bool) → isInventory s ≡ v → (r : RecoverableFiles) × RecoverableSet rules s r
-      go true v =
-          let (r, G) = gathered-there (rules (s .code)) (s .n) (s .files) (s .volumes) (s .nonempty) in
+      go true v = let (r, G) = gathered-there (rules (s .code)) (s .n) (s .files) (s .volumes) (s .nonempty) in
           (_, set-gathered s v r G)
       go false v = (_, set-refused rules s v)

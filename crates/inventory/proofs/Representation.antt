@@ -146,10 +146,8 @@ module _ (size : ℕ → ℕ) (s : Inventory) (R : Represents size (stateOf s si
   changed-represents (addVolume c) v e a = with-volumes (with-number v volumes-set e) quarantined-set (apart-insert _ _ v none-shared a)
   changed-represents removeVolume v e a =
       with-volumes (without-number v volumes-set e) (without-number v quarantined-set e) (apart-remove _ _ v none-shared)
-  changed-represents quarantine v e a =
-      with-volumes (without-number v volumes-set e) (with-number v quarantined-set e) (apart-moved _ _ v none-shared)
-  changed-represents release v e a =
-      with-volumes (with-number v volumes-set e) (without-number v quarantined-set e) (apart-back _ _ v none-shared)
+  changed-represents quarantine v e a = with-volumes (without-number v volumes-set e) (with-number v quarantined-set e) (apart-moved _ _ v none-shared)
+  changed-represents release v e a = with-volumes (with-number v volumes-set e) (without-number v quarantined-set e) (apart-back _ _ v none-shared)
 
   abbrev Met : (Code → ℕ → ℕ → ℕ) → Call → Reply → Inventory → Type 0
   Met rules c r s₁ = Gives rules (stateOf s size) c r × Represents size (next (stateOf s size) c) s₁
@@ -158,8 +156,7 @@ module _ (size : ℕ → ℕ) (s : Inventory) (R : Represents size (stateOf s si
     -- a refused change leaves all as it was
     meets-change : (c : Change) (k : ℕ) → Met rules (change c k) (numbered (changeStep c s k .number)) (changeStep c s k .next)
     unfolding Gives next changeStep ifInventory changeNumber
-    meets-change c k =
-        let same = model-number (stateOf s size) c k in
+    meets-change c k = let same = model-number (stateOf s size) c k in
         let met =
         by (isInventory s) (inRange c (s .n) k) (ofOtherCode c (s .code)) (whileQuarantined c (member (s .quarantined)) k)
         (already c (member (s .files)) (member (s .volumes)) (member (s .quarantined)) k) (R .valid) (changed-represents c k) in (
@@ -192,8 +189,7 @@ module _ (size : ℕ → ℕ) (s : Inventory) (R : Represents size (stateOf s si
 pub meets : (rules : Code → ℕ → ℕ → ℕ) (size : ℕ → ℕ) (t : State) (s : Inventory) (c : Call) (r : Reply) (s₁ : Inventory)
     → Represents size t s → Step rules s c r s₁ → Gives rules t c r × Represents size (next t c) s₁
 unfolding Step
-meets rules size t s c r s₁ R step =
-    subst (λ (t : State). Gives rules t c r × Represents size (next t c) s₁) (sym (R .state)) (by c step)
+meets rules size t s c r s₁ R step = subst (λ (t : State). Gives rules t c r × Represents size (next t c) s₁) (sym (R .state)) (by c step)
   where
     own : Represents size (stateOf s size) s
     own = record {

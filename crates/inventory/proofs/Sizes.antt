@@ -22,8 +22,7 @@ use Rattle.inventory.proofs.ModelSets.{insert-here}
 pub size-same : (m : ℕ) (s t : ℕ → Bool) → ((k : ℕ) → k < m → s k ≡ t k) → sizeBelow m s ≡ sizeBelow m t
 unfolding sizeBelow
 size-same zero s t h = refl
-size-same (suc m) s t h =
-    ap₂ (λ (a : ℕ) (b : Bool). a + cond b 1 0) (size-same m s t (λ k l. h k (omega arith))) (h m (omega arith))
+size-same (suc m) s t h = ap₂ (λ (a : ℕ) (b : Bool). a + cond b 1 0) (size-same m s t (λ k l. h k (omega arith))) (h m (omega arith))
 
 -- a number counts as 1 where it is in a set, else as 0
 pub counts-one : (b : Bool) → b ≡ true → _≡_ {A = ℕ} (cond b 1 0) 1
@@ -41,8 +40,7 @@ size-first (suc m) s = let e = size-first m s in omega arith
 
 pub size-shifted : (m : ℕ) (s : ℕ → Bool) → s 0 ≡ false → s m ≡ false → sizeBelow m s ≡ sizeBelow m (λ k. s (suc k))
 unfolding sizeBelow
-size-shifted m s first last =
-    let e = size-first m s in
+size-shifted m s first last = let e = size-first m s in
     let a = counts-none (s 0) first in
     let z = counts-none (s m) last in
     omega arith
@@ -70,8 +68,7 @@ size-remove (suc m) s a l e =
 
 module _ (m : ℕ) (s : ℕ → Bool) (a : ℕ) (none : s a ≡ false) where
   pub size-insert : a < m → sizeBelow m (insert a s) ≡ suc (sizeBelow m s)
-  size-insert l =
-      size-remove m (insert a s) a l (insert-here s a) ∙ ap suc (size-same m (remove a (insert a s)) s (λ k h. go k (eqb k a) refl))
+  size-insert l = size-remove m (insert a s) a l (insert-here s a) ∙ ap suc (size-same m (remove a (insert a s)) s (λ k h. go k (eqb k a) refl))
     where
       go : (k : ℕ) (b : Bool) → eqb k a ≡ b → (not b && (b || s k)) ≡ s k
       go k true e = sym (ap s (eqb-true k a e) ∙ none)

@@ -160,8 +160,7 @@ module _ (t u : State) (h : Inside u t) where
       by : (a b : Bool) → a ≡ true → u .volumes g ≡ b
           → TellsOne t u (change quarantine g)
           (cond (eqb (cond a (cond b 0 11) 10) 0) (withVolumes u (remove g (u .volumes)) (insert g (u .quarantined))) u)
-      by true true r m =
-          let l = or-first (u .volumes g) (u .quarantined g) m in
+      by true true r m = let l = or-first (u .volumes g) (u .quarantined g) m in
           to (withVolumes u (remove g (u .volumes)) (insert g (u .quarantined)))
           record {
             same-n = h .same-n;

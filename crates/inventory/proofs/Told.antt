@@ -71,8 +71,7 @@ module _ (t : State) (ranged : Ranged t) where
     moved = λ v l m. absurd (List·Memᴰ·not-nil m);
     quarantined = λ v m. absurd m;
   }
-  after-tells (c ∷ cs) u h only =
-      let one = next-tells c u h (only c (List·Memᴰ·head refl)) in
+  after-tells (c ∷ cs) u h only = let one = next-tells c u h (only c (List·Memᴰ·head refl)) in
       tells-more one (after-tells cs (next u c) (one .inside) (λ d m. only d (List·Memᴰ·tail m)))
 
   pub opened-told : (d : Code) (n : ℕ) (size : ℕ → ℕ) (tells : List Call) → t .code ≡ d → t .n ≡ n → t .size ≡ size → TellsExactly t tells
@@ -110,8 +109,7 @@ module _ (t : State) (ranged : Ranged t) where
 
 pub after-told : (d : Code) (n : ℕ) (size : ℕ → ℕ) (cs tells : List Call) → TellsExactly (after (opened d n size) cs) tells
     → after (opened d n size) tells ≡ after (opened d n size) cs
-after-told d n size cs tells told =
-    let same = after-same (opened d n size) cs in
+after-told d n size cs tells told = let same = after-same (opened d n size) cs in
     opened-told (after (opened d n size) cs) (after-ranged (opened d n size) cs (opened-ranged d n size)) d n size tells (same .same-code)
     (same .same-n) (same .same-size) told
 

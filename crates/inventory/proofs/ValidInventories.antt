@@ -32,8 +32,7 @@ record Parts (s : Inventory) : Type 0 where
 module _ (s : Inventory) (valid : isInventory s ≡ true) where
   parts : Parts s
   unfolding isInventory
-  parts =
-      let a = and-both (oneTo 254 (s .n)) _ valid in
+  parts = let a = and-both (oneTo 254 (s .n)) _ valid in
       let b = and-both (within (s .n) (s .files)) _ (a .1) in
       let c = and-both (within (s .n) (s .nonempty)) _ (b .1) in
       let d = and-both (within (255 - s .n) (s .volumes)) _ (c .1) in

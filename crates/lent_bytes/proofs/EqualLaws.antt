@@ -30,8 +30,7 @@ unfolding equal
 equal-true [] [] e = refl
 equal-true [] (b ∷ t) e = absurd (let z : _≡_ {A = ℕ} 0 1 = cc in omega arith)
 equal-true (a ∷ s) [] e = absurd (let z : _≡_ {A = ℕ} 0 1 = cc in omega arith)
-equal-true (a ∷ s) (b ∷ t) e =
-    let both = and-both (eqb a b) (equal s t) e in ap₂ _∷_ (eqb-true a b (both .0)) (equal-true s t (both .1))
+equal-true (a ∷ s) (b ∷ t) e = let both = and-both (eqb a b) (equal s t) e in ap₂ _∷_ (eqb-true a b (both .0)) (equal-true s t (both .1))
 
 pub equal-lengths : (s t : List ℕ) → (length s ≡ length t → ⊥) → equal s t ≡ false
 unfolding equal

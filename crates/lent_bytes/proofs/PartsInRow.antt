@@ -31,8 +31,7 @@ flatten-append (p ∷ ps) qs = ap (λ (l : List ℕ). p ++ l) (flatten-append ps
 
 pub at-start : {f : List ℕ} (ps : List (List ℕ)) (q : List ℕ) → f ≡ flatten ps ++ q → At f 0 (ps ++ (q ∷ []))
 unfolding flatten
-at-start ps q e =
-    record { joined = e ∙ ap (λ (l : List ℕ). flatten ps ++ l) (sym (append-nil q)) ∙ sym (flatten-append ps (q ∷ [])) }
+at-start ps q e = record { joined = e ∙ ap (λ (l : List ℕ). flatten ps ++ l) (sym (append-nil q)) ∙ sym (flatten-append ps (q ∷ [])) }
 
 module _ {f : List ℕ} {i : ℕ} {ps : List (List ℕ)} where
   pub at-part : {p : List ℕ} (k : ℕ) → length p ≡ k → At f i (p ∷ ps) → take k (drop i f) ≡ p
@@ -41,8 +40,7 @@ module _ {f : List ℕ} {i : ℕ} {ps : List (List ℕ)} where
 
   pub at-next : {p : List ℕ} (k : ℕ) → length p ≡ k → At f i (p ∷ ps) → At f (i + k) ps
   unfolding flatten
-  at-next {p} k size a =
-      record { joined = sym (drop-drop k i f) ∙ ap (drop k) (a .joined) ∙ drop-at p (flatten ps) k size }
+  at-next {p} k size a = record { joined = sym (drop-drop k i f) ∙ ap (drop k) (a .joined) ∙ drop-at p (flatten ps) k size }
 
   pub at-number : (k n : ℕ) → n < 256 ^ k → At f i (toLe k n ∷ ps) → leAt k f i ≡ n
   unfolding leAt
@@ -76,8 +74,7 @@ module _ (ps : List (List ℕ)) where
   pub store-part : (p q : List ℕ) (qs : List (List ℕ)) (i : ℕ) → length (flatten ps) ≡ i → length q ≡ length p
       → sets (flatten (ps ++ (p ∷ qs))) i q ≡ flatten (ps ++ (q ∷ qs))
   unfolding flatten
-  store-part p q qs i e size =
-      let x : List ℕ = flatten ps in
+  store-part p q qs i e size = let x : List ℕ = flatten ps in
       let r : List ℕ = flatten qs in
       let s : List ℕ = flatten (ps ++ (p ∷ qs)) in
       let split : s ≡ x ++ (p ++ r) = flatten-append ps (p ∷ qs) in

@@ -19,14 +19,12 @@ use Rattle.little_endian.proofs.Stores.{sets-append, sets-out}
 -- ---- at the front, and past the end
 
 pub sets-over : (s p : List ℕ) → length p ≤ length s → sets s 0 p ≡ p ++ drop (length p) s
-sets-over s p h =
-    let n : 0 + length p ≡ length p = omega arith in
+sets-over s p h = let n : 0 + length p ≡ length p = omega arith in
     sets-eq p s 0 (rw n h) ∙ ap (λ (k : ℕ). p ++ drop k s) n
 
 -- what lies past the end is dropped
 pub sets-fitting : (s b : List ℕ) (at n : ℕ) → n ≡ min (length b) (length s - at) → sets s at (take n b) ≡ sets s at b
-sets-fitting s b at n e =
-    let t : List ℕ = sets s at (take n b) in
+sets-fitting s b at n e = let t : List ℕ = sets s at (take n b) in
     let out : t ≡ sets t (at + length (take n b)) (drop n b) = sym (past (drop n b) refl) in
     out ∙ sym (sets-append s at (take n b) (drop n b)) ∙ ap (sets s at) (take-append-drop n b)
   where
@@ -39,8 +37,7 @@ sets-fitting s b at n e =
 
 pub sets-more : (s b : List ℕ) (at i : ℕ) {t : List ℕ} → i < length b → t ≡ sets s at (take i b)
     → set t (at + i) (getD b i 0) ≡ sets s at (take (i + 1) b)
-sets-more s b at i {t} h e =
-    let n : length (take i b) ≡ i = length-take-le i b (omega arith) in
+sets-more s b at i {t} h e = let n : length (take i b) ≡ i = length-take-le i b (omega arith) in
     ap₂ (λ (l : List ℕ) (j : ℕ). set l (at + j) (getD b i 0)) e (sym n)
     ∙ sym (sets-append s at (take i b) (getD b i 0 ∷ []))
     ∙ ap (sets s at) (sym (take-suc b i 0 h) ∙ ap (λ (k : ℕ). take k b) (sym (add-one i)))

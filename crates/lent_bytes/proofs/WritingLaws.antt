@@ -35,8 +35,7 @@ use Rattle.lent_bytes.specs.declared.Writing.the-variants.{Written, Refu
 pub written-fits : (s out : List ℕ) {n : ℕ} {t : List ℕ} → length s ≤ length out → n ≡ length s → t ≡ s ++ drop (length s) out
     → (Written n, t) ≡ written s out
 unfolding written
-written-fits s out h size same =
-    simp (le-leb (length s) (length out) h) (ap₂ (λ (k : ℕ) (l : List ℕ). (Written k, l)) size same)
+written-fits s out h size same = simp (le-leb (length s) (length out) h) (ap₂ (λ (k : ℕ) (l : List ℕ). (Written k, l)) size same)
 
 pub written-short : (s out : List ℕ) → length out < length s → refused (bare 14) out ≡ written s out
 unfolding written
@@ -66,13 +65,11 @@ pub record Accepted (m : Refusal) (s out : List ℕ) (n : ℕ) (room : List ℕ)
   pub written-is : take n room ≡ s
 
 pub never : {A : Type 0} {n : ℕ} {k : Refusal} {room out : List ℕ} → refused k out ≡ (Written n, room) → A
-never {A} {n} {k} e =
-    let answer : Refused k ≡ Written n = ap (λ (p : Writing × List ℕ). p .0) e in
+never {A} {n} {k} e = let answer : Refused k ≡ Written n = ap (λ (p : Writing × List ℕ). p .0) e in
     absurd (let z : _≡_ {A = ℕ} 0 1 = cc in omega arith)
 
 pub not-refused : {A : Type 0} (s out : List ℕ) {r : Refusal} {room : List ℕ} → accepted s out ≡ (Refused r, room) → A
-not-refused s out {r} e =
-    let answer : Written (length s) ≡ Refused r = ap (λ (p : Writing × List ℕ). p .0) e in
+not-refused s out {r} e = let answer : Written (length s) ≡ Refused r = ap (λ (p : Writing × List ℕ). p .0) e in
     absurd (let z : _≡_ {A = ℕ} 0 1 = cc in omega arith)
 
 pub refused-tells : {q r : Refusal} {out room : List ℕ} → refused q out ≡ (Refused r, room) → (q ≡ r) × (room ≡ out)
@@ -97,8 +94,7 @@ unless-tells m s out {n} {room} e = by (eqb (m .number) 0) (leb (length s) (leng
   where
     by : (z f : Bool) → eqb (m .number) 0 ≡ z → leb (length s) (length out) ≡ f
         → cond z (cond f (accepted s out) (refused (bare 14) out)) (refused m out) ≡ (Written n, room) → Accepted m s out n room
-    by true true z f e =
-        let t = accepted-tells s out e in
+    by true true z f e = let t = accepted-tells s out e in
         record {
           none = eqb-true (m .number) 0 z;
           fits = leb-true (length s) (length out) f;
@@ -140,8 +136,7 @@ module _ {w : Writing} {t : List ℕ} {r : Writing × List ℕ} {k : Refusal} (e
 -- the bytes l, which s names, are written where the number n of the tests is 0
 pub numbered-none : (s out : List ℕ) (n : ℕ) {l : List ℕ} {r : ℕ × List ℕ} → n ≡ 0 → r ≡ withNumber (written l out) → l ≡ s
     → r ≡ withNumber (writtenUnless (bare n) s out)
-numbered-none s out n z e same =
-    e ∙ ap (λ (l : List ℕ). withNumber (written l out)) same ∙ ap withNumber (unless-none s out {n = bare n} refl z refl)
+numbered-none s out n z e same = e ∙ ap (λ (l : List ℕ). withNumber (written l out)) same ∙ ap withNumber (unless-none s out {n = bare n} refl z refl)
 
 pub written-refusal : (s out : List ℕ) {n : ℕ} {t : List ℕ} → (n, t) ≡ withNumber (written s out) → (bare n, t) ≡ withRefusal (written s out)
 unfolding written

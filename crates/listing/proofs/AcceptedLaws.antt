@@ -15,8 +15,7 @@ use Rattle.listing.specs.Listing.{ListIn}
 
 by-refusal : (f : List ℕ) (n : ℕ) → n ≡ refusalOf f .number → ListIn (readOf f) f
 unfolding refusalOf refusalFrom
-by-refusal f zero e =
-    let h : HeaderPassed f (length f) = header-passed f (length f) (or-none (headerRefusal f (length f)) _ (sym e) .0) in
+by-refusal f zero e = let h : HeaderPassed f (length f) = header-passed f (length f) (or-none (headerRefusal f (length f)) _ (sym e) .0) in
     rw (read-accepted f (sym e)) (refl, omega (arith, h .layout .data-start, h .layout .data-end))
 by-refusal f (suc n) e = rw (read-refused f refl (λ z. omega arith)) tt
 

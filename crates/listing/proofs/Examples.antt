@@ -81,8 +81,7 @@ module _ (code : Code) (program : ℕ) (small : program < 2 ^ 32) (l : List ℕ)
 
   listed-by : ListedAsShown index
   unfolding inputListing listingOf
-  listed-by =
-      let back = volume-back code program 0 l [] small (omega arith) passed in
+  listed-by = let back = volume-back code program 0 l [] small (omega arith) passed in
       let n : length (entriesOf l .pieces) ≡ 2 = sym (walk-count l walk) in
       let k : length (savedOf (entriesOf l .pieces)) ≡ 1 = sym (walk-saved l walk) in
       record {

@@ -88,8 +88,7 @@ lines-most : (k : ℕ) (es : List (List ℕ)) → All Keeps es → k + length es
     → length (entryLines k es) ≤ length (flatten es)
 unfolding entryLines flatten
 lines-most k [] all-none h = omega arith
-lines-most k (e ∷ es) (all-more l ls) h =
-    let n : ℕ = k + savedCount (statusOf e) in
+lines-most k (e ∷ es) (all-more l ls) h = let n : ℕ = k + savedCount (statusOf e) in
     let more : n ≤ k + 1 = omega (arith, saved-most (statusOf e)) in
     let one = line-most (statusOf e) n (fileSizeOf e) (nameOf e) (omega arith) (omega (arith, leb-true (fileSizeOf e) maxFileSize (l .file-size-right))) in
     let long = sized (length e) (length e) (l .size-right) .low in
@@ -98,8 +97,7 @@ lines-most k (e ∷ es) (all-more l ls) h =
 -- ---- the numbers of an accepted file
 
 accepted-shorter : (f : List ℕ) → Passed f → length (listingBy (Accepted (partsOf f)) f) < length f
-accepted-shorter f tests =
-    let es : List (List ℕ) = entriesIn f in
+accepted-shorter f tests = let es : List (List ℕ) = entriesIn f in
     let list : length (listOf f) ≤ listSizeOf f = omega (arith, length-take (listSizeOf f) (drop 96 f)) in
     let fits : 96 + listSizeOf f ≤ length f = omega (arith, tests .header .layout .data-start, tests .header .layout .data-end) in
     let few : length es ≤ length (listOf f) = cut-count lengthOf (listOf f) in
@@ -116,15 +114,13 @@ accepted-shorter f tests =
 
 pub listing-shorter : (f : List ℕ) (p : Parts) → readOf f ≡ Accepted p → length (listingOf f) < length f
 unfolding listingOf
-listing-shorter f p e =
-    let told = read-tells f p e in
+listing-shorter f p e = let told = read-tells f p e in
     subst (λ (r : Reading). length (listingBy r f) < length f) (sym (e ∙ ap Accepted (told .parts-are))) (accepted-shorter f (told .tests))
 
 by-refusal : (s : List ℕ) → length s ≤ maxListedLength → (n : ℕ) → n ≡ refusalOf s .number → length (listingOf s) ≤ maxListedLength
 unfolding listingOf
 by-refusal s h zero e = omega (arith, listing-shorter s (partsOf s) (read-accepted s (sym e)))
-by-refusal s h (suc n) e =
-    let few = refusal-within s in
+by-refusal s h (suc n) e = let few = refusal-within s in
     rw (read-refused s refl (λ z. omega arith))
     (omega (arith, refused-most (refusalOf s) (omega (arith, few .number-most)) (omega (arith, few .place-most))))
 

@@ -28,8 +28,7 @@ pub lines-more : (k : ℕ) {s : List ℕ} {n status size : ℕ} → IsEntry s n 
     → let number = k + savedCount status in
     lineOf status number size (nameOf (take n s)) ++ entryLines number (entriesOf (drop n s) .pieces) ≡ entryLines k (entriesOf s .pieces)
 unfolding entryLines
-lines-more k {s} {n} i =
-    let rest : ℕ → List ℕ = λ m. entryLines m (entriesOf (drop n s) .pieces) in
+lines-more k {s} {n} i = let rest : ℕ → List ℕ = λ m. entryLines m (entriesOf (drop n s) .pieces) in
     ap₂ (λ (st sz : ℕ). lineOf st (k + savedCount st) sz (nameOf (take n s)) ++ rest (k + savedCount st)) (i .status-is) (i .size-is)
     ∙ sym (ap (λ (c : Cut). entryLines k (c .pieces)) (entries-more i))
 
@@ -49,8 +48,7 @@ saved-suc k e es = by (isSaved (statusOf e))
 pub lines-append : (k : ℕ) (es fs : List (List ℕ)) → entryLines k (es ++ fs) ≡ entryLines k es ++ entryLines (k + length (savedOf es)) fs
 unfolding entryLines
 lines-append k [] fs = ap (λ (n : ℕ). entryLines n fs) (sym (add-zero k))
-lines-append k (e ∷ es) fs =
-    let n : ℕ = k + savedCount (statusOf e) in
+lines-append k (e ∷ es) fs = let n : ℕ = k + savedCount (statusOf e) in
     ap (λ (l : List ℕ). entryLine n e ++ l) (lines-append n es fs ∙ ap (λ (m : ℕ). entryLines n es ++ entryLines m fs) (saved-suc k e es))
     ∙ sym (append-assoc (entryLine n e) (entryLines n es) (entryLines (k + length (savedOf (e ∷ es))) fs))
 
@@ -69,8 +67,7 @@ line-number k e = by (isSaved (statusOf e))
 
 pub line-numbered : LineNumbered
 unfolding entryLines
-line-numbered es e fs =
-    let all : List (List ℕ) = es ++ e ∷ fs in
+line-numbered es e fs = let all : List (List ℕ) = es ++ e ∷ fs in
     let k : ℕ = length (savedOf es) in
     let at : getD all (length es) [] ≡ e = getD-append-seam es e fs [] in
     let before : take (length es) all ≡ es = take-append-seam es (e ∷ fs) in

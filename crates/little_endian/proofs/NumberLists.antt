@@ -30,16 +30,14 @@ length-numbers (n ∷ ns) = length-append (toLe 8 n) (numbers ns) ∙ omega (ari
 pub numbers-append : (ns ms : List ℕ) → numbers (ns ++ ms) ≡ numbers ns ++ numbers ms
 unfolding numbers
 numbers-append [] ms = refl
-numbers-append (n ∷ ns) ms =
-    ap (λ (l : List ℕ). toLe 8 n ++ l) (numbers-append ns ms) ∙ sym (append-assoc (toLe 8 n) (numbers ns) (numbers ms))
+numbers-append (n ∷ ns) ms = ap (λ (l : List ℕ). toLe 8 n ++ l) (numbers-append ns ms) ∙ sym (append-assoc (toLe 8 n) (numbers ns) (numbers ms))
 
 -- ---- places past the end
 
 numbersAt-same : (k : ℕ) (s : List ℕ) (i j : ℕ) → length s ≤ i → length s ≤ j → numbersAt k s i ≡ numbersAt k s j
 unfolding numbersAt
 numbersAt-same zero s i j h g = refl
-numbersAt-same (suc k) s i j h g =
-    ap₂ _∷_ (leAt-out 8 s i h ∙ sym (leAt-out 8 s j g)) (numbersAt-same k s (i + 8) (j + 8) (omega arith) (omega arith))
+numbersAt-same (suc k) s i j h g = ap₂ _∷_ (leAt-out 8 s i h ∙ sym (leAt-out 8 s j g)) (numbersAt-same k s (i + 8) (j + 8) (omega arith) (omega arith))
 
 numbersAt-past : (k : ℕ) (s : List ℕ) (i m : ℕ) → length s ≤ m → numbersAt k s (min i m) ≡ numbersAt k s i
 numbersAt-past k s i m h = at-min (numbersAt k s) i m (λ past. numbersAt-same k s m i h (omega arith))
@@ -51,8 +49,7 @@ pub read-more : (k : ℕ) (s ns : List ℕ) (i place m : ℕ) {x next : ℕ} →
     → next ≡ min (place + 8) m
     → take (i + 1) (set ns i x) ++ numbersAt (k - (i + 1)) s next ≡ take i ns ++ numbersAt (k - i) s place
 unfolding numbersAt
-read-more k s ns i place m {x} size h g e f =
-    let rest : ℕ = k - (i + 1) in
+read-more k s ns i place m {x} size h g e f = let rest : ℕ = k - (i + 1) in
     let left : k - i ≡ suc rest = omega arith in
     ap₂ _++_ (ap (λ (j : ℕ). take j (set ns i x)) (add-one i) ∙ take-suc-set ns i x (omega arith))
     (ap (numbersAt rest s) f ∙ numbersAt-past rest s (place + 8) m h)
@@ -65,8 +62,7 @@ pub write-more : (s : List ℕ) (ns : List ℕ) (i place m : ℕ) {t : List ℕ}
     → t ≡ sets s place (toLe 8 (getD ns i 0)) → next ≡ min (place + 8) m
     → sets t next (numbers (drop (i + 1) ns)) ≡ sets s place (numbers (drop i ns))
 unfolding numbers
-write-more s ns i place m {t} h g e f =
-    let n : ℕ = getD ns i 0 in
+write-more s ns i place m {t} h g e f = let n : ℕ = getD ns i 0 in
     let rest : List ℕ = numbers (drop (i + 1) ns) in
     let fits : length t ≤ m = omega (arith, ap length e, length-sets s place (toLe 8 n)) in
     ap (λ (p : ℕ). sets t p rest) f
@@ -80,8 +76,7 @@ write-more s ns i place m {t} h g e f =
 pub numbers-back : (p ns q : List ℕ) → ((j : ℕ) → getD ns j 0 < 2 ^ 64) → numbersAt (length ns) (p ++ (numbers ns ++ q)) (length p) ≡ ns
 unfolding numbers numbersAt leAt
 numbers-back p [] q h = refl
-numbers-back p (n ∷ ns) q h =
-    let low : List ℕ = toLe 8 n in
+numbers-back p (n ∷ ns) q h = let low : List ℕ = toLe 8 n in
     let rest : List ℕ = numbers ns ++ q in
     let whole : (low ++ numbers ns) ++ q ≡ low ++ rest = append-assoc low (numbers ns) q in
     let size : length p + 8 ≡ length (p ++ low) = omega (arith, length-append p low, length-toLe 8 n) in
@@ -95,7 +90,6 @@ numbers-back p (n ∷ ns) q h =
 pub numbers-read : (k : ℕ) (s : List ℕ) (i : ℕ) → Bytes s → i + 8 * k ≤ length s → numbers (numbersAt k s i) ≡ take (8 * k) (drop i s)
 unfolding numbers numbersAt
 numbers-read zero s i h fits = refl
-numbers-read (suc k) s i h fits =
-    let size : 8 + 8 * k ≡ 8 * suc k = omega arith in
+numbers-read (suc k) s i h fits = let size : 8 + 8 * k ≡ 8 * suc k = omega arith in
     ap₂ _++_ (to-leAt 8 s i h (omega arith)) (numbers-read k s (i + 8) h (omega arith) ∙ ap (take (8 * k)) (sym (drop-drop 8 i s)))
     ∙ sym (take-add 8 (8 * k) (drop i s)) ∙ ap (λ (n : ℕ). take n (drop i s)) size

@@ -66,8 +66,7 @@ to-add (suc j) k n = rw (suc-add, to-add j k (n / 256), pow-succ', div-div-eq-di
 pub to-mod : (k n : ℕ) → toLe k (n % 256 ^ k) ≡ toLe k n
 unfolding toLe
 to-mod zero n = refl
-to-mod (suc k) n =
-    let low : n % 256 ^ suc k % 256 ≡ n % 256 = omega (arith, mod-suc k n) in
+to-mod (suc k) n = let low : n % 256 ^ suc k % 256 ≡ n % 256 = omega (arith, mod-suc k n) in
     let rest : n % 256 ^ suc k / 256 ≡ n / 256 % 256 ^ k = omega (arith, mod-suc k n) in
     rw (low, rest, to-mod k (n / 256))
 
@@ -81,8 +80,7 @@ from-to (suc k) n = ap (λ (m : ℕ). n % 256 + 256 * m) (from-to k (n / 256)) �
 pub to-from : (s : List ℕ) → Bytes s → toLe (length s) (fromLe s) ≡ s
 unfolding fromLe toLe
 to-from [] h = refl
-to-from (b ∷ s) h =
-    let byte : b < 256 = h 0 in
+to-from (b ∷ s) h = let byte : b < 256 = h 0 in
     let low : (b + 256 * fromLe s) % 256 ≡ b = omega arith in
     let rest : (b + 256 * fromLe s) / 256 ≡ fromLe s = omega arith in
     rw (low, rest, to-from s (λ i. h (suc i)))

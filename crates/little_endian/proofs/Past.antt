@@ -13,6 +13,5 @@ at-min {B} f i m same = go (decLe i m)
   where
     go : Dec (i ≤ m) → f (min i m) ≡ f i
     go (yes below) = ap f (min-eq-left below)
-    go (no above) =
-        let past : m ≤ i = omega arith in
+    go (no above) = let past : m ≤ i = omega arith in
         ap f (min-eq-right past) ∙ same past

@@ -39,8 +39,7 @@ leAt-byte s i = leAt-suc 0 s i ∙ omega (arith, leAt-zero s (suc i))
 leAt-same : (k : ℕ) (s t : List ℕ) (i : ℕ) → ((p : ℕ) → i ≤ p → p < i + k → getD s p 0 ≡ getD t p 0)
     → leAt k s i ≡ leAt k t i
 leAt-same zero s t i h = leAt-zero s i ∙ sym (leAt-zero t i)
-leAt-same (suc k) s t i h =
-    let low = h i (omega arith) (omega arith) in
+leAt-same (suc k) s t i h = let low = h i (omega arith) (omega arith) in
     let rest = leAt-same k s t (suc i) (λ p from to. h p (omega arith) (omega arith)) in
     rw (leAt-suc k s i, leAt-suc k t i, low, rest)
 
@@ -63,8 +62,7 @@ leAt-append k s t i h = leAt-same k (s ++ t) s i (λ p from to. List·getD-appen
 
 pub to-leAt : (k : ℕ) (s : List ℕ) (i : ℕ) → Bytes s → i + k ≤ length s → toLe k (leAt k s i) ≡ take k (drop i s)
 unfolding leAt
-to-leAt k s i h fits =
-    let part = take k (drop i s) in
+to-leAt k s i h fits = let part = take k (drop i s) in
     let size : length part ≡ k = length-take-le k (drop i s) (omega (arith, length-drop i s)) in
     ap (λ (m : ℕ). toLe m (fromLe part)) (sym size) ∙ to-from part (bytes-take k (drop i s) (bytes-drop i s h))
 
@@ -72,8 +70,7 @@ to-leAt k s i h fits =
 
 leAt-add : (j k : ℕ) (s : List ℕ) (i : ℕ) → leAt (j + k) s i ≡ leAt j s i + 256 ^ j * leAt k s (i + j)
 leAt-add zero k s i = rw (zero-add, add-zero, leAt-zero, pow-zero) (omega arith)
-leAt-add (suc j) k s i =
-    let next : suc i + j ≡ i + suc j = omega arith in
+leAt-add (suc j) k s i = let next : suc i + j ≡ i + suc j = omega arith in
     let more = leAt-add j k s (suc i) in
     rw (suc-add, leAt-suc (j + k), leAt-suc j, pow-succ', mul-assoc) (omega (arith, rw next at more))
 

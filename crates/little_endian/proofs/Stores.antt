@@ -33,8 +33,7 @@ module _ {A : Type 0} where
   -- ---- what stands there
 
   pub part-sets : (s : List A) (i : ℕ) (v : List A) → i + length v ≤ length s → take (length v) (drop i (sets s i v)) ≡ v
-  part-sets s i v h =
-      let rest = drop (i + length v) s in
+  part-sets s i v h = let rest = drop (i + length v) s in
       ap (λ (t : List A). take (length v) (drop i t)) (sets-eq v s i h ∙ append-assoc (take i s) v rest)
       ∙ ap (take (length v)) (drop-at (take i s) (v ++ rest) i (length-take-le i s (omega arith)))
       ∙ take-append-seam v rest

@@ -23,8 +23,7 @@ use Rattle.little_endian.proofs.Stores.{sets-append, sets-past, part-se
 
 pub read-written : ReadWritten
 unfolding leAt
-read-written k n s i h =
-    let v = toLe k n in
+read-written k n s i h = let v = toLe k n in
     ap (λ (m : ℕ). fromLe (take m (drop i (sets s i v)))) (sym (length-toLe k n))
     ∙ ap fromLe (part-sets s i v (omega (arith, length-toLe k n)))
     ∙ from-to k n
@@ -32,8 +31,7 @@ read-written k n s i h =
 pub write-read : WriteRead
 unfolding toLe
 write-read zero s i h = refl
-write-read (suc k) s i h =
-    let low : leAt (suc k) s i % 256 ≡ getD s i 0 = omega (arith, leAt-suc k s i, h i) in
+write-read (suc k) s i h = let low : leAt (suc k) s i % 256 ≡ getD s i 0 = omega (arith, leAt-suc k s i, h i) in
     let rest : leAt (suc k) s i / 256 ≡ leAt k s (suc i) = omega (arith, leAt-suc k s i, h i) in
     rw (low, rest, set-getD, write-read k s (suc i) h)
 
@@ -48,8 +46,7 @@ write-add j k n s i = rw (to-add, sets-append, length-toLe)
 
 pub write-halves : (k n : ℕ) (s : List ℕ) (i m : ℕ) {t u : List ℕ} {next : ℕ} → length s ≤ m → t ≡ sets s i (toLe k (n % 256 ^ k))
     → next ≡ min (i + k) m → u ≡ sets t next (toLe k (n / 256 ^ k)) → u ≡ sets s i (toLe (k + k) n)
-write-halves k n s i m {t} h low next high =
-    let high-bytes = toLe k (n / 256 ^ k) in
+write-halves k n s i m {t} h low next high = let high-bytes = toLe k (n / 256 ^ k) in
     let fits : length t ≤ m = omega (arith, ap length low, length-sets s i (toLe k (n % 256 ^ k))) in
     high
     ∙ ap (λ (p : ℕ). sets t p high-bytes) next

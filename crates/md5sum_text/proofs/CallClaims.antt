@@ -51,8 +51,7 @@ lines-are ls s lines e =
 -- what good lines say of the entries, one after another
 says-all : (f s out : List ℕ) (ls : List (List ℕ)) {n : ℕ} {room : List ℕ} → s ≡ flatten ls → Good (entriesIn f) ls
     → accepted (answersIn f s) out ≡ (Written n, room) → SaysAll (entriesIn f) ls out n room
-says-all f s out ls {n} {room} e good is =
-    let es : List (List ℕ) = entriesIn f in
+says-all f s out ls {n} {room} e good is = let es : List (List ℕ) = entriesIn f in
     let told = accepted-tells (answersIn f s) out is in
     let size : length (answersIn f s) ≡ length es = simp length-map in
     let count : n ≡ length es = told .0 ∙ size in
@@ -76,8 +75,7 @@ import-says f s out n room e = by (import-view f s out) e
     by (import-refuses read) e = never e
     by (import-faults read some) e = never e
     by (imports read none (short h)) e = never e
-    by (imports read none (fits h)) e =
-        let g = none-faulty (entriesIn f) s .0 none in (g .0, g .1, g .2, says-all f s out (g .0) (g .1) (g .2) e)
+    by (imports read none (fits h)) e = let g = none-faulty (entriesIn f) s .0 none in (g .0, g .1, g .2, says-all f s out (g .0) (g .1) (g .2) e)
 
 fault-some : {es : List (List ℕ)} {s : List ℕ} {r : Refusal} → FirstFault es s r → r .number ≡ 0 → ⊥
 fault-some {r = r} f z = by (f .faulty) z
@@ -157,8 +155,7 @@ module _ (f : List ℕ) (b : Bytes f) (all : allFitting (entriesIn f) ≡ true) 
   -- an export imported: entries of one name have one sum
   module _ (alike : (i j : ℕ) → i < length es′ → j < length es′ → textOf (getD es′ i []) ≡ textOf (getD es′ j []) → md5Of (getD es′ i []) ≡ md5Of (getD es′ j [])) where
     good-lines : Good es′ (map lineFor es′)
-    good-lines =
-        let size : length (map lineFor es′) ≡ length es′ = simp length-map in
+    good-lines = let size : length (map lineFor es′) ≡ length es′ = simp length-map in
         record {
           lines = all-lines;
           agree =
@@ -170,8 +167,7 @@ module _ (f : List ℕ) (b : Bytes f) (all : allFitting (entriesIn f) ≡ true) 
         }
 
     all-same : (k : ℕ) → k < length es′ → answerFor (map lineFor es′) (getD es′ k []) ≡ 1
-    all-same k h =
-        let size : length (map lineFor es′) ≡ length es′ = simp length-map in
+    all-same k h = let size : length (map lineFor es′) ≡ length es′ = simp length-map in
         says-one es′ (map lineFor es′) good-lines k h (says-it (map lineFor es′) (getD es′ k []) all-lines)
         (same-sum k (omega arith) (line-at k h) (all-at [] (all-fitting es′ all) k h, refl) refl)
 
@@ -204,8 +200,7 @@ text-is {f} {out} x =
     ap₂ (λ (n : ℕ) (r : List ℕ). take n r) (x .size) (x .room-is) ∙ take-append-seam (exportText (entriesIn f)) (drop (length (exportText (entriesIn f))) out)
 
 pub export-lines : claim.ExportLines
-export-lines f out n room b e =
-    let x = exported f out n room e in
+export-lines f out n room b e = let x = exported f out n room e in
     let es : List (List ℕ) = entriesIn f in
     record {
       lines = map lineFor es;
@@ -216,8 +211,7 @@ export-lines f out n room b e =
     }
 
 pub export-imported : claim.ExportImported
-export-imported f out n room more b e alike h =
-    let x = exported f out n room e in
+export-imported f out n room more b e alike h = let x = exported f out n room e in
     let es : List (List ℕ) = entriesIn f in
     let s : List ℕ = take n room in
     let text : s ≡ flatten (map lineFor es) = text-is x ∙ lines-for es in

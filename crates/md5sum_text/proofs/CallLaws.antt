@@ -39,8 +39,7 @@ read-entries f read e = ap (λ (l : List ℕ). entriesOf l .pieces) (e ∙ read-
 module _ (f out : List ℕ) where
   pub export-unread : {r : Refusal} → readOf f ≡ reading.Refused r → refused r out ≡ exportInto f out
   unfolding exportInto
-  export-unread {r} e =
-      unless-refused (exportText (entriesIn f)) out {n = r} (sym (ap (λ (q : Reading). exportRefusal q f) e)) (refused-some f e) refl
+  export-unread {r} e = unless-refused (exportText (entriesIn f)) out {n = r} (sym (ap (λ (q : Reading). exportRefusal q f) e)) (refused-some f e) refl
 
   module _ {p : Parts} (read : readOf f ≡ reading.Accepted p) where
     tests : {b : Bool} → allFitting (entriesIn f) ≡ b → bare (test 24 b 0) ≡ exportRefusal (readOf f) f

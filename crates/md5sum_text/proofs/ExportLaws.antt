@@ -37,23 +37,21 @@ module _ {e : List ℕ} (sound : IsEntryBytes e) where
   hash-bytes = bytes-take 16 (drop 24 e) (bytes-drop 24 e (sound .bytes))
 
   pub sum-spells : Spells (sumOf e) (md5Of e)
-  sum-spells =
-      record {
-        sum-length = omega (arith, hex-length (md5Of e), hash-length);
-        digits = lower-all (sumOf e) (hex-lower (md5Of e) hash-bytes);
-        spelled = λ k h. hex-spelled (md5Of e) hash-bytes k (omega (arith, hash-length));
-      }
+  sum-spells = record {
+    sum-length = omega (arith, hex-length (md5Of e), hash-length);
+    digits = lower-all (sumOf e) (hex-lower (md5Of e) hash-bytes);
+    spelled = λ k h. hex-spelled (md5Of e) hash-bytes k (omega (arith, hash-length));
+  }
 
   pub line-for : Fits e → LineOf (sumOf e) (textOf e) (lineFor e)
   unfolding lineFor flatten
-  line-for fits =
-      record {
-        line-is = refl;
-        sum-length = sum-spells .sum-length;
-        digits = sum-spells .digits;
-        some = omega (arith, length-units (nameOf e), length-drop 56 e, sound .low);
-        no-end = all-map (λ u h z. omega arith) fits;
-      }
+  line-for fits = record {
+    line-is = refl;
+    sum-length = sum-spells .sum-length;
+    digits = sum-spells .digits;
+    some = omega (arith, length-units (nameOf e), length-drop 56 e, sound .low);
+    no-end = all-map (λ u h z. omega arith) fits;
+  }
 
 -- ---- the text
 

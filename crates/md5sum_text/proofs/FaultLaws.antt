@@ -53,8 +53,7 @@ any-found t d (x ∷ xs) e = by (t x) refl e (λ r. any-found t d xs r)
 
 pub fits-all : (us : List ℕ) → unitsFit us ≡ true → All (λ u. (32 ≤ u) × (u ≤ 126)) us
 fits-all [] e = all-none
-fits-all (u ∷ us) e =
-    let b = and-both (unitFits u) (unitsFit us) e in
+fits-all (u ∷ us) e = let b = and-both (unitFits u) (unitsFit us) e in
     let h = and-both (leb 32 u) (leb u 126) (b .0) in
     all-more (leb-true 32 u (h .0), leb-true u 126 (h .1)) (fits-all us (b .1))
 
@@ -65,8 +64,7 @@ all-fit (all-more {x} h hs) = simp (le-leb 32 x (h .0), le-leb x 126 (h .1), all
 module _ {sum name l : List ℕ} (z : LineOf sum name l) where
   pub names-it : (e : List ℕ) → isNamed l e ≡ true → Names name e
   unfolding isNamed
-  names-it e n =
-      let b = and-both (isFitting e) (equal (textOf e) (nameIn l)) n in
+  names-it e n = let b = and-both (isFitting e) (equal (textOf e) (nameIn l)) n in
       (fits-all (textOf e) (b .0), equal-true (textOf e) (nameIn l) (b .1) ∙ in-name z)
 
   pub named-it : (e : List ℕ) → Names name e → isNamed l e ≡ true
@@ -103,8 +101,7 @@ module _ (es ls : List (List ℕ)) where
               test : (b : Bool) → equal (nameIn (getD ls i [])) (nameIn (getD ls k [])) ≡ b
                   → (b && not (equal (sumIn (getD ls i [])) (sumIn (getD ls k [])))) ≡ false
               test false e = refl
-              test true e =
-                  let same : there .name ≡ here .name = sym (in-name (there .line-of)) ∙ equal-true _ _ e ∙ in-name (here .line-of) in
+              test true e = let same : there .name ≡ here .name = sym (in-name (there .line-of)) ∙ equal-true _ _ e ∙ in-name (here .line-of) in
                   let z : LineOf (there .sum) (here .name) (getD ls i []) = subst (λ (n : List ℕ). LineOf (there .sum) n (getD ls i [])) same (there .line-of) in
                   let sums = good .agree i k (omega arith) h z (here .line-of) (listed (here .line-of) es n) in
                   ap not (equal-same (in-sum (there .line-of) ∙ sums ∙ sym (in-sum (here .line-of))))
@@ -118,8 +115,7 @@ module _ (es ls : List (List ℕ)) where
       where
         by : (b : Bool) → equal sum sum′ ≡ b → sum ≡ sum′
         by true e = equal-true sum sum′ e
-        by false e =
-            let names : equal (nameIn (getD ls i [])) (nameIn (getD ls j [])) ≡ true = equal-same (in-name y ∙ sym (in-name z)) in
+        by false e = let names : equal (nameIn (getD ls i [])) (nameIn (getD ls j [])) ≡ true = equal-same (in-name y ∙ sym (in-name z)) in
             let sums : equal (sumIn (getD ls i [])) (sumIn (getD ls j [])) ≡ false = ap₂ equal (in-sum y) (in-sum z) ∙ e in
             let other : hasOther (take j ls) (getD ls j []) ≡ true = any-at _ [] (take j ls) i (omega (arith, length-take-le j ls (omega arith)))
             (rw (getD-take j ls i [] l) (simp (names, sums))) in
@@ -135,8 +131,7 @@ module _ (es ls : List (List ℕ)) where
         same e = sym (in-sum y) ∙ ap (λ (k : ℕ). sumIn (getD ls k [])) (sym e) ∙ in-sum z
 
     pub again-good : Good es (take m ls)
-    again-good =
-        let size : length (take m ls) ≡ m = length-take-le m ls most in
+    again-good = let size : length (take m ls) ≡ m = length-take-le m ls most in
         record {
           lines = all-take m lines;
           agree =
@@ -153,8 +148,7 @@ refusal-is r e f = ap₂ (λ (n p : ℕ). record { number = n; place = p }) (sym
 split-at : (ls : List (List ℕ)) (k : ℕ) (t : List ℕ) → k < length ls
     → flatten (take k ls) ++ (getD ls k [] ++ (flatten (drop (suc k) ls) ++ t)) ≡ flatten ls ++ t
 unfolding flatten
-split-at ls k t h =
-    let parts = sym (flatten-append (take k ls) (drop k ls)) ∙ ap flatten (take-append-drop k ls) in
+split-at ls k t h = let parts = sym (flatten-append (take k ls) (drop k ls)) ∙ ap flatten (take-append-drop k ls) in
     ap (λ (u : List ℕ). flatten (take k ls) ++ u) (sym (append-assoc (getD ls k []) (flatten (drop (suc k) ls)) t))
     ∙ ap (λ (u : List (List ℕ)). flatten (take k ls) ++ (flatten u ++ t)) (sym (drop-cons ls k [] h))
     ∙ sym (append-assoc (flatten (take k ls)) (flatten (drop k ls)) t) ∙ ap (λ (u : List ℕ). u ++ t) parts
@@ -176,8 +170,7 @@ module _ (es : List (List ℕ)) (s : List ℕ) where
   -- a line with a listed name again
   again-fault : againIn es ls < length ls → (r : Refusal) → textRefusal es (linesOf s) ≡ r → FirstFault es s r
   unfolding isAgain
-  again-fault h r e =
-      let k : ℕ = againIn es ls in
+  again-fault h r e = let k : ℕ = againIn es ls in
       let is : record { number = 23; place = k + 1 } ≡ r = sym (text-again es (linesOf s) refl h) ∙ e in
       let both = and-both (isListed es (getD ls k [])) (hasOther (take k ls) (getD ls k [])) (first .found h) in
       let here : Line (getD ls k []) = all-at [] (each-line s) k h in
@@ -206,8 +199,7 @@ module _ (es : List (List ℕ)) (s : List ℕ) where
       }
 
   whole-good : length ls ≤ againIn es ls → Good es ls
-  whole-good h =
-      let all = again-good es ls (each-line s) (length ls) (omega arith) (λ k l. first .before k (omega arith)) in
+  whole-good h = let all = again-good es ls (each-line s) (length ls) (omega arith) (λ k l. first .before k (omega arith)) in
       subst (Good es) (take-all (length ls) ls (omega arith)) all
 
   -- a line of another shape, or unended
@@ -240,8 +232,7 @@ module _ (es : List (List ℕ)) (s : List ℕ) where
 module _ (es earlier : List (List ℕ)) (good : Good es earlier) where
   none-before : (more : List (List ℕ)) (k : ℕ) → k < length earlier → isAgain es (earlier ++ more) k ≡ false
   unfolding isAgain
-  none-before more k h =
-      rw (List·getD-append earlier more [] k h, take-append-le k earlier more (omega arith)) (good-again es earlier good k h)
+  none-before more k h = rw (List·getD-append earlier more [] k h, take-append-le k earlier more (omega arith)) (good-again es earlier good k h)
 
   no-again : length earlier ≡ againIn es earlier
   unfolding againIn
@@ -251,8 +242,7 @@ module _ (es earlier : List (List ℕ)) (good : Good es earlier) where
 
   -- what follows begins with no line
   pub stopped : (t : List ℕ) → shapedLength t ≡ 0 → textRefusal es (linesOf (flatten earlier ++ t)) ≡ shapeRefusal (length earlier) t
-  stopped t e =
-      let c : Cut = record { pieces = earlier; rest = t } in
+  stopped t e = let c : Cut = record { pieces = earlier; rest = t } in
       let cut : linesOf (flatten earlier ++ t) ≡ c = lines-joined t (good .lines) ∙ ap (joined earlier) (cut-stop shapedLength t e)
       ∙ ap (λ (ls : List (List ℕ)). record { pieces = ls; rest = t }) (append-nil earlier) in
       ap (textRefusal es) cut ∙ text-rest es c no-again (omega arith)
@@ -268,8 +258,7 @@ module _ (es earlier : List (List ℕ)) (good : Good es earlier) where
 
     there : isAgain es ls′ (length earlier) ≡ true
     unfolding isAgain
-    there =
-        let names : equal (nameIn (getD earlier k [])) (nameIn l) ≡ true = equal-same (in-name y ∙ sym (in-name z)) in
+    there = let names : equal (nameIn (getD earlier k [])) (nameIn l) ≡ true = equal-same (in-name y ∙ sym (in-name z)) in
         let sums : equal (sumIn (getD earlier k [])) (sumIn l) ≡ false = unlike (λ e. other (sym (in-sum y) ∙ e ∙ in-sum z)) in
         let has : hasOther earlier l ≡ true = any-at _ [] earlier k h (simp (names, sums)) in
         rw (getD-append-seam earlier l (linesOf t .pieces) [], take-append-seam earlier (l ∷ linesOf t .pieces)) (simp (is-listed z es n, has))
@@ -282,8 +271,7 @@ module _ (es earlier : List (List ℕ)) (good : Good es earlier) where
 
     listed-again : textRefusal es (linesOf (flatten earlier ++ (l ++ t))) ≡ record { number = 23; place = length earlier + 1 }
     unfolding flatten
-    listed-again =
-        let c : Cut = record { pieces = ls′; rest = linesOf t .rest } in
+    listed-again = let c : Cut = record { pieces = ls′; rest = linesOf t .rest } in
         let one : linesOf (l ++ t) ≡ joined (l ∷ []) (linesOf t)
         = ap (λ (u : List ℕ). linesOf (u ++ t)) (sym (append-nil l)) ∙ lines-joined t (all-more line all-none) in
         let cut : linesOf (flatten earlier ++ (l ++ t)) ≡ c = lines-joined (l ++ t) (good .lines) ∙ ap (joined earlier) one in
@@ -324,8 +312,7 @@ none-faulty es s = (from, to)
     empty (b ∷ t) e = absurd (omega arith)
 
     from : textRefusal es (linesOf s) .number ≡ 0 → (ls : List (List ℕ)) × (s ≡ flatten ls) × Good es ls
-    from e =
-        let h = over e in
+    from e = let h = over e in
         let none : linesOf s .rest ≡ [] = empty (linesOf s .rest) (ap (λ (r : Refusal). r .number) (sym (text-rest es (linesOf s) refl h)) ∙ e) in
         let all : s ≡ flatten (linesOf s .pieces) = sym (cut-joins shapedLength s) ∙ ap (λ (t : List ℕ). flatten (linesOf s .pieces) ++ t) none ∙ append-nil _ in
         (linesOf s .pieces, all, whole-good es s h)

@@ -38,8 +38,7 @@ pub record Shaped (l : List ℕ) : Type 0 where
 
 pub shaped : (l : List ℕ) → isShaped l ≡ true → Shaped l
 unfolding isShaped
-shaped l e =
-    let both = and-both (leb 36 (length l) && allHexDigits (take 32 l)) (equal (take 2 (drop 32 l)) (ascii "  ")) e in
+shaped l e = let both = and-both (leb 36 (length l) && allHexDigits (take 32 l)) (equal (take 2 (drop 32 l)) (ascii "  ")) e in
     let two = and-both (leb 36 (length l)) (allHexDigits (take 32 l)) (both .0) in
     record { long = leb-true 36 (length l) (two .0); digits = two .1; spaces = equal-true _ _ (both .1) }
 
@@ -55,8 +54,7 @@ unfolding shapedLength
 has-line s some = by (isShaped (take (lineLength s) s)) refl some
   where
     by : (t : Bool) → isShaped (take (lineLength s) s) ≡ t → 0 < cond t (lineLength s) 0 → HasLine s
-    by true e h =
-        let is : shapedLength s ≡ lineLength s = simp e in
+    by true e h = let is : shapedLength s ≡ lineLength s = simp e in
         let shape = shaped (take (lineLength s) s) e in
         record {
           length-is = is;
@@ -69,8 +67,7 @@ has-line s some = by (isShaped (take (lineLength s) s)) refl some
 -- no byte of the sum or of the spaces ends a line
 pub past-sum : (s : List ℕ) (at : ℕ) → 0 < shapedLength (drop at s)
     → (at + 36 ≤ length s) × (34 + lineLength (drop (at + 34) s) ≡ shapedLength (drop at s))
-past-sum s at h =
-    let has = has-line (drop at s) h in
+past-sum s at h = let has = has-line (drop at s) h in
     let skip = line-skip (drop at s) 34 (omega (arith, has .length-is, has .low)) in
     let there = ap lineLength (drop-drop 34 at s) in
     (omega (arith, has .low, has .high, length-drop at s), omega (arith, has .length-is))
@@ -83,8 +80,7 @@ module _ (s : List ℕ) (at : ℕ) where
 
   pub lines-more : 0 < shapedLength (drop at s)
       → linesOf (drop at s) ≡ before (take (shapedLength (drop at s)) (drop at s)) (linesOf (drop (at + shapedLength (drop at s)) s))
-  lines-more h =
-      let n : ℕ = shapedLength (drop at s) in
+  lines-more h = let n : ℕ = shapedLength (drop at s) in
       cut-more shapedLength (drop at s) (omega (arith, has-line (drop at s) h .low, has-line (drop at s) h .high)) h
       ∙ ap (λ (t : List ℕ). before (take n (drop at s)) (linesOf t)) (drop-drop n at s)
 
@@ -106,11 +102,9 @@ line-at s p stands h = by (shapedLength (drop (p .at) s)) refl
     ls = linesOf s .pieces
 
     by : (n : ℕ) → n ≡ shapedLength (drop (p .at) s) → IsLine s p (shapedLength (drop (p .at) s))
-    by zero e =
-        let stopped = ap (λ (c : Cut). length (c .pieces)) (lines-stop s (p .at) (sym e)) in
+    by zero e = let stopped = ap (λ (c : Cut). length (c .pieces)) (lines-stop s (p .at) (sym e)) in
         absurd (omega (arith, ap length stands, length-drop (p .number) ls))
-    by (suc m) e =
-        let some : 0 < shapedLength (drop (p .at) s) = omega arith in
+    by (suc m) e = let some : 0 < shapedLength (drop (p .at) s) = omega arith in
         let has = has-line (drop (p .at) s) some in
         let more = ap (λ (c : Cut). c .pieces) (lines-more s (p .at) some) in
         let here = drop-cons ls (p .number) [] h ∙ ap (λ (k : ℕ). getD ls (p .number) [] ∷ drop k ls) (sym (add-one (p .number))) in

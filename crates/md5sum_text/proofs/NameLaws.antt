@@ -44,7 +44,6 @@ module _ (s t : List ℕ) where
   pub same-more : (i : ℕ) → 2 * i + 2 ≤ length s → i < length t
       → equal (unitsOf (drop (2 * i) s)) (drop i t) ≡ (eqb (leAt 2 s (2 * i)) (getD t i 0) && equal (unitsOf (drop (2 * (i + 1)) s)) (drop (i + 1) t))
   unfolding equal
-  same-more i h k =
-      let next : 2 * i + 2 ≡ 2 * (i + 1) = omega arith in
+  same-more i h k = let next : 2 * i + 2 ≡ 2 * (i + 1) = omega arith in
       ap₂ equal (units-more s (2 * i) h) (drop-cons t i 0 k ∙ ap (λ (j : ℕ). getD t i 0 ∷ drop j t) (sym (add-one i)))
       ∙ ap (λ (j : ℕ). eqb (leAt 2 s (2 * i)) (getD t i 0) && equal (unitsOf (drop j s)) (drop (i + 1) t)) next

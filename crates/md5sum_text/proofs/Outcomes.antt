@@ -80,6 +80,5 @@ import-view f s out = by (readOf f) refl
       where
         tested : (n : ℕ) → textRefusal (entriesIn f) (linesOf s) .number ≡ n → ImportView f s out (importInto f s out)
         tested zero z = subst (ImportView f s out) (import-right f s out e refl z refl) (imports e z (outcome (answersIn f s) out))
-        tested (suc n) z =
-            let some : textRefusal (entriesIn f) (linesOf s) .number ≡ 0 → ⊥ = λ q. omega arith in
+        tested (suc n) z = let some : textRefusal (entriesIn f) (linesOf s) .number ≡ 0 → ⊥ = λ q. omega arith in
             subst (ImportView f s out) (import-faulty f s out e refl some) (import-faults e some)

@@ -17,8 +17,7 @@ use Rattle.par1_read.specs.Reading.{entriesIn}
 use Rattle.md5sum_text.specs.Claim.{NamesPassedOver}
 
 pub names-passed-over : NamesPassedOver
-names-passed-over f name bad listed =
-    let e : List ℕ = getD (entriesIn f) (listed .0) [] in
+names-passed-over f name bad listed = let e : List ℕ = getD (entriesIn f) (listed .0) [] in
     let kept : Keeps e = all-at [] (entries-keep (listOf f)) (listed .0) (listed .1) in
     let wrong = name-rule (nameOf e) .1 (unstorable (subst Unstorable (sym (listed .2 .1)) bad)) in
     true≢false (sym (kept .name-right) ∙ wrong)

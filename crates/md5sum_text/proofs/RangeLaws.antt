@@ -50,8 +50,7 @@ line-most e h =
 text-most : {es : List (List ℕ)} → All (λ e. 58 ≤ length e) es → length (exportText es) ≤ length (flatten es)
 unfolding exportText flatten
 text-most all-none = omega arith
-text-most (all-more {x} {xs} h hs) =
-    omega (arith, line-most x h, text-most hs, length-append (lineFor x) (exportText xs), length-append x (flatten xs))
+text-most (all-more {x} {xs} h hs) = omega (arith, line-most x h, text-most hs, length-append (lineFor x) (exportText xs), length-append x (flatten xs))
 
 list-most : (f : List ℕ) {p : Parts} → readOf f ≡ reading.Accepted p → length (listOf f) ≤ maxVolumeLength
 list-most f {p} e = omega (arith, length-take (listSizeOf f) (drop 96 f), length-drop 96 f, read-tells f p e .tests .header .size .high)

@@ -47,12 +47,10 @@ module _ (ls : List (List ℕ)) (e : List ℕ) (lines : All Line ls) where
 
           by : (b : Bool) → equal (sumIn (getD ls first [])) (sumOf e) ≡ b → Says ls e (cond b 1 2)
           by true z = same-sum first h (here .line-of) names (sym (in-sum (here .line-of)) ∙ equal-true _ _ z)
-          by false z =
-              other-sum first h (here .line-of) names (λ q. true≢false (sym (equal-same (in-sum (here .line-of) ∙ q)) ∙ z))
+          by false z = other-sum first h (here .line-of) names (λ q. true≢false (sym (equal-same (in-sum (here .line-of) ∙ q)) ∙ z))
 
       none : length ls ≤ first → Says ls e (answerFor ls e)
-      none h =
-          let nowhere : (k : ℕ) → k < length ls → isNamed (getD ls k []) e ≡ false = λ k l. is-first .before k (omega arith) in
+      none h = let nowhere : (k : ℕ) → k < length ls → isNamed (getD ls k []) e ≡ false = λ k l. is-first .before k (omega arith) in
           subst (Says ls e) (sym (answer-none ls e nowhere))
           (no-line (λ k sum name l z n. true≢false (sym (named-it z e n) ∙ nowhere k l)))
 
@@ -63,8 +61,7 @@ module _ (es ls : List (List ℕ)) (good : Good es ls) (i : ℕ) (h : i < length
   -- two lines that name the entry have one sum
   one-sum : (j k : ℕ) {sum sum′ name name′ : List ℕ} → j < length ls → k < length ls → LineOf sum name (getD ls j []) → LineOf sum′ name′ (getD ls k [])
       → Names name e′ → Names name′ e′ → sum ≡ sum′
-  one-sum j k {sum} {sum′} {name} {name′} l m y z n o =
-      let same : name′ ≡ name = sym (o .1) ∙ n .1 in
+  one-sum j k {sum} {sum′} {name} {name′} l m y z n o = let same : name′ ≡ name = sym (o .1) ∙ n .1 in
       good .agree j k l m y (subst (λ (w : List ℕ). LineOf sum′ w (getD ls k [])) same z) (i, h, n)
 
   pub says-one : {a b : ℕ} → Says ls e′ a → Says ls e′ b → a ≡ b

@@ -86,8 +86,7 @@ module _ {sum name l : List ℕ} (z : LineOf sum name l) where
   in-sum = ap (take 32) (z .line-is) ∙ take-at sum tail 32 (z .sum-length)
 
   pub in-name : nameIn l ≡ name
-  in-name =
-      let size : length l - 35 ≡ length name = omega (arith, line-length) in
+  in-name = let size : length l - 35 ≡ length name = omega (arith, line-length) in
       let past : drop 34 l ≡ name ++ (10 ∷ []) = sym (drop-drop 2 32 l)
       ∙ ap (drop 2) (ap (drop 32) (z .line-is) ∙ drop-at sum tail 32 (z .sum-length)) in
       ap₂ (λ (n : ℕ) (t : List ℕ). take n t) size past ∙ take-append-seam name (10 ∷ [])
@@ -103,8 +102,7 @@ module _ {sum name l : List ℕ} (z : LineOf sum name l) where
 
   -- only the last byte ends it
   first-line : (s : List ℕ) → lineLength (l ++ s) ≡ length l
-  first-line s =
-      let front : List ℕ = sum ++ (32 ∷ 32 ∷ name) in
+  first-line s = let front : List ℕ = sum ++ (32 ∷ 32 ∷ name) in
       let on : All (λ b. b ≡ 10 → ⊥) front = all-append (all-map digit-on (z .digits)) (all-more (λ e. omega arith) (all-more (λ e. omega arith) (z .no-end))) in
       let split : l ++ s ≡ front ++ 10 ∷ s = ap (λ (k : List ℕ). k ++ s) (z .line-is) ∙ regroup sum name s in
       ap lineLength split ∙ line-joined front s (all-at 0 on) ∙ (let size : length front + 1 ≡ length l = omega (arith, line-length, length-append sum (32 ∷ 32 ∷ name), z .sum-length) in size)
@@ -119,8 +117,7 @@ module _ {sum name l : List ℕ} (z : LineOf sum name l) where
 -- ---- the claim
 
 line-from : (s : List ℕ) → HasLine s → Line (take (shapedLength s) s)
-line-from s has =
-    let n : ℕ = shapedLength s in
+line-from s has = let n : ℕ = shapedLength s in
     let l : List ℕ = take n s in
     let size : length l ≡ n = length-take-le n s (has .high) in
     let ended : l ≡ take (n - 1) s ++ (10 ∷ []) = rw (has .length-is) (line-ends s (omega (arith, has .low, has .length-is))) in
@@ -164,8 +161,7 @@ joined ls c = record { pieces = ls ++ c .pieces; rest = c .rest }
 pub lines-joined : {ls : List (List ℕ)} (t : List ℕ) → All Line ls → linesOf (flatten ls ++ t) ≡ joined ls (linesOf t)
 unfolding flatten
 lines-joined t all-none = refl
-lines-joined t (all-more {x} {xs} z zs) =
-    let s : List ℕ = flatten xs ++ t in
+lines-joined t (all-more {x} {xs} z zs) = let s : List ℕ = flatten xs ++ t in
     let first : shapedLength (x ++ s) ≡ length x = shape .0 x s z in
     let some : 0 < length x = omega (arith, line-length (z .line-of)) in
     ap (λ (u : List ℕ). linesOf u) (append-assoc x (flatten xs) t)
@@ -175,5 +171,4 @@ lines-joined t (all-more {x} {xs} z zs) =
     ∙ ap (before x) (lines-joined t zs)
 
 pub rest-stops : (s : List ℕ) → 0 < length (linesOf s .rest) → shapedLength (linesOf s .rest) ≡ 0
-rest-stops =
-    cut-induct shapedLength (λ s c. 0 < length (c .rest) → shapedLength (c .rest) ≡ 0) (λ h. absurd (omega arith)) (λ s e h. e) (λ s h k r. r)
+rest-stops = cut-induct shapedLength (λ s c. 0 < length (c .rest) → shapedLength (c .rest) ≡ 0) (λ h. absurd (omega arith)) (λ s e h. e) (λ s h k r. r)

@@ -75,8 +75,7 @@ neither : (s t : Bool) → s ≡ false → t ≡ false → (s || t) ≡ false
 neither s t e f = simp (e, f)
 
 pub first-or : (m : ℕ) (s t u : ℕ → Bool) → ((k : ℕ) → u k ≡ (s k || t k)) → firstBelow (firstBelow m s) t ≡ firstBelow m u
-first-or m s t u is =
-    let n : ℕ = firstBelow m s in
+first-or m s t u is = let n : ℕ = firstBelow m s in
     let r : ℕ = firstBelow n t in
     let S = first-is m s in
     let T = first-is n t in
@@ -124,8 +123,7 @@ sum-length {l} z = length-take-le 32 l (omega (arith, z .long))
 -- what the search for a name and another sum says of a line
 module _ (name sum l : List ℕ) where
   named-other : isOther name sum l ≡ true → (equal (unitsOf name) (nameIn l) ≡ true) × (sumIn l ≡ sum → ⊥)
-  named-other e =
-      let both = and-both (equal (unitsOf name) (nameIn l)) (not (equal (sumIn l) sum)) e in
+  named-other e = let both = and-both (equal (unitsOf name) (nameIn l)) (not (equal (sumIn l) sum)) e in
       (both .0, λ z. true≢false (sym (both .1) ∙ ap not (equal-same z)))
 
   named-same : isOther name sum l ≡ false → equal (unitsOf name) (nameIn l) ≡ true → sumIn l ≡ sum
@@ -196,14 +194,12 @@ module _ (s e : List ℕ) (m : ℕ) (most : m ≤ length (linesOf s .pieces)) wh
                     test : (b : Bool) → equal (nameIn (getD ls i [])) (nameIn (getD ls j [])) ≡ b
                         → (b && not (equal (sumIn (getD ls i [])) (sumIn (getD ls j [])))) ≡ false
                     test false z = refl
-                    test true z =
-                        let too : isNamed (getD ls i []) e ≡ true = sym (name-is i) ∙ equal-same (named-is j n ∙ sym (equal-true _ _ z)) in
+                    test true z = let too : isNamed (getD ls i []) e ≡ true = sym (name-is i) ∙ equal-same (named-is j n ∙ sym (equal-true _ _ z)) in
                         ap not (equal-same (same-before i (omega arith) too ∙ sym (same-before j h n)))
 
         found-there : q < m → isAgain (e ∷ []) ls q ≡ true
         unfolding isAgain any
-        found-there h =
-            let o = named-other (nameOf e) sum (getD ls q []) (next .found h) in
+        found-there h = let o = named-other (nameOf e) sum (getD ls q []) (next .found h) in
             let is = sum-is (omega (arith, next .low)) in
             let n : isNamed (getD ls q []) e ≡ true = sym (name-is q) ∙ o .0 in
             let apart : p ≡ q → ⊥ = λ z. o .1 (ap (λ (k : ℕ). sumIn (getD ls k [])) (sym z) ∙ sym is) in
@@ -221,14 +217,12 @@ module _ (s e : List ℕ) (m : ℕ) (most : m ≤ length (linesOf s .pieces)) wh
 -- the same, as the code's searches answer
 pub found-as : (s e : List ℕ) {name sum : List ℕ} {m : ℕ} {p q : Place} → name ≡ nameOf e → Found s name sum m p q
     → Sought (linesOf s .pieces) (isOther (nameOf e) sum) (p .number) m (q .number)
-found-as s e {name} {sum} {m} {p} {q} is f =
-    subst (λ (n : List ℕ). Sought (linesOf s .pieces) (isOther n sum) (p .number) m (q .number)) is (f .sought)
+found-as s e {name} {sum} {m} {p} {q} is f = subst (λ (n : List ℕ). Sought (linesOf s .pieces) (isOther n sum) (p .number) m (q .number)) is (f .sought)
 
 -- the sum of the line where a search stopped
 pub seen-sum : (s : List ℕ) (p : Place) {sum : List ℕ} → Stands s p → sum ≡ take 32 (drop (p .at) s) → p .number < length (linesOf s .pieces)
     → sum ≡ sumIn (getD (linesOf s .pieces) (p .number) [])
-seen-sum s p stands e h =
-    let i = line-at s p stands h in
+seen-sum s p stands e h = let i = line-at s p stands h in
     e ∙ sym (take-take 32 (shapedLength (drop (p .at) s)) (drop (p .at) s) (omega (arith, i .low))) ∙ ap sumIn (i .line-is)
 
 -- ---- the byte for an entry
@@ -259,6 +253,5 @@ module _ (s e : List ℕ) (m : ℕ) (all : m ≡ length (linesOf s .pieces)) (fi
   answer-over z = answer-none (linesOf s .pieces) e (λ k h. named .before k (omega (arith, all)))
 
   pub answer-seen : (p ≡ m → ⊥) → answerFor (linesOf s .pieces) e ≡ cond (equal (sumIn (getD (linesOf s .pieces) p [])) (sumOf e)) 1 2
-  answer-seen z =
-      let h : p < m = omega (arith, first .high) in
+  answer-seen z = let h : p < m = omega (arith, first .high) in
       answer-first (linesOf s .pieces) e p (omega (arith, all)) (named .before) (named .found h)

@@ -32,8 +32,7 @@ or-right false b e = refl
 
 pub within-bits : (m : ℕ) (ws : List ℕ) → within m ws ≡ true → (k : ℕ) → k < 256 → member ws k ≡ true → oneTo m k ≡ true
 unfolding within
-within-bits m ws h k l e =
-    subst (λ (b : Bool). (not b || oneTo m k) ≡ true) e (all-at 256 (λ k. not (member ws k) || oneTo m k) h k l)
+within-bits m ws h k l e = subst (λ (b : Bool). (not b || oneTo m k) ≡ true) e (all-at 256 (λ k. not (member ws k) || oneTo m k) h k l)
 
 pub within-by : (m : ℕ) (ws : List ℕ) → ((k : ℕ) → k < 256 → member ws k ≡ true → oneTo m k ≡ true) → within m ws ≡ true
 unfolding within
@@ -47,8 +46,7 @@ within-by m ws h = all-true 256 (λ k. not (member ws k) || oneTo m k) (λ k l. 
 
 pub apart-bits : (ws ws′ : List ℕ) → apart ws ws′ ≡ true → (k : ℕ) → k < 256 → member ws k ≡ true → member ws′ k ≡ false
 unfolding apart
-apart-bits ws ws′ h k l e =
-    go (member ws k) (member ws′ k) e (all-at 256 (λ k. not (member ws k && member ws′ k)) h k l)
+apart-bits ws ws′ h k l e = go (member ws k) (member ws′ k) e (all-at 256 (λ k. not (member ws k && member ws′ k)) h k l)
   where
     go : (a b : Bool) → a ≡ true → not (a && b) ≡ true → b ≡ false
     go true true e h = absurd (false≢true h)

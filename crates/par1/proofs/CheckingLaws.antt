@@ -44,8 +44,7 @@ fault-some Name z = omega arith
 
 allowed-lone : (e : List ℕ) → entrySize e ≡ length e → entryAllowed e ≡ true → Lone e
 unfolding entryAllowed bodyAllowed
-allowed-lone e fills allowed =
-    let both = and-both (entrySizeAllowed (entrySize e) (length e)) _ allowed in
+allowed-lone e fills allowed = let both = and-both (entrySizeAllowed (entrySize e) (length e)) _ allowed in
     let body = and-both (fileSizeAllowed (fileSizeOf (take (entrySize e) e))) _ (both .1) in
     let own : take (entrySize e) e ≡ e = ap (λ (k : ℕ). take k e) fills ∙ take-length e in
     record {
@@ -56,8 +55,7 @@ allowed-lone e fills allowed =
 
 pub lone-tells : (e : List ℕ) → loneRefusal e ≡ 0 → Lone e
 unfolding loneRefusal
-lone-tells e z =
-    let passed = test-passed 16 (eqb (entrySize e) (length e)) (itemNumber (firstOf e)) (omega arith) z in
+lone-tells e z = let passed = test-passed 16 (eqb (entrySize e) (length e)) (itemNumber (firstOf e)) (omega arith) z in
     by (firstOf e) refl (eqb-true _ _ (passed .0)) (passed .1)
   where
     by : (i : Item) → i ≡ firstOf e → entrySize e ≡ length e → itemNumber i ≡ 0 → Lone e

@@ -50,8 +50,7 @@ record EntryFields (s m : List ℕ) (status : ℕ) (name : List ℕ) : Type 0 wh
 entry-fields : (m : List ℕ) (status : ℕ) (name : List ℕ) → status < 2 ^ 64 → length m < 2 ^ 64 → 56 + length name < 2 ^ 64
     → EntryFields (entryBytes m status name) m status name
 unfolding entryBytes
-entry-fields m status name s n k =
-    let e : List ℕ = entryBytes m status name in
+entry-fields m status name s n k = let e : List ℕ = entryBytes m status name in
     let at0 : At e 0 (toLe 8 (56 + length name) ∷ toLe 8 status ∷ toLe 8 (length m) ∷ md5 m ∷ md5First m ∷ name ∷ []) = record { joined = refl } in
     let at8 = at-next 8 (length-toLe 8 (56 + length name)) at0 in
     let at16 = at-next 8 (length-toLe 8 status) at8 in
@@ -76,16 +75,14 @@ record Named (name : List ℕ) : Type 0 where
 
 named-right : (name : List ℕ) → nameAllowed name ≡ true → Named name
 unfolding nameAllowed
-named-right name e =
-    let both = and-both (leb 2 (length name) && eqb (length name % 2) 0) _ e in
+named-right name e = let both = and-both (leb 2 (length name) && eqb (length name % 2) 0) _ e in
     let two = and-both (leb 2 (length name)) (eqb (length name % 2) 0) (both .0) in
     record { some = leb-true _ _ (two .0); even = eqb-true _ _ (two .1); allowed = e }
 
 module _ {e m : List ℕ} {status : ℕ} {name : List ℕ} (size : length e ≡ 56 + length name) (d : EntryFields e m status name)
     (right : Named name) (short : fileSizeAllowed (length m) ≡ true) where
   walked-back : (rest : List ℕ) → firstOf (e ++ rest) ≡ Entry (length e) status (length m)
-  walked-back rest =
-      let s : List ℕ = e ++ rest in
+  walked-back rest = let s : List ℕ = e ++ rest in
       let total : length s ≡ length e + length rest = length-append e rest in
       let own : take (length e) s ≡ e = take-append-seam e rest in
       let told : length e ≡ entrySize s = sym (leAt-append 8 e rest 0 (omega (arith, right .some)) ∙ d .entry-size ∙ sym size) in
@@ -104,8 +101,7 @@ module _ {e m : List ℕ} {status : ℕ} {name : List ℕ} (size : length e ≡ 
 
   lone-back : loneRefusal e ≡ 0
   unfolding loneRefusal
-  lone-back =
-      let whole : firstOf e ≡ Entry (length e) status (length m) = ap firstOf (sym (append-nil e)) ∙ walked-back [] in
+  lone-back = let whole : firstOf e ≡ Entry (length e) status (length m) = ap firstOf (sym (append-nil e)) ∙ walked-back [] in
       simp (eq-eqb (entrySize e) (length e) (d .entry-size ∙ sym size), whole)
 
   checked-back : checkOf e m ≡ bare 0
@@ -113,18 +109,17 @@ module _ {e m : List ℕ} {status : ℕ} {name : List ℕ} (size : length e ≡ 
   checked-back = check-lone e m lone-back ∙ simp (eq-eqb _ _ (d .size-is), equal-same (d .md5-is), equal-same (d .md5-first-is))
 
   all-back : EntryBack e m status name
-  all-back =
-      record {
-        first-is = walked-back;
-        entries-are = listed-back;
-        status-is = d .status-is;
-        size-is = d .size-is;
-        md5-is = d .md5-is;
-        md5-first-is = d .md5-first-is;
-        name-is = d .named;
-        lone-is = lone-back;
-        check-is = checked-back;
-      }
+  all-back = record {
+    first-is = walked-back;
+    entries-are = listed-back;
+    status-is = d .status-is;
+    size-is = d .size-is;
+    md5-is = d .md5-is;
+    md5-first-is = d .md5-first-is;
+    name-is = d .named;
+    lone-is = lone-back;
+    check-is = checked-back;
+  }
 
 -- ---- the claims
 
@@ -135,16 +130,14 @@ entry-accepted m status name out size-right status-right name-right fits =
 
 pub entry-back : (m : List ℕ) (status : ℕ) (name : List ℕ) → fileSizeAllowed (length m) ≡ true → status < 2 ^ 64 → nameAllowed name ≡ true
     → length (entryBytes m status name) < 2 ^ 64 → EntryBack (entryBytes m status name) m status name
-entry-back m status name sized small named few =
-    let short : length m ≤ 16777216 = leb-true (length m) 16777216 sized in
+entry-back m status name sized small named few = let short : length m ≤ 16777216 = leb-true (length m) 16777216 sized in
     let size : length (entryBytes m status name) ≡ 56 + length name = length-entry m status name in
     let d = entry-fields m status name small (omega arith) (omega arith) in
     all-back size d (named-right name named) sized
 
 pub entry-written : EntryWritten
 unfolding writeEntryOf
-entry-written m status name out n room few e =
-    let told = unless-tells (bare (entryRefusal (length m) status name)) (entryBytes m status name) out e in
+entry-written m status name out n room few e = let told = unless-tells (bare (entryRefusal (length m) status name)) (entryBytes m status name) out e in
     let passed = entry-passed (length m) status name (told .none) in
     let small : status ≤ 1 = leb-true status 1 (passed .status-right) in
     subst (λ (l : List ℕ). EntryBack l m status name) (sym (told .written-is))

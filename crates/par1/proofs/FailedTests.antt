@@ -40,8 +40,7 @@ number-decides v n = by (decLt 254 n) (ℕ-discrete v 0) (ℕ-discrete n 0) (dec
     by : Dec (254 < n) → Dec (v ≡ 0) → Dec (n ≡ 0) → Dec (255 < v + n) → Decides (numberAllowed v n) (BadNumber v n)
     by (yes h) index empty past = fails (simp (lt-leb n 254 h)) (too-many h)
     by (no h) (yes z) empty past = passes (simp (le-leb n 254 (omega arith), eq-eqb v 0 z)) (none (omega arith) (λ k. absurd (omega arith)))
-    by (no h) (no k) (yes z) past =
-        fails (simp (le-leb n 254 (omega arith), ne-eqb v 0 k, lt-leb 1 n (omega arith))) (no-files (omega arith) z)
+    by (no h) (no k) (yes z) past = fails (simp (le-leb n 254 (omega arith), ne-eqb v 0 k, lt-leb 1 n (omega arith))) (no-files (omega arith) z)
     by (no h) (no k) (no l) (yes p) =
         fails (simp (le-leb n 254 (omega arith), ne-eqb v 0 k, le-leb 1 n (omega arith), lt-leb (v + n) 255 p)) (past-255 (omega arith) p)
     by (no h) (no k) (no l) (no p) =
@@ -73,8 +72,7 @@ name-decides name = decides-by (nameAllowed name) (λ e bad. false≢true (sym (
 
 pub told-decides : (e m : List ℕ) → Decides (isDescribed e m) (Differs e m)
 unfolding isDescribed
-told-decides e m =
-    by (eqb (fileSizeOf e) (length m)) (equal (md5Of e) (md5 m)) (equal (md5Of16k e) (md5First m)) refl refl refl
+told-decides e m = by (eqb (fileSizeOf e) (length m)) (equal (md5Of e) (md5 m)) (equal (md5Of16k e) (md5First m)) refl refl refl
   where
     none : fileSizeOf e ≡ length m → md5Of e ≡ md5 m → md5Of16k e ≡ md5First m → Differs e m → ⊥
     none size whole first (in-length h) = h size

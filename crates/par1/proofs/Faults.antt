@@ -34,8 +34,7 @@ use Rattle.par1.proofs.FailedTests.{told-decides}
 
 pub fault-written : FaultWritten
 unfolding writeVolumeOf writtenUnless
-fault-written c program number list area out r fault =
-    let s : List ℕ = volumeBytes c program number list area in
+fault-written c program number list area out r fault = let s : List ℕ = volumeBytes c program number list area in
     ap (λ (w : Walked). writtenUnless (walkRefusal number w (length list) (length area)) s out) (first-refused list r .1 fault)
     ∙ simp (ne-eqb (r .number) 0 (breaks-number (fault .breaks)))
 
@@ -46,8 +45,7 @@ unfolding firstOf
 item-broken [] (breaks-size p) = refl
 item-broken [] (breaks-file-size p q) = absurd (let z = sized (entrySize []) 0 p in omega (arith, z .low, z .high))
 item-broken [] (breaks-name p q r) = absurd (let z = sized (entrySize []) 0 p in omega (arith, z .low, z .high))
-item-broken (b ∷ e) broken =
-    let told = broken-first (b ∷ e) (omega arith) broken in ap (λ (i : Item). itemNumber i) (told .0) ∙ told .1
+item-broken (b ∷ e) broken = let told = broken-first (b ∷ e) (omega arith) broken in ap (λ (i : Item). itemNumber i) (told .0) ∙ told .1
 
 module _ {e : List ℕ} where
   pub lone-number : {n : ℕ} → LoneBreaks e n → loneRefusal e ≡ n
@@ -61,8 +59,7 @@ module _ {e : List ℕ} where
 
 pub lone-refused : LoneRefused
 unfolding checkOf
-lone-refused e m n broken =
-    ap (λ (k : ℕ). orElse k (bare (test 15 (isDescribed e m) 0))) (lone-number broken) ∙ or-else n _ (lone-some broken)
+lone-refused e m n broken = ap (λ (k : ℕ). orElse k (bare (test 15 (isDescribed e m) 0))) (lone-number broken) ∙ or-else n _ (lone-some broken)
 
 -- it breaks a rule, or passes
 pub lone-first : (e : List ℕ) (P : Type 0) → ((n : ℕ) → LoneBreaks e n → P) → (loneRefusal e ≡ 0 → P) → P
@@ -74,8 +71,7 @@ lone-first e P some none = by (ℕ-discrete (entrySize e) (length e))
     ruled fills false b c p q r = some _ (breaks-rule fills (breaks-size p))
     ruled fills true false c p q r = some _ (breaks-rule fills (breaks-file-size p q))
     ruled fills true true false p q r = some _ (breaks-rule fills (breaks-name p q r))
-    ruled fills true true true p q r =
-        let z = sized (entrySize e) (length e) p in
+    ruled fills true true true p q r = let z = sized (entrySize e) (length e) p in
         let long : 0 < length e = omega (arith, z .low, z .high) in
         none (simp (eq-eqb (entrySize e) (length e) fills, first-entry e long refl p q r))
 

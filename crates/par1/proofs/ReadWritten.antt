@@ -66,21 +66,19 @@ module _ {number : ℕ} {list : List ℕ} (area : List ℕ) (accepted : ListPass
     (f : List ℕ) {c : Code} (program : ℕ) {body : List ℕ} (d : Fields f c program body (length (entriesOf list .pieces)) number list area)
     (size : length f ≡ 96 + length list + length area) where
   written-header : HeaderPassed f (length f)
-  written-header =
-      record {
-        size = subst Between (sym size) (accepted .tests .size);
-        begins = d .begins;
-        version-is = cc (code-back c);
-        layout = record {
-          list-start = d .list-start;
-          data-start = omega (arith, d .data-start, d .list-size);
-          data-end = omega (arith, d .data-start, d .data-size, size);
-        };
-      }
+  written-header = record {
+    size = subst Between (sym size) (accepted .tests .size);
+    begins = d .begins;
+    version-is = cc (code-back c);
+    layout = record {
+      list-start = d .list-start;
+      data-start = omega (arith, d .data-start, d .list-size);
+      data-end = omega (arith, d .data-start, d .data-size, size);
+    };
+  }
 
   written-totals : TotalsPassed f (setHash (entriesIn f)) (accepted .totals-of)
-  written-totals =
-      let t : Totals = accepted .totals-of in
+  written-totals = let t : Totals = accepted .totals-of in
       record {
         count-is = walk-count list (accepted .walk-is) ∙ sym (d .count-is);
         number-right = ap (λ (v : ℕ). numberAllowed v (t .saved)) (d .number-is) ∙ accepted .tests .number-right;
@@ -89,14 +87,13 @@ module _ {number : ℕ} {list : List ℕ} (area : List ℕ) (accepted : ListPass
       }
 
   written-passed : Passed f
-  written-passed =
-      record {
-        header = written-header;
-        control-is = d .control-is ∙ ap md5 (sym (d .hashed-is));
-        totals-of = accepted .totals-of;
-        walk-is = ap walkOf (d .list-is) ∙ accepted .walk-is;
-        totals = written-totals;
-      }
+  written-passed = record {
+    header = written-header;
+    control-is = d .control-is ∙ ap md5 (sym (d .hashed-is));
+    totals-of = accepted .totals-of;
+    walk-is = ap walkOf (d .list-is) ∙ accepted .walk-is;
+    totals = written-totals;
+  }
 
   written-parts : partsOf f ≡ partsFor c program number list area
   written-parts = cc (code-back c)
@@ -104,8 +101,7 @@ module _ {number : ℕ} {list : List ℕ} (area : List ℕ) (accepted : ListPass
 pub volume-back : (c : Code) (program number : ℕ) (list area : List ℕ) → program < 2 ^ 32 → number < 2 ^ 64 → ListPassed number list (length area)
     → ReadBack (volumeBytes c program number list area) c program number list area
 unfolding volumeBytes
-volume-back c program number list area p v accepted =
-    let f : List ℕ = volumeBytes c program number list area in
+volume-back c program number list area p v accepted = let f : List ℕ = volumeBytes c program number list area in
     let size : length f ≡ 96 + length list + length area = length-volume c program number list area in
     let few : length (entriesOf list .pieces) < 2 ^ 64 = omega (arith, cut-count lengthOf list, accepted .tests .size .high) in
     let d = volume-fields f c program (length (entriesOf list .pieces)) number list area refl p v few (omega (arith, accepted .tests .size .high)) in

@@ -214,13 +214,11 @@ module _ (f : List ℕ) (bytes : Bytes f) where
       by (none z passed) = by-walk (walkOf (listOf f)) refl z passed
 
   refused-by : {r : Refusal} → ReadRefuses f r → readOf f ≡ Refused r
-  refused-by (by-head first) =
-      let told = told-first (head-told f bytes) first in
+  refused-by (by-head first) = let told = told-first (head-told f bytes) first in
       read-refused f (sym (joined-is ∙ or-else (headNumber f) _ (λ z. told .1 (sym (told .0) ∙ z)) ∙ ap bare (told .0))) (told .1)
   refused-by (by-entry {r} passed fault) =
       read-refused f (sym (by-list (told-none (head-told f bytes) passed) (first-refused (listOf f) r .1 fault))) (breaks-number (fault .breaks))
-  refused-by (by-totals {t} passed e first) =
-      let told = told-first (totals-told f t) first in
+  refused-by (by-totals {t} passed e first) = let told = told-first (totals-told f t) first in
       read-refused f (sym (by-list (told-none (head-told f bytes) passed) e ∙ ap bare (told .0))) (told .1)
 
 pub reading-refused : ReadRefused

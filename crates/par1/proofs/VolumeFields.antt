@@ -44,8 +44,7 @@ pub volume-fields : (f : List ℕ) (c : Code) (program n number : ℕ) (list are
     → program < 2 ^ 32 → number < 2 ^ 64 → n < 2 ^ 64 → 96 + length list + length area < 2 ^ 64
     → Fields f c program (bodyBytes n number list area) n number list area
 unfolding headBytes bodyBytes numbers flatten
-volume-fields f c program n number list area e p v k size =
-    let body : List ℕ = bodyBytes n number list area in
+volume-fields f c program n number list area e p v k size = let body : List ℕ = bodyBytes n number list area in
     let at0 : At f 0 (toLe 8 signature ∷ toLe 4 (versionFor c) ∷ toLe 4 program ∷ md5 body ∷ body ∷ []) =
     at-start (toLe 8 signature ∷ toLe 4 (versionFor c) ∷ toLe 4 program ∷ md5 body ∷ []) body e in
     let at8 = at-next 8 (length-toLe 8 signature) at0 in

@@ -50,25 +50,20 @@ module _ (c : Code) (program number : ℕ) (list area out : List ℕ) where
   number-refused : {t : Totals} (k : ℕ) → walkOf list ≡ walked.Entries t → volumeRefusal number t (length list) (length area) ≡ k → (k ≡ 0 → ⊥)
       → writeVolumeOf c program number list area out ≡ refused (bare k) out
   unfolding writeVolumeOf
-  number-refused k e is some =
-      let s : List ℕ = volumeBytes c program number list area in
+  number-refused k e is some = let s : List ℕ = volumeBytes c program number list area in
       ap (λ (w : Walked). writtenUnless (walkRefusal number w (length list) (length area)) s out) e
       ∙ sym (unless-refused s out (ap bare (sym is)) some refl)
 
   volume-refuses : {r : Refusal} → VolumeRefuses number list area out r → writeVolumeOf c program number list area out ≡ refused r out
   unfolding volumeRefusal
   volume-refuses {r} (list-fault f) = fault-written c program number list area out r f
-  volume-refuses (bad-number {t} e b) =
-      number-refused 7 e (simp (fails-where (number-decides number (t .saved)) b)) (λ z. omega arith)
-  volume-refuses (bad-data {t} e n b) =
-      let seven = passes-where (number-decides number (t .saved)) n in
+  volume-refuses (bad-number {t} e b) = number-refused 7 e (simp (fails-where (number-decides number (t .saved)) b)) (λ z. omega arith)
+  volume-refuses (bad-data {t} e n b) = let seven = passes-where (number-decides number (t .saved)) n in
       let nine = fails-where (data-decides number (t .greatest) (length area)) b in number-refused 9 e (simp (seven, nine)) (λ z. omega arith)
-  volume-refuses (total-long {t} e n d h) =
-      let seven = passes-where (number-decides number (t .saved)) n in
+  volume-refuses (total-long {t} e n d h) = let seven = passes-where (number-decides number (t .saved)) n in
       let nine = passes-where (data-decides number (t .greatest) (length area)) d in
       number-refused 1 e (simp (seven, nine, too-long (96 + length list + length area) h)) (λ z. omega arith)
-  volume-refuses (volume-room {t} e n d high h) =
-      let seven = passes-where (number-decides number (t .saved)) n in
+  volume-refuses (volume-room {t} e n d high h) = let seven = passes-where (number-decides number (t .saved)) n in
       let nine = passes-where (data-decides number (t .greatest) (length area)) d in
       let none = volume-none number t (length list) (length area)
       (record { number-right = seven; data-right = nine; size = record { low = omega arith; high = high } }) in
@@ -92,8 +87,7 @@ module _ (c : Code) (program number : ℕ) (list area out : List ℕ) where
 
       by : (w : Walked) → walkOf list ≡ w → P
       by (walked.Refused r) e = some _ (list-fault (first-refused list r .0 e))
-      by (walked.Entries t) e =
-          let total : ℕ = 96 + length list + length area in
+      by (walked.Entries t) e = let total : ℕ = 96 + length list + length area in
           sized e (number-decides number (t .saved)) (data-decides number (t .greatest) (length area)) (decLt maxVolumeLength total) (decLt (length out) total)
 
 pub volume-refused : VolumeRefused
@@ -117,19 +111,16 @@ module _ (m : List ℕ) (status : ℕ) (name out : List ℕ) where
   unfolding entryRefusal
   entry-refuses (long-contents h) = entry-number 17 (simp (lt-leb (length m) maxFileSize h)) (λ z. omega arith)
   entry-refuses (other-status h) = entry-number 17 (simp (lt-leb status 1 h) (either-17 (fileSizeAllowed (length m)))) (λ z. omega arith)
-  entry-refuses (bad-name size small b) =
-      let name-is = fails-where (name-decides name) b in
+  entry-refuses (bad-name size small b) = let name-is = fails-where (name-decides name) b in
       entry-number 18 (simp (le-leb (length m) maxFileSize size, le-leb status 1 small, name-is)) (λ z. omega arith)
-  entry-refuses (entry-room size small good h) =
-      let name-is = passes-where (name-decides name) good in
+  entry-refuses (entry-room size small good h) = let name-is = passes-where (name-decides name) good in
       let none : entryRefusal (length m) status name ≡ 0 = simp (le-leb (length m) maxFileSize size, le-leb status 1 small, name-is) in
       sym (laws.entry-short m status name out (sym none) refl refl h)
 
   -- one of the tests fails, or the entry is written
   entry-first : (P : Type 0) → ((r : Refusal) → EntryRefuses m status name out r → P)
       → (writeEntryOf m status name out ≡ accepted (entryBytes m status name) out → P) → P
-  entry-first P some none =
-      by (decLt maxFileSize (length m)) (decLt 1 status) (name-decides name) (decLt (length out) (56 + length name))
+  entry-first P some none = by (decLt maxFileSize (length m)) (decLt 1 status) (name-decides name) (decLt (length out) (56 + length name))
     where
       by : Dec (maxFileSize < length m) → Dec (1 < status) → Decides (nameAllowed name) (BadName name) → Dec (length out < 56 + length name) → P
       by (yes h) stated named room = some _ (long-contents h)

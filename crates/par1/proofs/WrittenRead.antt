@@ -55,8 +55,7 @@ module _ (f : List ℕ) (bytes : Bytes f) (tests : Passed f) where
 
   body-again : bodyBytes (length (entriesIn f)) (volumeNumberOf f) (listOf f) (dataOf f) ≡ hashedOf f
   unfolding bodyBytes numbers flatten
-  body-again =
-      let l : List ℕ = listOf f in
+  body-again = let l : List ℕ = listOf f in
       let area : List ℕ = dataOf f in
       let low : 96 ≤ length f = tests .header .size .low in
       let starts : 96 + length l ≡ dataStartOf f = omega (arith, list-length, tests .header .layout .data-start) in
@@ -74,8 +73,7 @@ module _ (f : List ℕ) (bytes : Bytes f) (tests : Passed f) where
 
   pub volume-again : volumeBytes (codeIn (versionOf f)) (programOf f) (volumeNumberOf f) (listOf f) (dataOf f) ≡ f
   unfolding volumeBytes headBytes
-  volume-again =
-      let body : List ℕ = bodyBytes (length (entriesIn f)) (volumeNumberOf f) (listOf f) (dataOf f) in
+  volume-again = let body : List ℕ = bodyBytes (length (entriesIn f)) (volumeNumberOf f) (listOf f) (dataOf f) in
       let low : 96 ≤ length f = tests .header .size .low in
       let at0 = split-number 8 0 f bytes (omega arith) in
       let at8 = split-number 4 8 f bytes (omega arith) in
@@ -93,8 +91,7 @@ module _ (f : List ℕ) (bytes : Bytes f) (tests : Passed f) where
   write-again : (out : List ℕ) → length f ≤ length out
       → writeVolumeOf (codeIn (versionOf f)) (programOf f) (volumeNumberOf f) (listOf f) (dataOf f) out ≡ accepted f out
   unfolding writeVolumeOf
-  write-again out room =
-      let t : Totals = tests .totals-of in
+  write-again out room = let t : Totals = tests .totals-of in
       let l : ℕ = length (listOf f) in
       let d : ℕ = length (dataOf f) in
       let s : List ℕ = volumeBytes (codeIn (versionOf f)) (programOf f) (volumeNumberOf f) (listOf f) (dataOf f) in
@@ -113,8 +110,7 @@ module _ (f : List ℕ) (bytes : Bytes f) (tests : Passed f) where
 
 -- an accepted file, written from what reading gave, into room that holds it
 pub written-read : WrittenRead
-written-read f p out bytes e room =
-    let told = read-tells f p e in
+written-read f p out bytes e room = let told = read-tells f p e in
     let again : Parts → Writing × List ℕ =
     λ q. writeVolumeOf (q .code) (q .program) (q .number) (take (q .«list_size») (drop 96 f)) (take (q .«data_size») (drop (q .«data_start») f)) out in
     ap again (told .parts-are)

@@ -57,12 +57,11 @@ answerable : (n : ℕ) (r : Refusal) → n < 2 ^ 64 → Within (n / 58 + 1) r �
 answerable n r h w = record { number-most = omega (arith, w .number-most); place-most = omega (arith, w .place-most) }
 
 pub told : (r : Refusal) → Answerable r → Told r
-told r a =
-    record {
-      number-is = omega (arith, a .number-most);
-      place-is = omega (arith, a .number-most);
-      fits = omega (arith, a .number-most, a .place-most);
-    }
+told r a = record {
+  number-is = omega (arith, a .number-most);
+  place-is = omega (arith, a .number-most);
+  fits = omega (arith, a .number-most, a .place-most);
+}
 
 read-within : (f out : List ℕ) → Within (length f / 58 + 1) (readInto (readOf f) out .0)
 unfolding readInto writtenUnless
@@ -87,10 +86,8 @@ read-end-answerable b out = let w = ended-within b out in record { number-most =
 
 module _ (n : ℕ) (c : Change) (d out : List ℕ) (h : length out < 2 ^ 64) where
   amend-answerable : (w : Writing) (t : List ℕ) → amendOf ruleOf n c d out ≡ (w, t) → Answerable (lengthTold w)
-  amend-answerable (Written k) t e =
-      let most = accepted-most ruleOf n c d out e in record { number-most = omega arith; place-most = omega arith }
-  amend-answerable (Refused r) t e =
-      let most = refused-most ruleOf n c d out e in
+  amend-answerable (Written k) t e = let most = accepted-most ruleOf n c d out e in record { number-most = omega arith; place-most = omega arith }
+  amend-answerable (Refused r) t e = let most = refused-most ruleOf n c d out e in
       record { number-most = omega (arith, most .number-most); place-most = omega (arith, most .place-most) }
 
 compare-answerable : (f g out : List ℕ) → Answerable (lengthTold (written (comparisonOf f g) out .0))
@@ -106,14 +103,12 @@ placed : (n k : ℕ) (r : Refusal) → n < 2 ^ 64 → k ≤ n / 36 + 1 → Most 
 placed n k r h m w = record { number-most = omega (arith, w .number-most); place-most = omega (arith, w .place-most) }
 
 export-answerable : (f out : List ℕ) → length f < 2 ^ 64 → (w : Writing) (t : List ℕ) → exportInto f out ≡ (w, t) → Answerable (lengthTold w)
-export-answerable f out h (Written k) t e =
-    let most = export-most f out e in record { number-most = omega arith; place-most = omega arith }
+export-answerable f out h (Written k) t e = let most = export-most f out e in record { number-most = omega arith; place-most = omega arith }
 export-answerable f out h (Refused r) t e = placed (length f) (length f / 58 + 1) r h (omega arith) (export-refusal f out e)
 
 import-answerable : (f s out : List ℕ) → length f < 2 ^ 64 → length s < 2 ^ 64 → (w : Writing) (t : List ℕ) → importInto f s out ≡ (w, t)
     → Answerable (lengthTold w)
-import-answerable f s out h g (Written k) t e =
-    let most = import-most f s out e in record { number-most = omega arith; place-most = omega arith }
+import-answerable f s out h g (Written k) t e = let most = import-most f s out e in record { number-most = omega arith; place-most = omega arith }
 import-answerable f s out h g (Refused r) t e =
     ⊎-elim (placed (length f) (length f / 58 + 1) r h (omega arith)) (placed (length s) (length s / 36 + 1) r g (omega arith)) (import-refusal f s out e)
 
@@ -157,8 +152,7 @@ read-asked f out h e = asked (ap (λ (p : Refusal × List ℕ). p .0) e) (read-a
 
 pub volume-asked : (c : Code) (program number : ℕ) (list area out : List ℕ) {r : Refusal} {t : List ℕ} → length list < 2 ^ 64
     → (r, t) ≡ withRefusal (writeVolumeOf c program number list area out) → (r .number < 32) × (r .place < 2 ^ 59)
-volume-asked c program number list area out h e =
-    asked (ap (λ (p : Refusal × List ℕ). p .0) e) (volume-answerable c program number list area out h)
+volume-asked c program number list area out h e = asked (ap (λ (p : Refusal × List ℕ). p .0) e) (volume-answerable c program number list area out h)
 
 pub read-end-asked : (b out : List ℕ) {r : Refusal} {s t : List ℕ} → (r, s, t) ≡ readEnded b out → (r .number < 32) × (r .place < 2 ^ 59)
 read-end-asked b out e = asked (ap (λ (p : Refusal × List ℕ × List ℕ). p .0) e) (read-end-answerable b out)

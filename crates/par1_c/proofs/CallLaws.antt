@@ -16,9 +16,7 @@ use Rattle.par1_c.specs.Inventories.{changedBy, countInto}
 module _ (b : List ℕ) {s : Inventory} {r : ℕ × List ℕ} where
   pub changed-same : (step : Inventory → ℕ → Outcome) (k : ℕ) {o : Outcome} → s ≡ inventoryOf b → o ≡ step s k → r ≡ storedBy o b
       → r ≡ changedBy step k b
-  changed-same step k loaded stepped stored =
-      stored ∙ ap (λ (o : Outcome). storedBy o b) (stepped ∙ ap (λ (s : Inventory). step s k) loaded)
+  changed-same step k loaded stepped stored = stored ∙ ap (λ (o : Outcome). storedBy o b) (stepped ∙ ap (λ (s : Inventory). step s k) loaded)
 
   pub counted-same : (out : List ℕ) {c : Reply} → s ≡ inventoryOf b → c ≡ countStep s → r ≡ countedInto c out → r ≡ countInto b out
-  counted-same out loaded counted stored =
-      stored ∙ ap (λ (c : Reply). countedInto c out) (counted ∙ ap countStep loaded)
+  counted-same out loaded counted stored = stored ∙ ap (λ (c : Reply). countedInto c out) (counted ∙ ap countStep loaded)

@@ -37,6 +37,5 @@ by-code Powers call lent = known 0 call lent refl
 by-code Cauchy call lent = known 1 call lent refl
 
 pub other-code : OtherCode
-other-code k h =
-    let no = no-code k h in
+other-code k h = let no = no-code k h in
     (λ f v out. unknown k _ out no, λ program number list area out. unknown k _ out no, λ n s out. unknown k _ out no, λ v b. unknown k _ b no)

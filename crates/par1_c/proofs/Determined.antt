@@ -9,6 +9,5 @@ use Rattle.inventory_bytes.specs.Inventories.{inventoryOf}
 use Rattle.par1_c.specs.Claim.{QueryDetermined}
 
 pub query-into-one : QueryDetermined
-query-into-one b f out r r′ o o′ p q =
-    let same = one-answer (inventoryOf b) f out (p .answer) (q .answer) o o′ (p .queried) (q .queried) in
+query-into-one b f out r r′ o o′ p q = let same = one-answer (inventoryOf b) f out (p .answer) (q .answer) o o′ (p .queried) (q .queried) in
     (p .number-is ∙ ap answerNumber (same .0) ∙ sym (q .number-is), same .1)

@@ -57,8 +57,7 @@ ref b o γ h = record { ptr = (b, o); name = γ; now = h }
 
 -- what the ghost name tells of the job h, its borrow, the tokens, and what is had of the slice
 abbrev pub Had : {M : Type 1} (𝓤 : URA M) (κ κ′ : Lft) (q q′ : Share) (h : RunningHash) (b o : ℕ) (γ : GName) (F : Fml) → List (Item 𝓤)
-Had 𝓤 κ κ′ q q′ h b o γ F =
-    ‵ (fobs γ (Job .coded .code h)) ∷ ‵ (fbor κ (Body (mem Job) b o γ)) ∷ ‵ (flft κ q) ∷ (‵ (flft κ′ q′) ⊛ ‵ ftrue) ∷ ‵ F ∷ []
+Had 𝓤 κ κ′ q q′ h b o γ F = ‵ (fobs γ (Job .coded .code h)) ∷ ‵ (fbor κ (Body (mem Job) b o γ)) ∷ ‵ (flft κ q) ∷ (‵ (flft κ′ q′) ⊛ ‵ ftrue) ∷ ‵ F ∷ []
 
 module _ {M : Type 1} (𝓤 : URA M) (H : Heap 𝓤) (A : Atoms 𝓤) (W : Given 𝓤 H A) where
   pub job-typed : (h : RunningHash) (v : Val) → Is Job h (v ∷ []) → T (hasTy job-laws.mir v) × WT v

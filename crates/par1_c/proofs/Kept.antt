@@ -234,8 +234,7 @@ read-end-kept job out = (read-kept (e .reading) out, kept)
     r = readEnded job out .0
 
     kept : answeredEnd (readEnded job out) .0 % 32 ≡ 20 → answeredEnd (readEnded job out) .1 ≡ job
-    kept h =
-        let number : r .number ≡ 20 = sym (read-end-told job out .number-is) ∙ h in
+    kept h = let number : r .number ≡ 20 = sym (read-end-told job out .number-is) ∙ h in
         ap (λ (n : ℕ). readStored (jobNumber n) (e .next) job .1) number ∙ ap (λ (p : ℕ × List ℕ). p .1) (reads.stored-refused (e .next) job)
 
 -- ---- the claim

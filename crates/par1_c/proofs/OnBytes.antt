@@ -50,8 +50,7 @@ stored n changed s hc hs = by (eqb n 0) refl
     b = inventoryBytes s
 
     by : (z : Bool) → eqb n 0 ≡ z → (n, inventoryBytes (cond z changed s)) ≡ storedBy (outcome (cond z changed s) n) b
-    by true z =
-        let t : List ℕ = inventoryBytes changed in
+    by true z = let t : List ℕ = inventoryBytes changed in
         let none : n ≡ 0 = eqb-true n 0 z in
         let same : length t ≡ length b = length-inventory changed hc ∙ sym (length-inventory s hs) in
         let all : t ++ drop (length t) b ≡ t = ap (λ (l : List ℕ). t ++ l) (drop-of-length-le b {i = length t} (omega arith)) ∙ append-nil t in
@@ -68,8 +67,7 @@ held-one n changed s hc hs = by (eqb n 0)
 
 on-bytes : (step : Inventory → ℕ → Outcome) (s : Inventory) (k n : ℕ) (changed : Inventory) → step s k ≡ accepted n changed s → Held changed → Held s
     → OnBytes step s k
-on-bytes step s k n changed e hc hs =
-    let b : List ℕ = inventoryBytes s in
+on-bytes step s k n changed e hc hs = let b : List ℕ = inventoryBytes s in
     let same = changed-same b step k (sym (loaded-back s hs)) (sym e) (stored n changed s hc hs) in
     record {
       gives = sym same ∙ ap (λ (o : Outcome). (o .number, inventoryBytes (o .next))) (sym e);
@@ -88,20 +86,16 @@ unfolding afterChange
 held-change addFile s k h = with-files s _ h (words-inserted k (s .files) (h .files))
 held-change removeFile s k h = with-files s _ h (words-removed k (s .files) (h .files))
 held-change (addVolume c) s k h = with-volumes s _ _ h (words-inserted k (s .volumes) (h .volumes)) (h .quarantined)
-held-change removeVolume s k h =
-    with-volumes s _ _ h (words-removed k (s .volumes) (h .volumes)) (words-removed k (s .quarantined) (h .quarantined))
-held-change quarantine s k h =
-    with-volumes s _ _ h (words-removed k (s .volumes) (h .volumes)) (words-inserted k (s .quarantined) (h .quarantined))
-held-change release s k h =
-    with-volumes s _ _ h (words-inserted k (s .volumes) (h .volumes)) (words-removed k (s .quarantined) (h .quarantined))
+held-change removeVolume s k h = with-volumes s _ _ h (words-removed k (s .volumes) (h .volumes)) (words-removed k (s .quarantined) (h .quarantined))
+held-change quarantine s k h = with-volumes s _ _ h (words-removed k (s .volumes) (h .volumes)) (words-inserted k (s .quarantined) (h .quarantined))
+held-change release s k h = with-volumes s _ _ h (words-inserted k (s .volumes) (h .volumes)) (words-removed k (s .quarantined) (h .quarantined))
 
 pub changed-on-bytes : ChangedOnBytes
 unfolding changeStep
 changed-on-bytes s h c k = on-bytes (changeStep c) s k _ _ refl (held-change c s k h) h
 
 pub added-on-bytes : AddedOnBytes
-added-on-bytes s h c v =
-    let b : List ℕ = inventoryBytes s in
+added-on-bytes s h c v = let b : List ℕ = inventoryBytes s in
     let on = changed-on-bytes s h (addVolume c) v in
     (by-code c (λ d. changedBy (changeStep (addVolume d)) v b) b ∙ on .gives, on .held)
 
@@ -152,8 +146,7 @@ held-opened c n sizes = by (oneTo 254 n && eqb (length sizes) n) (allBelow n (λ
 
     by : (a b : Bool) → (oneTo 254 n && eqb (length sizes) n) ≡ a
         → Held (cond a (cond b (outcome (fresh c n sizes) 0) (refusedOpening 1)) (refusedOpening 10) .next)
-    by true true e =
-        let few : n ≤ 254 = leb-true n 254 (and-both (leb 1 n) (leb n 254) (and-both (oneTo 254 n) (eqb (length sizes) n) e .0) .1) in
+    by true true e = let few : n ≤ 254 = leb-true n 254 (and-both (leb 1 n) (leb n 254) (and-both (oneTo 254 n) (eqb (length sizes) n) e .0) .1) in
         record {
           small = omega arith;
           files = words-none;

@@ -37,21 +37,18 @@ replay-answerable d log out = go (leb (length (replayOf d log)) (length out))
 
 pub replay-asked : (log out : List ℕ) {w : Writing} {t : List ℕ} {r : Refusal} → Replayed coefficient log out (w, t) → r ≡ lengthTold w
     → (r .number < 32) × (r .place < 2 ^ 59)
-replay-asked log out R e =
-    let (d, D) = decided in
+replay-asked log out R e = let (d, D) = decided in
     asked (e ∙ ap (λ (p : Writing × List ℕ). lengthTold (p .0)) (R d D)) (replay-answerable d log out)
 
 pub replay-told : ReplayTold
 replay-told d log out = told _ (replay-answerable d log out)
 
 pub replay-determined : ReplayDetermined
-replay-determined log out r r′ o o′ R R′ =
-    let (d, D) = decided in
+replay-determined log out r r′ o o′ R R′ = let (d, D) = decided in
     let e = R d D ∙ sym (R′ d D) in
     (ap (λ (p : ℕ × List ℕ). p .0) e, ap (λ (p : ℕ × List ℕ). p .1) e)
 
 pub replay-gives : ReplayGives
-replay-gives log text T out r out′ R =
-    let (d, D) = decided in
+replay-gives log text T out r out′ R = let (d, D) = decided in
     let (lines, P) = lines-there log in
     R d D ∙ ap (λ (x : List ℕ). answeredLength (written x out)) (sym (lines-joined log lines P d D) ∙ each-replayed .printed log text T lines P)

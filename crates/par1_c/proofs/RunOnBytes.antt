@@ -79,16 +79,14 @@ module _ (size : ℕ → ℕ) (t : State) (s : Inventory) (R : Represents size t
   one-call : (c : Call) (r : Reply) (s₁ : Inventory) {Given : Type 0} {b₁ : List ℕ} → Step ruleOf s c r s₁ → Held s₁ → b₁ ≡ inventoryBytes s₁
       → (Gives ruleOf t c r → Given) → Follows size t s (c ∷ []) Given b₁
   unfolding Run after
-  one-call c r s₁ did held bytes told =
-      let m = meets ruleOf size t s c r s₁ R did in
+  one-call c r s₁ did held bytes told = let m = meets ruleOf size t s c r s₁ R did in
       record { replies = r ∷ []; end = s₁; run = (s₁, did, refl); held = held; bytes = bytes; given = told (m .0); represents = m .1 }
 
   one-change : (c : Change) (n : ℕ) {k : ℕ} {room b₁ : List ℕ}
       → ((k, b₁) ≡ changedBy (changeStep c) n (inventoryBytes s)) × (room ≡ [])
       → Follows size t s (change c n ∷ []) (Gives ruleOf t (change c n) (reply k room)) b₁
   unfolding Step
-  one-change c n {k} {room} (e, none) =
-      let on = changed-on-bytes s h c n in
+  one-change c n {k} {room} (e, none) = let on = changed-on-bytes s h c n in
       let same = e ∙ on .gives in
       let number : reply k room ≡ numbered (changeStep c s n .number) =
       ap₂ (λ (j : ℕ) (l : List ℕ). reply j l) (ap (λ (p : ℕ × List ℕ). p .0) same) none in
@@ -100,8 +98,7 @@ module _ (size : ℕ → ℕ) (t : State) (s : Inventory) (R : Represents size t
       → Follows size t s (cond z (change (model.addVolume (codeOf c)) v ∷ []) [])
       ((k ≡ cond z (numberOf t (model.addVolume (codeOf c)) v) 10) × (room ≡ [])) b₁
   unfolding Gives Run after
-  one-addition c v {k} true none e =
-      let f = one-change (model.addVolume (codeOf c)) v (e, none) in
+  one-addition c v {k} true none e = let f = one-change (model.addVolume (codeOf c)) v (e, none) in
       let told = f .given in
       let number : k ≡ numberOf t (model.addVolume (codeOf c)) v = cc in
       record {
@@ -113,16 +110,15 @@ module _ (size : ℕ → ℕ) (t : State) (s : Inventory) (R : Represents size t
         given = (number, none);
         represents = f .represents;
       }
-  one-addition c v {k} false none e =
-      record {
-        replies = [];
-        end = s;
-        run = refl;
-        held = h;
-        bytes = ap (λ (p : ℕ × List ℕ). p .1) e;
-        given = (ap (λ (p : ℕ × List ℕ). p .0) e, none);
-        represents = R;
-      }
+  one-addition c v {k} false none e = record {
+    replies = [];
+    end = s;
+    run = refl;
+    held = h;
+    bytes = ap (λ (p : ℕ × List ℕ). p .1) e;
+    given = (ap (λ (p : ℕ × List ℕ). p .0) e, none);
+    represents = R;
+  }
 
   step-follows : (c : CallOnBytes) (r : ℕ × List ℕ) (b₁ : List ℕ) → StepInto (inventoryBytes s) c r b₁
       → Follows size t s (callOf c) (GivesInto t c r) b₁
@@ -135,20 +131,17 @@ module _ (size : ℕ → ℕ) (t : State) (s : Inventory) (R : Represents size t
   step-follows (release v) (k, room) b₁ d = one-change model.release v d
   step-follows (count out) (k, room) b₁ d =
       one-call model.count (countStep s) s (refl, refl) h (d .1) (λ g. (countStep s, g, d .0 ∙ counted-on-bytes s h out))
-  step-follows (query f out) (k, room) b₁ d =
-      let (a, q, e) = queried-on-bytes s h f out k room (d .0) in
+  step-follows (query f out) (k, room) b₁ d = let (a, q, e) = queried-on-bytes s h f out k room (d .0) in
       one-call (model.query f out) (reply k room) s (a, room, q, ap (λ (j : ℕ). reply j room) e, refl) h (d .1) (λ g. g)
 
 run-follows : (size : ℕ → ℕ) (t : State) (s : Inventory) → Represents size t s → Held s
     → (cs : List CallOnBytes) (rs : List (ℕ × List ℕ)) (e : List ℕ) → RunInto (inventoryBytes s) cs rs e
     → Follows size t s (callsOf cs) (GivesAllInto t cs rs) e
 unfolding RunInto callsOf GivesAllInto Run after
-run-follows size t s R h [] [] e q =
-    record { replies = []; end = s; run = refl; held = h; bytes = sym q; given = tt; represents = R }
+run-follows size t s R h [] [] e q = record { replies = []; end = s; run = refl; held = h; bytes = sym q; given = tt; represents = R }
 run-follows size t s R h [] (r ∷ rs) e q = absurd q
 run-follows size t s R h (c ∷ cs) [] e q = absurd q
-run-follows size t s R h (c ∷ cs) (r ∷ rs) e (b₁, d, q) =
-    let f = step-follows size t s R h c r b₁ d in
+run-follows size t s R h (c ∷ cs) (r ∷ rs) e (b₁, d, q) = let f = step-follows size t s R h c r b₁ d in
     let m = run-follows size (after t (callOf c)) (f .end) (f .represents) (f .held) cs rs e
     (subst (λ (b : List ℕ). RunInto b cs rs e) (f .bytes) q) in
     record {
@@ -188,8 +181,7 @@ opened-bytes k n s out out′ e = by (isCode k) (leb n maxFiles && eqb (length s
 
     by : (z f : Bool) → cond z (storedBy (cond f o (refusedOpening 10)) out) (10, out) ≡ (0, out′)
         → (o .number ≡ 0) × (take 144 out′ ≡ inventoryBytes (o .next))
-    by true true e =
-        let (none, is) = stored-none o out out′ e in
+    by true true e = let (none, is) = stored-none o out out′ e in
         let size = length-inventory (o .next) (held-opened (codeOf k) n (numbersAt n s 0)) in
         (none, ap (take 144) is ∙ take-at (inventoryBytes (o .next)) _ 144 size)
     by true false e = let never = stored-none (refusedOpening 10) out out′ e .0 in absurd (omega arith)
@@ -202,8 +194,7 @@ unfolding GivesInto
 given-one t l c (k, room) (k′, room′) = by c
   where
     same : (c : Call) → Gives ruleOf t c (reply k room) → Gives ruleOf t c (reply k′ room′) → _≡_ {A = ℕ × List ℕ} (k, room) (k′, room′)
-    same c p q =
-        let e : reply k room ≡ reply k′ room′ = gives-one ruleOf rule-byte t l c _ _ p q in
+    same c p q = let e : reply k room ≡ reply k′ room′ = gives-one ruleOf rule-byte t l c _ _ p q in
         let number : k ≡ k′ = cc in
         let left : room ≡ room′ = cc in
         ap₂ (λ (j : ℕ) (o : List ℕ). (j, o)) number left
@@ -215,8 +206,7 @@ given-one t l c (k, room) (k′, room′) = by c
     by (removeVolume v) p q = same (change model.removeVolume v) p q
     by (quarantine v) p q = same (change model.quarantine v) p q
     by (release v) p q = same (change model.release v) p q
-    by (count out) (r, p, e) (r′, p′, e′) =
-        e ∙ ap (λ (x : Reply). countedInto x out) (gives-one ruleOf rule-byte t l model.count r r′ p p′) ∙ sym e′
+    by (count out) (r, p, e) (r′, p′, e′) = e ∙ ap (λ (x : Reply). countedInto x out) (gives-one ruleOf rule-byte t l model.count r r′ p p′) ∙ sym e′
     by (query f out) p q = same (model.query f out) p q
 
 all-one : (t : State) → t .n ≤ 254 → (cs : List CallOnBytes) (rs rs′ : List (ℕ × List ℕ)) → GivesAllInto t cs rs → GivesAllInto t cs rs′ → rs ≡ rs′
@@ -298,14 +288,12 @@ step-answered b (query f out) = by (answered (inventoryOf b) (model.query f out 
     by : ((rs : List Reply) × (e : Inventory) × Run ruleOf (inventoryOf b) (model.query f out ∷ []) rs e)
         → (r : ℕ × List ℕ) × (b₁ : List ℕ) × StepInto b (query f out) r b₁
     by ([], e, run) = absurd run
-    by (r ∷ rs, e, (s₁, (a, room, q, number, same), run)) =
-        ((_, room), b, (record { answer = a; queried = q; number-is = refl }, refl))
+    by (r ∷ rs, e, (s₁, (a, room, q, number, same), run)) = ((_, room), b, (record { answer = a; queried = q; number-is = refl }, refl))
 
 pub answered-on-bytes : AnsweredOnBytes
 unfolding RunInto
 answered-on-bytes b [] = ([], b, refl)
-answered-on-bytes b (c ∷ cs) =
-    let (r, b₁, d) = step-answered b c in
+answered-on-bytes b (c ∷ cs) = let (r, b₁, d) = step-answered b c in
     let (rs, e, run) = answered-on-bytes b₁ cs in
     (r ∷ rs, e, (b₁, d, run))
 
@@ -337,6 +325,5 @@ calls-back [] = refl
 calls-back (c ∷ cs) = ap₂ (λ (xs ys : List Call). xs ++ ys) (call-back c) (calls-back cs)
 
 pub retold-on-bytes : RetoldOnBytes
-retold-on-bytes d n sizes cs =
-    let (tells, told) = retold d n (sizeIn sizes) (callsOf cs) in
+retold-on-bytes d n sizes cs = let (tells, told) = retold d n (sizeIn sizes) (callsOf cs) in
     (map fromC tells, subst (TellsExactly (stateAfter d n sizes cs)) (sym (calls-back tells)) told)

@@ -66,8 +66,7 @@ module _ (f : List ℕ) where
   list-formerly (walked.Entries t) e =
       totals-formerly (eqb (t .entries) (countOf f)) (numberAllowed (volumeNumberOf f) (t .saved)) (equal (setHashOf f) (setHash (entriesIn f)))
       (dataAllowed (volumeNumberOf f) (t .greatest) (dataSizeOf f))
-  list-formerly (walked.Refused r) e =
-      let told = walk-refused (listOf f) e in
+  list-formerly (walked.Refused r) e = let told = walk-refused (listOf f) e in
       record {
         former-is = simp (le-leb 16 (r .number) (told .low), le-leb (r .number) 19 (omega (arith, told .high)));
         not-six = λ z. omega (arith, told .low);
@@ -98,8 +97,7 @@ module _ (f : List ℕ) where
 
 pub former-six : FormerSix
 unfolding formerRefusal
-former-six f =
-    let formerly = subst (λ (n : ℕ). Formerly n (formerWith f (versionAllowed (versionOf f)))) (reading-number f) (refusal-formerly f) in
+former-six f = let formerly = subst (λ (n : ℕ). Formerly n (formerWith f (versionAllowed (versionOf f)))) (reading-number f) (refusal-formerly f) in
     (λ other. ap (formerWith f) (sym (former-version (versionOf f) other)) ∙ formerly .former-is, formerly .not-six)
 
 pub former-three : FormerThree

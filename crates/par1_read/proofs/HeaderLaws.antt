@@ -40,13 +40,11 @@ module _ (f : List ℕ) where
   list-refusal set (walked.Refused r) = refl
 
   parts-alone : (saved : ℕ) → partsFrom (take 96 f) saved ≡ partsFrom f saved
-  parts-alone saved =
-      let list-size : listSizeOf (take 96 f) ≡ listSizeOf f = field 8 72 (omega arith) in
+  parts-alone saved = let list-size : listSizeOf (take 96 f) ≡ listSizeOf f = field 8 72 (omega arith) in
       let data-start : dataStartOf (take 96 f) ≡ dataStartOf f = field 8 80 (omega arith) in
       let data-size : dataSizeOf (take 96 f) ≡ dataSizeOf f = field 8 88 (omega arith) in
       simp (field 4 8 (omega arith), field 4 12 (omega arith), field 8 48 (omega arith), field 8 56 (omega arith), list-size, data-start, data-size)
 
 pub header-alone : HeaderAlone
 unfolding readFrom refusalFrom
-header-alone f n digest set w =
-    simp (header-refusal f n, control-refusal f digest, list-refusal f set w, parts-alone f (savedIn w))
+header-alone f n digest set w = simp (header-refusal f n, control-refusal f digest, list-refusal f set w, parts-alone f (savedIn w))

@@ -63,15 +63,12 @@ pub read-placed : ReadPlaced
 read-placed f r e = by (refusalOf f .number) refl
   where
     by : (n : ℕ) → n ≡ refusalOf f .number → Placed f r
-    by zero n =
-        let found = read-accepted f (sym n) in absurd (let z : _≡_ {A = ℕ} 0 1 = cc in omega arith)
-    by (suc m) n =
-        let both : Refused (refusalOf f) ≡ Refused r = sym (read-refused f refl (λ z. omega arith)) ∙ e in
+    by zero n = let found = read-accepted f (sym n) in absurd (let z : _≡_ {A = ℕ} 0 1 = cc in omega arith)
+    by (suc m) n = let both : Refused (refusalOf f) ≡ Refused r = sym (read-refused f refl (λ z. omega arith)) ∙ e in
         let same : refusalOf f ≡ r = cc in subst (Placed f) same (refusal-placed f)
 
 pub fault-read : FaultRead
 unfolding refusalOf refusalFrom
-fault-read f r header control fault =
-    let walked-is = first-refused (listOf f) r .1 fault in
+fault-read f r header control fault = let walked-is = first-refused (listOf f) r .1 fault in
     let is : refusalOf f ≡ r = simp (header, control, walked-is) in
     read-refused f (sym is) (breaks-number (fault .breaks))

@@ -59,8 +59,7 @@ module _ (k : ℕ) (head : List ℕ) (n : ℕ) (digest set : List ℕ) where
 
 pub refusal-within : (f : List ℕ) → Within (length f / 58 + 1) (refusalOf f)
 unfolding refusalOf
-refusal-within f =
-    let short : length (listOf f) ≤ length f = omega (arith, length-take (listSizeOf f) (drop 96 f), length-drop 96 f) in
+refusal-within f = let short : length (listOf f) ≤ length f = omega (arith, length-take (listSizeOf f) (drop 96 f), length-drop 96 f) in
     from-within (length f / 58 + 1) f (length f) (controlHash f) (setHash (entriesIn f)) (walkOf (listOf f))
     (λ r e.
     let told = walk-refused (listOf f) e in

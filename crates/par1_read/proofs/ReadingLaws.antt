@@ -57,8 +57,7 @@ pub record HeaderPassed (head : List ℕ) (n : ℕ) : Type 0 where
 module _ (head : List ℕ) (n : ℕ) where
   pub header-passed : headerRefusal head n ≡ 0 → HeaderPassed head n
   unfolding headerRefusal
-  header-passed e =
-      let one = test-passed 1 (lengthAllowed n) _ (omega arith) e in
+  header-passed e = let one = test-passed 1 (lengthAllowed n) _ (omega arith) e in
       let two = test-passed 2 (eqb (signatureOf head) signature) _ (omega arith) (one .1) in
       let three = test-passed 3 (versionAllowed (versionOf head)) _ (omega arith) (two .1) in
       let four = test-passed 4 (layoutAllowed head n) _ (omega arith) (three .1) in
@@ -71,8 +70,7 @@ module _ (head : List ℕ) (n : ℕ) where
 
   pub header-none : HeaderPassed head n → headerRefusal head n ≡ 0
   unfolding headerRefusal
-  header-none p =
-      let size = long-enough n (p .size .low) (p .size .high) in
+  header-none p = let size = long-enough n (p .size .low) (p .size .high) in
       let version : versionAllowed (versionOf head) ≡ true =
       ap versionAllowed (p .version-is) ∙ version-passed (codeIn (versionOf head)) in
       simp (size, eq-eqb _ _ (p .begins), version, laid-out head n (p .layout))
@@ -99,8 +97,7 @@ pub record TotalsPassed (head set : List ℕ) (t : Totals) : Type 0 where
 module _ (head set : List ℕ) (t : Totals) where
   pub totals-passed : totalsRefusal head set t ≡ 0 → TotalsPassed head set t
   unfolding totalsRefusal
-  totals-passed e =
-      let nineteen = test-passed 19 (eqb (t .entries) (countOf head)) _ (omega arith) e in
+  totals-passed e = let nineteen = test-passed 19 (eqb (t .entries) (countOf head)) _ (omega arith) e in
       let seven = test-passed 7 (numberAllowed (volumeNumberOf head) (t .saved)) _ (omega arith) (nineteen .1) in
       let eight = test-passed 8 (equal (setHashOf head) set) _ (omega arith) (seven .1) in
       let nine = test-passed 9 (dataAllowed (volumeNumberOf head) (t .greatest) (dataSizeOf head)) _ (omega arith) (eight .1) in
@@ -161,8 +158,7 @@ list-joined f p = by (entriesOf (listOf f) .rest) refl (p .walk-is)
   where
     by : (r : List ℕ) → entriesOf (listOf f) .rest ≡ r → walkedTo (totalsOf (entriesIn f)) r ≡ walked.Entries (p .totals-of)
         → flatten (entriesIn f) ≡ listOf f
-    by [] none e =
-        sym (append-nil (flatten (entriesIn f))) ∙ ap (λ (l : List ℕ). flatten (entriesIn f) ++ l) (sym none) ∙ cut-joins lengthOf (listOf f)
+    by [] none e = sym (append-nil (flatten (entriesIn f))) ∙ ap (λ (l : List ℕ). flatten (entriesIn f) ++ l) (sym none) ∙ cut-joins lengthOf (listOf f)
     by (b ∷ r) some e = absurd (let z : _≡_ {A = ℕ} 0 1 = cc in omega arith)
 
 pub data-length : (f : List ℕ) → Passed f → length (dataOf f) ≡ dataSizeOf f
@@ -170,15 +166,13 @@ data-length f p = omega (arith, length-drop (96 + listSizeOf f) f, p .header .la
 
 pub passed-none : (f : List ℕ) → Passed f → refusalOf f .number ≡ 0
 unfolding refusalOf refusalFrom
-passed-none f p =
-    let set : List ℕ = setHash (entriesIn f) in
+passed-none f p = let set : List ℕ = setHash (entriesIn f) in
     let list = ap (λ (w : Walked). listRefusal f set w .number) (p .walk-is) ∙ totals-none f set (p .totals-of) (p .totals) in
     simp (header-none f (length f) (p .header), control-none f (controlHash f) (p .control-is)) list
 
 none-passed : (f : List ℕ) → refusalOf f .number ≡ 0 → Passed f
 unfolding refusalOf refusalFrom
-none-passed f e =
-    let header = or-none (headerRefusal f (length f)) _ e in
+none-passed f e = let header = or-none (headerRefusal f (length f)) _ e in
     let control = or-none (controlRefusal f (controlHash f)) _ (header .1) in
     list (walkOf (listOf f)) refl (header-passed f (length f) (header .0)) (control-passed f (controlHash f) (control .0)) (control .1)
   where
@@ -187,14 +181,12 @@ none-passed f e =
 
     list : (w : Walked) → w ≡ walkOf (listOf f) → HeaderPassed f (length f) → controlHashOf f ≡ controlHash f → listRefusal f set w .number ≡ 0
         → Passed f
-    list (walked.Entries t) w h c e =
-        record { header = h; control-is = c; totals-of = t; walk-is = sym w; totals = totals-passed f set t e }
+    list (walked.Entries t) w h c e = record { header = h; control-is = c; totals-of = t; walk-is = sym w; totals = totals-passed f set t e }
     list (walked.Refused r) w h c e = absurd (omega (arith, walk-refused (listOf f) (sym w) .low))
 
 pub read-accepted : (f : List ℕ) → refusalOf f .number ≡ 0 → readOf f ≡ Accepted (partsOf f)
 unfolding readOf refusalOf
-read-accepted f e =
-    let p = none-passed f e in
+read-accepted f e = let p = none-passed f e in
     let saved = ap (λ (w : Walked). savedIn w) (p .walk-is) ∙ walk-saved (listOf f) (p .walk-is) in
     from-accepted f (length f) (controlHash f) (setHash (entriesIn f)) (walkOf (listOf f)) e (sym saved) refl
 
@@ -208,16 +200,14 @@ read-tells f p e = by (refusalOf f .number) refl
   where
     by : (n : ℕ) → n ≡ refusalOf f .number → ReadAccepted f p
     by zero n = let found = read-accepted f (sym n) in record { tests = none-passed f (sym n); parts-are = cc }
-    by (suc m) n =
-        let found = read-refused f refl (λ z. omega arith) in absurd (let z : _≡_ {A = ℕ} 0 1 = cc in omega arith)
+    by (suc m) n = let found = read-refused f refl (λ z. omega arith) in absurd (let z : _≡_ {A = ℕ} 0 1 = cc in omega arith)
 
 module _ (f : List ℕ) {p : Parts} (e : readOf f ≡ Accepted p) where
   pub read-list : take (p .«list_size») (drop 96 f) ≡ listOf f
   read-list = ap (λ (q : Parts). take (q .«list_size») (drop 96 f)) (read-tells f p e .parts-are)
 
   pub read-count : p .entries ≡ length (entriesIn f)
-  read-count =
-      let t = read-tells f p e in
+  read-count = let t = read-tells f p e in
       ap (λ (q : Parts). q .entries) (t .parts-are) ∙ sym (t .tests .totals .count-is) ∙ walk-count (listOf f) (t .tests .walk-is)
 
 pub refused-is : (f : List ℕ) {r : Refusal} → readOf f ≡ Refused r → refusalOf f ≡ r
@@ -228,6 +218,5 @@ refused-is f {r} e = by (refusalOf f .number) refl
     by (suc m) n = let found = read-refused f refl (λ z. omega arith) in cc
 
 pub refused-some : (f : List ℕ) {r : Refusal} → readOf f ≡ Refused r → r .number ≡ 0 → ⊥
-refused-some f {r} e z =
-    let found = read-accepted f (ap (λ (r : Refusal). r .number) (refused-is f e) ∙ z) in
+refused-some f {r} e z = let found = read-accepted f (ap (λ (r : Refusal). r .number) (refused-is f e) ∙ z) in
     let z : _≡_ {A = ℕ} 0 1 = cc in omega arith

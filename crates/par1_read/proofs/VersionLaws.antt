@@ -79,15 +79,13 @@ module _ {f g : List ℕ} (a : AlikeButVersion f g) where
   -- ---- the reading
 
   parts-with : (saved : ℕ) → partsFrom g saved ≡ partsWithCode (codeIn (versionOf g)) (partsFrom f saved)
-  parts-with saved =
-      let list-size : listSizeOf f ≡ listSizeOf g = field 8 60 in
+  parts-with saved = let list-size : listSizeOf f ≡ listSizeOf g = field 8 60 in
       let data-start : dataStartOf f ≡ dataStartOf g = field 8 68 in
       let data-size : dataSizeOf f ≡ dataSizeOf g = field 8 76 in
       simp (field 4 0, field 8 36, field 8 44, list-size, data-start, data-size)
 
   parts-same : partsOf g ≡ partsWithCode (codeIn (versionOf g)) (partsOf f)
-  parts-same =
-      ap (λ (l : List ℕ). partsFrom g (length (savedOf (entriesOf l .pieces)))) (sym list-is) ∙ parts-with (length (savedOf (entriesIn f)))
+  parts-same = ap (λ (l : List ℕ). partsFrom g (length (savedOf (entriesOf l .pieces)))) (sym list-is) ∙ parts-with (length (savedOf (entriesIn f)))
 
   module _ (p : versionAllowed (versionOf f) ≡ true) (q : versionAllowed (versionOf g) ≡ true) where
     refusal-same : refusalOf f ≡ refusalOf g
@@ -104,8 +102,7 @@ module _ {f g : List ℕ} (a : AlikeButVersion f g) where
             read-accepted g (ap (λ (r : Refusal). r .number) (sym refusal-same) ∙ sym e)
             ∙ ap Accepted parts-same
             ∙ ap (withCode (codeIn (versionOf g))) (sym (read-accepted f (sym e)))
-        by (suc n) e =
-            read-refused g refusal-same (λ z. omega arith) ∙ ap (withCode (codeIn (versionOf g))) (sym (read-refused f refl (λ z. omega arith)))
+        by (suc n) e = read-refused g refusal-same (λ z. omega arith) ∙ ap (withCode (codeIn (versionOf g))) (sym (read-refused f refl (λ z. omega arith)))
 
 -- ---- another version
 
@@ -127,8 +124,7 @@ module _ (f : List ℕ) (c : Code) (long : 12 ≤ length f) where
 
   replaced-length : length f ≡ length (replaced f c)
   unfolding flatten
-  replaced-length =
-      let size : length (toLe 4 (versionFor c)) ≡ 4 = length-toLe 4 (versionFor c) in
+  replaced-length = let size : length (toLe 4 (versionFor c)) ≡ 4 = length-toLe 4 (versionFor c) in
       let rest : length (drop 12 f) ≡ length f - 12 = length-drop 12 f in
       simp (length-append, first-length, size, rest) (omega arith)
 
@@ -139,8 +135,7 @@ module _ (f : List ℕ) (c : Code) (long : 12 ≤ length f) where
   replaced-version = at-number 4 (versionFor c) (version-fits c) at8
 
 pub version-alone : VersionAlone
-version-alone =
-    record {
-      read-alike = λ f g a p q. alike a p q;
-      some-alike = λ f c long. (replaced f c, replaced-alike f c long, replaced-version f c long);
-    }
+version-alone = record {
+  read-alike = λ f g a p q. alike a p q;
+  some-alike = λ f c long. (replaced f c, replaced-alike f c long, replaced-version f c long);
+}

@@ -55,8 +55,7 @@ cond-state false m t = refl
 over-state : (m : List ℕ) (es : List (List ℕ)) → pushedOver (stateOf m) es ≡ stateOf (m ++ joined (savedOf es))
 unfolding pushedOver joined flatten
 over-state m [] = ap stateOf (sym (append-nil m))
-over-state m (e ∷ es) =
-    let b : Bool = isSaved (statusOf e) in
+over-state m (e ∷ es) = let b : Bool = isSaved (statusOf e) in
     ap (λ (h : Md5). pushedOver h es) (cond-state b m (md5Of e))
     ∙ over-state (cond b (m ++ md5Of e) m) es ∙ push-one b m e (savedOf es)
 

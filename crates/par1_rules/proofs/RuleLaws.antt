@@ -69,12 +69,11 @@ both-allowed v (inl e) = ap versionAllowed e ∙ version-passed Powers
 both-allowed v (inr e) = ap versionAllowed e ∙ version-passed Cauchy
 
 pub code-versions : CodeVersions
-code-versions =
-    record {
-      powers-version = (refl, code-back Powers);
-      cauchy-version = (refl, code-back Cauchy);
-      no-others = λ v. (either-version v, both-allowed v);
-    }
+code-versions = record {
+  powers-version = (refl, code-back Powers);
+  cauchy-version = (refl, code-back Cauchy);
+  no-others = λ v. (either-version v, both-allowed v);
+}
 
 -- ---- the length
 
@@ -84,8 +83,7 @@ pub record Between (n : ℕ) : Type 0 where
 
 pub between : (n : ℕ) → lengthAllowed n ≡ true → Between n
 unfolding lengthAllowed
-between n e =
-    let both = and-both (leb 96 n) (leb n maxVolumeLength) e in record { low = leb-true _ _ (both .0); high = leb-true _ _ (both .1) }
+between n e = let both = and-both (leb 96 n) (leb n maxVolumeLength) e in record { low = leb-true _ _ (both .0); high = leb-true _ _ (both .1) }
 
 pub long-enough : (n : ℕ) → 96 ≤ n → n ≤ maxVolumeLength → lengthAllowed n ≡ true
 unfolding lengthAllowed
@@ -99,8 +97,7 @@ too-long n h = simp (le-leb 96 n (omega arith), lt-leb n maxVolumeLength h)
 
 pub number-range : (v n : ℕ) → numberAllowed v n ≡ true → (v ≤ 255) × (n ≤ maxFiles)
 unfolding numberAllowed
-number-range v n e =
-    let both = and-both (leb n maxFiles) (eqb v 0 || leb 1 n && leb (v + n) 255) e in
+number-range v n e = let both = and-both (leb n maxFiles) (eqb v 0 || leb 1 n && leb (v + n) 255) e in
     (by (eqb v 0) refl (both .1), leb-true n maxFiles (both .0))
   where
     by : (b : Bool) → eqb v 0 ≡ b → (b || leb 1 n && leb (v + n) 255) ≡ true → v ≤ 255
@@ -117,8 +114,7 @@ pub record Laid (head : List ℕ) (n : ℕ) : Type 0 where
 module _ (head : List ℕ) (n : ℕ) where
   pub laid : layoutAllowed head n ≡ true → Laid head n
   unfolding layoutAllowed
-  laid e =
-      let both = and-both (eqb (listStartOf head) 96 && eqb (dataStartOf head) (96 + listSizeOf head)) _ e in
+  laid e = let both = and-both (eqb (listStartOf head) 96 && eqb (dataStartOf head) (96 + listSizeOf head)) _ e in
       let starts = and-both (eqb (listStartOf head) 96) (eqb (dataStartOf head) (96 + listSizeOf head)) (both .0) in
       record { list-start = eqb-true _ _ (starts .0); data-start = eqb-true _ _ (starts .1); data-end = eqb-true _ _ (both .1) }
 

@@ -36,8 +36,7 @@ pub record EntryPassed (size status : ℕ) (name : List ℕ) : Type 0 where
 
 pub entry-passed : (size status : ℕ) (name : List ℕ) → entryRefusal size status name ≡ 0 → EntryPassed size status name
 unfolding entryRefusal
-entry-passed size status name e =
-    let one = test-passed _ (fileSizeAllowed size) _ (omega arith) e in
+entry-passed size status name e = let one = test-passed _ (fileSizeAllowed size) _ (omega arith) e in
     let two = test-passed _ (statusAllowed status) _ (omega arith) (one .1) in
     let three = test-passed _ (nameAllowed name) _ (omega arith) (two .1) in
     record { size-right = one .0; status-right = two .0; name-right = three .0 }
@@ -51,15 +50,13 @@ module _ (m : List ℕ) (status : ℕ) (name out : List ℕ) {n : ℕ} (e : n �
 
   pub entry-short : {r : Refusal} → r ≡ bare 14 → n ≡ 0 → length out < 56 + length name → (Refused r, out) ≡ writeEntryOf m status name out
   unfolding writeEntryOf
-  entry-short is z h =
-      let s : List ℕ = entryBytes m status name in
+  entry-short is z h = let s : List ℕ = entryBytes m status name in
       rw is (unless-none s out (ap bare e) z (written-short s out (omega (arith, length-entry m status name))))
 
   pub entry-over : {t : List ℕ} → n ≡ 0 → 56 + length name ≤ length out → t ≡ sets out 0 (entryBytes m status name)
       → (Written (56 + length name), t) ≡ writeEntryOf m status name out
   unfolding writeEntryOf
-  entry-over z h wrote =
-      let s : List ℕ = entryBytes m status name in
+  entry-over z h wrote = let s : List ℕ = entryBytes m status name in
       let size : 56 + length name ≡ length s = sym (length-entry m status name) in
       let fits : length s ≤ length out = omega arith in
       unless-none s out (ap bare e) z (written-fits s out fits size (wrote ∙ sets-over out s fits))

@@ -59,16 +59,14 @@ pub record VolumePassed (number : ℕ) (t : Totals) (list-len data-len : ℕ) : 
 
 pub volume-passed : (number : ℕ) (t : Totals) (list-len data-len : ℕ) → volumeRefusal number t list-len data-len ≡ 0 → VolumePassed number t list-len data-len
 unfolding volumeRefusal
-volume-passed number t list-len data-len e =
-    let seven = test-passed 7 (numberAllowed number (t .saved)) _ (omega arith) e in
+volume-passed number t list-len data-len e = let seven = test-passed 7 (numberAllowed number (t .saved)) _ (omega arith) e in
     let nine = test-passed 9 (dataAllowed number (t .greatest) data-len) _ (omega arith) (seven .1) in
     let one = test-passed 1 (lengthAllowed (96 + list-len + data-len)) _ (omega arith) (nine .1) in
     record { number-right = seven .0; data-right = nine .0; size = between _ (one .0) }
 
 pub volume-none : (number : ℕ) (t : Totals) (list-len data-len : ℕ) → VolumePassed number t list-len data-len → volumeRefusal number t list-len data-len ≡ 0
 unfolding volumeRefusal
-volume-none number t list-len data-len p =
-    simp (p .number-right, p .data-right, long-enough (96 + list-len + data-len) (p .size .low) (p .size .high))
+volume-none number t list-len data-len p = simp (p .number-right, p .data-right, long-enough (96 + list-len + data-len) (p .size .low) (p .size .high))
 
 volume-most : (number : ℕ) (t : Totals) (list-len data-len : ℕ) → volumeRefusal number t list-len data-len ≤ 19
 unfolding volumeRefusal
@@ -100,8 +98,7 @@ volume-within c program number list «data» out =
 two-steps : (c : Code) (program : ℕ) (body out : List ℕ) {total : ℕ} {t u : List ℕ} → total ≡ 32 + length body → total ≤ length out
     → t ≡ sets out 32 body → u ≡ sets t 0 (headBytes c program (take (total - 32) (drop 32 t)))
     → u ≡ headBytes c program body ++ body ++ drop total out
-two-steps c program body out {total} {t} {u} size fits wrote headed =
-    let n : total - 32 ≡ length body = omega arith in
+two-steps c program body out {total} {t} {u} size fits wrote headed = let n : total - 32 ≡ length body = omega arith in
     let rest : List ℕ = drop (32 + length body) out in
     let hashed : take (total - 32) (drop 32 t) ≡ body =
     ap₂ (λ (k : ℕ) (l : List ℕ). take k (drop 32 l)) n wrote ∙ part-sets out 32 body (omega arith) in
@@ -126,8 +123,7 @@ module _ (c : Code) (program number : ℕ) (list «data» out : List ℕ) {n : R
   pub volume-short : {r : Refusal} → r ≡ bare 14 → n .number ≡ 0 → length out < 96 + length list + length «data»
       → (Refused r, out) ≡ writeVolumeOf c program number list «data» out
   unfolding writeVolumeOf
-  volume-short is z h =
-      let s : List ℕ = volumeBytes c program number list «data» in
+  volume-short is z h = let s : List ℕ = volumeBytes c program number list «data» in
       rw is (unless-none s out told z (written-short s out (omega (arith, length-volume c program number list «data»))))
 
   pub volume-over : {k : ℕ} {t u : List ℕ} → n .number ≡ 0 → 96 + length list + length «data» ≤ length out → k ≡ length (entriesOf list .pieces)
@@ -135,8 +131,7 @@ module _ (c : Code) (program number : ℕ) (list «data» out : List ℕ) {n : R
       → u ≡ sets t 0 (headBytes c program (take (96 + length list + length «data» - 32) (drop 32 t)))
       → (Written (96 + length list + length «data»), u) ≡ writeVolumeOf c program number list «data» out
   unfolding writeVolumeOf volumeBytes
-  volume-over z h count wrote headed =
-      let k : ℕ = length (entriesOf list .pieces) in
+  volume-over z h count wrote headed = let k : ℕ = length (entriesOf list .pieces) in
       let body : List ℕ = bodyBytes k number list «data» in
       let s : List ℕ = headBytes c program body ++ body in
       let size : 96 + length list + length «data» ≡ length s = sym (length-volume c program number list «data») in

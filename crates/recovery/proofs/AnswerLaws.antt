@@ -81,8 +81,7 @@ module _ (rule : ℕ → ℕ → ℕ) (small : (f v : ℕ) → f < 256 → rule 
   is-column e = ap₂ (λ (a b : Bool). not a && b) missing (sym (matches (suc i) isFile-here) ∙ e)
 
   is-empty : member nonempty (suc i) ≡ false → size (suc i) ≡ 0
-  is-empty e =
-      let b : size (suc i) < 1 = leb-false 1 (size (suc i)) (sym (matches (suc i) isFile-here) ∙ e) in
+  is-empty e = let b : size (suc i) < 1 = leb-false 1 (size (suc i)) (sym (matches (suc i) isFile-here) ∙ e) in
       omega arith
 
   solution-in : (w : ℕ → Byte) → IsSolution byteField table 256 (255 - n) i w → IsSolution byteField matrix 256 (255 - n) i w
@@ -197,8 +196,7 @@ module _ (rule : ℕ → ℕ → ℕ) (n : ℕ) (files volumes nonempty : List �
       decided : member nonempty (suc i) ≡ true
           → ((w : ℕ → Byte) × IsSolution byteField (tableOf rule nonempty files volumes) 256 (255 - n) i w)
           ⊎ ((x : ℕ → Byte) × IsKernelVector byteField (tableOf rule nonempty files volumes) 256 (255 - n) i x) → Answered
-      decided e (inl (w, W)) =
-          let weight = weightAt (255 - n) w in
+      decided e (inl (w, W)) = let weight = weightAt (255 - n) w in
           by-weights m (listBelow 256 weight) (notEmpty e (solved w W (listBelow-at 256 weight)))
       decided e (inr (x, X)) = (_, room, undetermined m (replicate 256 0) (notEmpty e (unsolved x X refl)))
 

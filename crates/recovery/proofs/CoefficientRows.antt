@@ -25,8 +25,7 @@ use Rattle.recovery.proofs.Rows as R
 use Rattle.recovery.proofs.Rows.{mask}
 
 abbrev pub stateOf : ℕ → List ℕ → List ℕ → (ℕ → Bool) → Code → (ℕ → ℕ) → State
-stateOf n files volumes aside d size =
-    record { n = n; size = size; files = member files; volumes = member volumes; quarantined = aside; code = d }
+stateOf n files volumes aside d size = record { n = n; size = size; files = member files; volumes = member volumes; quarantined = aside; code = d }
 
 abbrev pub InRange : ℕ → List ℕ → Type 0
 InRange n nonempty = (g : ℕ) → g < 256 → member nonempty g ≡ true → isFile n g ≡ true

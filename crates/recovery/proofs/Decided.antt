@@ -34,14 +34,12 @@ module _ (rule : ℕ → ℕ → ℕ) (small : (f v : ℕ) → f < 256 → rule 
     by-elimination : leb 1 (t .size (suc i)) ≡ true
         → ((w : ℕ → Byte) × IsSolution K (matrix rule small t few) 256 (255 - t .n) i w)
         ⊎ ((x : ℕ → Byte) × IsKernelVector K (matrix rule small t few) 256 (255 - t .n) i x) → Decided (suc i)
-    by-elimination e (inl (w, W)) =
-        (true, (λ _. (inRange, missing, solution-recoverable rule small t few i below w W), λ _. refl))
+    by-elimination e (inl (w, W)) = (true, (λ _. (inRange, missing, solution-recoverable rule small t few i below w W), λ _. refl))
     by-elimination e (inr (x, X)) =
         never (suc i) (λ now. kernel-unrecoverable rule small t few i below (ap₂ (λ (a b : Bool). not a && b) missing e) x X (now .2))
 
     missing-decided : (b : Bool) → leb 1 (t .size (suc i)) ≡ b → Decided (suc i)
-    missing-decided false e =
-        let l = leb-false 1 (t .size (suc i)) e in
+    missing-decided false e = let l = leb-false 1 (t .size (suc i)) e in
         (true, (λ _. (inRange, missing, empty-recoverable rule t (suc i) inRange (omega arith)), λ _. refl))
     missing-decided true e = by-elimination e (decide K is-zero (matrix rule small t few) 256 (255 - t .n) i (let l = below in omega arith))
 

@@ -47,8 +47,7 @@ module _ (rule : ℕ → ℕ → ℕ) (n : ℕ) (files volumes nonempty : List �
   found-one ws ws′ a b (empty e y z) (empty e′ y′ z′) = (y ∙ sym y′, λ v l. z v ∙ sym (z′ v))
   found-one ws ws′ a b (empty e y z) (notEmpty e′ S′) = absurd (true≢false (sym e′ ∙ e))
   found-one ws ws′ a b (notEmpty e S) (empty e′ y′ z′) = absurd (true≢false (sym e ∙ e′))
-  found-one ws ws′ a b (notEmpty e S) (notEmpty e′ S′) =
-      let (ls, k, T, h) = in-places ws a S in
+  found-one ws ws′ a b (notEmpty e S) (notEmpty e′ S′) = let (ls, k, T, h) = in-places ws a S in
       let (ls′, k′, T′, h′) = in-places ws′ b S′ in
       let (same, lists) = solved-determined rule nonempty files volumes (255 - n) i inside a b ls ls′ k k′ T T′ in
       (same, λ v l. h v l ∙ ap (λ (zs : List ℕ). getD zs v 0) lists ∙ sym (h′ v l))
@@ -65,8 +64,7 @@ module _ (rule : ℕ → ℕ → ℕ) (n : ℕ) (files volumes nonempty : List �
 
   written-one : (ws ws′ room a b : List ℕ) → ((v : ℕ) → v < 256 → getD ws v 0 ≡ getD ws′ v 0)
       → Written rule n files ws room a 255 → Written rule n files ws′ room b 255 → a ≡ b
-  written-one ws ws′ room a b same W W′ =
-      ext-getD 0 a b (W .same-length ∙ sym (W′ .same-length)) (λ p l. at p)
+  written-one ws ws′ room a b same W W′ = ext-getD 0 a b (W .same-length ∙ sym (W′ .same-length)) (λ p l. at p)
     where
       at : (p : ℕ) → getD a p 0 ≡ getD b p 0
       at p =

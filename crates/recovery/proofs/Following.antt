@@ -51,8 +51,7 @@ mask-value true x y h = h refl
 mask-value false x y h = refl
 
 present-in-range : (t : State) (k : ℕ) → present t k ≡ true → (0 < k) × (k ≤ 255)
-present-in-range t k e =
-    let both = and-both (leb 1 k) (leb k 255 && cond (leb k (t .n)) (t .files k) (t .volumes (k - t .n))) e in
+present-in-range t k e = let both = and-both (leb 1 k) (leb k 255 && cond (leb k (t .n)) (t .files k) (t .volumes (k - t .n))) e in
     (leb-true 1 k (both .0), leb-true k 255 (and-both (leb k 255) (cond (leb k (t .n)) (t .files k) (t .volumes (k - t .n))) (both .1) .0))
 
 module _ (rule : ℕ → ℕ → ℕ) (small : (f v : ℕ) → f < 256 → rule f v < 256) (t : State) (fits : t .n ≤ 254)
@@ -74,8 +73,7 @@ module _ (rule : ℕ → ℕ → ℕ) (small : (f v : ℕ) → f < 256 → rule 
       ∙ ap (λ (c : Bool). cond c (t .files (suc i)) (t .volumes (suc i - t .n))) (le-leb (suc i) (t .n) l)
 
   present-volume : (s : ℕ) → s < rows → present t (suc (t .n + s)) ≡ t .volumes (suc s)
-  present-volume s l =
-      let k = suc (t .n + s) in
+  present-volume s l = let k = suc (t .n + s) in
       ap₂ (λ (a b : Bool). a && (b && cond (leb k (t .n)) (t .files k) (t .volumes (k - t .n))))
       (le-leb 1 k (omega arith)) (le-leb k 255 (omega arith))
       ∙ ap (λ (c : Bool). cond c (t .files k) (t .volumes (k - t .n))) (lt-leb k (t .n) (omega arith))
@@ -124,8 +122,7 @@ module _ (rule : ℕ → ℕ → ℕ) (small : (f v : ℕ) → f < 256 → rule 
         go : (b : Bool) → t .volumes (suc s) ≡ b
             → cond b (product (place w (suc (t .n + s))) (getD (fragment (suc (t .n + s))) p 0)) 0
             ≡ product (getD w (t .n + s) 0) (parity s .0)
-        go true e =
-            let k : suc (t .n + s) ≡ t .n + suc s = omega arith in
+        go true e = let k : suc (t .n + s) ≡ t .n + suc s = omega arith in
             ap₂ (λ (i x : ℕ). product (getD w i 0) x) (omega arith)
             (ap (λ (i : ℕ). getD (fragment i) p 0) k ∙ from .of-volume (suc s) volume e p
             ∙ R.parity-sum rule small t fits X hX s p)
@@ -158,8 +155,7 @@ module _ (rule : ℕ → ℕ → ℕ) (small : (f v : ℕ) → f < 256 → rule 
             ∙ W .columns (suc i) (file i l) (ap₂ (λ (x y : Bool). not x && y) e d)
             ∙ ap (λ (b : Bool). cond b 1 0) (ne-eqb (suc f) (suc i) (λ z. q (sym (suc-inj z))))))
             ∙ S.zero-mul K (cell X p i)
-        go false e false d =
-            let k : t .size (suc i) < 1 = leb-false 1 (t .size (suc i)) d in
+        go false e false d = let k : t .size (suc i) < 1 = leb-false 1 (t .size (suc i)) d in
             let m : length (X (suc i)) ≡ t .size (suc i) = hX (suc i) (file i l) .0 in
             K .zero-add (total i ⊗ cell X p i)
             ∙ ap (λ (a : Byte). total i ⊗ a)
@@ -181,8 +177,7 @@ module _ (rule : ℕ → ℕ → ℕ) (small : (f v : ℕ) → f < 256 → rule 
 
     byte-left : p < t .size (suc f) → sumBelow 255 number ≡ getD (X (suc f)) p 0
     unfolding left
-    byte-left l =
-        let e : 255 ≡ t .n + rows = omega arith in
+    byte-left l = let e : 255 ≡ t .n + rows = omega arith in
         ap (λ (k : ℕ). sumBelow k number) e ∙ sumBelow-split (t .n) rows number
         ∙ ap₂ bitXor
         (sumBelow-same (t .n) number (λ i. mask (t .files (suc i)) (total i ⊗ cell X p i) .0) file-part

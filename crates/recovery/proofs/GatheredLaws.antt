@@ -48,8 +48,7 @@ module _ (rule : ℕ → ℕ → ℕ) (small : (f v : ℕ) → f < 256 → rule 
         (oneTo-in n (suc i) (omega arith) l, m, recovered rule small n few files volumes nonempty inRange aside d size matches i l m ws F)
 
     solved-now : member solved f ≡ true → Now
-    solved-now h =
-        let (l, c) = G .columns .columns f h in
+    solved-now h = let (l, c) = G .columns .columns f h in
         let (b, u) = and-both (leb f 255) _ c in
         let (e, m) = and-both (member nonempty f) _ u in
         let k = leb-true f 255 b in
@@ -61,8 +60,7 @@ module _ (rule : ℕ → ℕ → ℕ) (small : (f v : ℕ) → f < 256 → rule 
         (subst (Solved rule nonempty files volumes (255 - n) (f - 1) ws) (ap (member solved) z ∙ h) W))
 
     empty-now : (i : ℕ) → i < n → isEmpty files nonempty i ≡ true → suc i ≡ f → Now
-    empty-now i l t z =
-        let (m, e) = and-both (not (member files (suc i))) _ t in
+    empty-now i l t z = let (m, e) = and-both (not (member files (suc i))) _ t in
         by-weights i l z (not-true _ m) (replicate 256 0) (empty (not-true _ e) refl (zeros-at 256))
 
     from : Listed → Now
@@ -70,8 +68,7 @@ module _ (rule : ℕ → ℕ → ℕ) (small : (f v : ℕ) → f < 256 → rule 
     from (inr (i, l, t, z)) = empty-now i l t z
 
     to : Now → (b : Bool) → member nonempty f ≡ b → Listed
-    to (file, missing, u) b e =
-        let l = oneTo-inside n f file in
+    to (file, missing, u) b e = let l = oneTo-inside n f file in
         let z : suc (f - 1) ≡ f = omega arith in
         go (f - 1) (omega arith) z b e (member solved f) refl
       where
@@ -100,10 +97,8 @@ module _ (rule : ℕ → ℕ → ℕ) (small : (f v : ℕ) → f < 256 → rule 
 
 module _ (rule : ℕ → ℕ → ℕ) (n : ℕ) (files volumes nonempty : List ℕ) where
   pub set-words : (r : List ℕ) → Gathered rule n files volumes nonempty r → Words r
-  set-words r G =
-      subst Words (sym (G .with-empty)) (gathered-words (G .solved) suc (isEmpty files nonempty) (G .columns .words) n)
+  set-words r G = subst Words (sym (G .with-empty)) (gathered-words (G .solved) suc (isEmpty files nonempty) (G .columns .words) n)
 
   pub gathered-there : (r : List ℕ) × Gathered rule n files volumes nonempty r
-  gathered-there =
-      let (solved, S) = columns-there rule nonempty files volumes (255 - n) in
+  gathered-there = let (solved, S) = columns-there rule nonempty files volumes (255 - n) in
       (_, record { solved = solved; columns = S; with-empty = refl })

@@ -99,8 +99,7 @@ module _ (rule : ℕ → ℕ → ℕ) (small : (f v : ℕ) → f < 256 → rule 
         go false q false r = S.sum-of-eq K (cell X p i) (cell Y p i) (ap toByte (none X hX ∙ sym (none Y hY)))
           where
             none : (Z : Contents) → IsContents t Z → getD (Z (suc i)) p 0 ≡ 0
-            none Z h =
-                let k : t .size (suc i) < 1 = leb-false 1 (t .size (suc i)) r in
+            none Z h = let k : t .size (suc i) < 1 = leb-false 1 (t .size (suc i)) r in
                 let m : length (Z (suc i)) ≡ t .size (suc i) = h (suc i) (file i l) .0 in
                 List·getD-eq-default (Z (suc i)) 0 (omega arith)
 
@@ -131,8 +130,7 @@ module _ (rule : ℕ → ℕ → ℕ) (small : (f v : ℕ) → f < 256 → rule 
   pub solution-recoverable : (f : ℕ) → f < t .n → (w : ℕ → Byte) → IsSolution K matrix 256 (255 - t .n) f w
       → Recoverable rule t (suc f)
   unfolding difference
-  solution-recoverable f lf w W X Y hX hY a =
-      ext-getD 0 (X (suc f)) (Y (suc f)) (lx ∙ sym ly) (λ p l. each p (subst (λ (k : ℕ). p < k) lx l))
+  solution-recoverable f lf w W X Y hX hY a = ext-getD 0 (X (suc f)) (Y (suc f)) (lx ∙ sym ly) (λ p l. each p (subst (λ (k : ℕ). p < k) lx l))
     where
       lx : length (X (suc f)) ≡ t .size (suc f)
       lx = hX (suc f) (file f lf) .0
@@ -141,8 +139,7 @@ module _ (rule : ℕ → ℕ → ℕ) (small : (f v : ℕ) → f < 256 → rule 
       ly = hY (suc f) (file f lf) .0
 
       each : (p : ℕ) → p < t .size (suc f) → getD (X (suc f)) p 0 ≡ getD (Y (suc f)) p 0
-      each p l =
-          let g = file-le-greatest (t .n) (t .size) (suc f) (omega arith) lf in
+      each p l = let g = file-le-greatest (t .n) (t .size) (suc f) (omega arith) lf in
           let z : difference X Y hX hY a p f ≡ 𝟘 =
           solution-zero K matrix 256 (255 - t .n) f w (difference X Y hX hY a p) (omega arith) W
           (rows-zero X Y hX hY a p (omega arith)) in
@@ -237,8 +234,7 @@ module _ (rule : ℕ → ℕ → ℕ) (small : (f v : ℕ) → f < 256 → rule 
         parities : (v : ℕ) → isVolume (t .n) v ≡ true → t .volumes v ≡ true → (p : ℕ)
             → parityByte rule (t .n) nothing v p ≡ parityByte rule (t .n) something v p
         parities zero l e p = absurd (not-suc-le-zero (oneTo-inside (255 - t .n) zero l .0))
-        parities (suc s) l e p =
-            let b = oneTo-inside (255 - t .n) (suc s) l .1 in
+        parities (suc s) l e p = let b = oneTo-inside (255 - t .n) (suc s) l .1 in
             R.parity-sum rule small t fits nothing nothing-contents s p
             ∙ ap (λ (b : Byte). b .0)
             (zero-cells nothing s p (nothing-cell p) ∙ sym (something-sum s (omega arith) e p))

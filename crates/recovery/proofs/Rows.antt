@@ -104,8 +104,7 @@ module _ (rule : ℕ → ℕ → ℕ) (small : (f v : ℕ) → f < 256 → rule 
 
   pub matrix-off : (s i : ℕ) → inColumn i ≡ false → matrix s i ≡ 𝟘
   unfolding matrix mask
-  matrix-off s i e =
-      ap (λ (b : Bool). mask (t .volumes (suc s)) (mask b (coef i s))) e ∙ mask-zero (t .volumes (suc s))
+  matrix-off s i e = ap (λ (b : Bool). mask (t .volumes (suc s)) (mask b (coef i s))) e ∙ mask-zero (t .volumes (suc s))
 
   pub rows-sum : (s : ℕ) (z : ℕ → Byte) → sum K 256 (λ i. matrix s i ⊗ z i) ≡ sum K (t .n) (λ i. matrix s i ⊗ z i)
   rows-sum s z =

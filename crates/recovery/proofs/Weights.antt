@@ -47,8 +47,7 @@ module _ (rule : ℕ → ℕ → ℕ) (small : (f v : ℕ) → f < 256 → rule 
   rows = 255 - t .n
 
   column-file : (i : ℕ) → inColumn i ≡ true → (i < t .n) × (column t (suc i) ≡ true)
-  column-file i e =
-      let both = and-both (isFile (t .n) (suc i)) (column t (suc i)) e in
+  column-file i e = let both = and-both (isFile (t .n) (suc i)) (column t (suc i)) e in
       (oneTo-inside (t .n) (suc i) (both .0) .1, both .1)
 
   -- ---- used volumes
@@ -59,12 +58,10 @@ module _ (rule : ℕ → ℕ → ℕ) (small : (f v : ℕ) → f < 256 → rule 
   term c r i e = go (t .volumes (suc r)) refl
     where
       go : (b : Bool) → t .volumes (suc r) ≡ b → (c r ⊗ matrix r i) .0 ≡ cond b (product (c r .0) (rule (suc i) (suc r))) 0
-      go true h =
-          let l = column-file i e .0 in
+      go true h = let l = column-file i e .0 in
           ap (λ (x : Byte). (c r ⊗ x) .0) (R.matrix-present rule small t fits r i h e)
           ∙ ap (product (c r .0)) (R.coef-value rule small t fits i r (omega arith))
-      go false h =
-          ap (λ (x : Byte). (c r ⊗ x) .0) (R.matrix-absent rule small t fits r i h) ∙ ap (λ (x : Byte). x .0) (S.mul-zero K (c r))
+      go false h = ap (λ (x : Byte). (c r ⊗ x) .0) (R.matrix-absent rule small t fits r i h) ∙ ap (λ (x : Byte). x .0) (S.mul-zero K (c r))
 
   term-off : (c : ℕ → Byte) (r i : ℕ) → inColumn i ≡ false → c r ⊗ matrix r i ≡ 𝟘
   term-off c r i e = ap (λ (x : Byte). c r ⊗ x) (R.matrix-off rule small t fits r i e) ∙ S.mul-zero K (c r)
@@ -92,8 +89,7 @@ module _ (rule : ℕ → ℕ → ℕ) (small : (f v : ℕ) → f < 256 → rule 
       each : (g : ℕ) → isFile (t .n) g ≡ true → column t g ≡ true
           → rule g (suc s) ≡ sumBelow (suc s - 1) (λ r. cond (t .volumes (suc r)) (product (number (suc r)) (rule g (suc r))) 0)
       each zero l k = absurd (not-suc-le-zero (oneTo-inside (t .n) zero l .0))
-      each (suc i) l k =
-          let b = oneTo-inside (t .n) (suc i) l .1 in
+      each (suc i) l k = let b = oneTo-inside (t .n) (suc i) l .1 in
           let in-column : inColumn i ≡ true = ap₂ (λ (x y : Bool). x && y) l k in
           sym (R.coef-value rule small t fits i s (omega arith))
           ∙ ap (λ (b : Byte). b .0) (sym (R.matrix-present rule small t fits s i e in-column) ∙ h i (omega arith))
@@ -111,8 +107,7 @@ module _ (rule : ℕ → ℕ → ℕ) (small : (f v : ℕ) → f < 256 → rule 
       each i false k =
           R.matrix-off rule small t fits s i k
           ∙ sym (S.sum-none K s (λ r. byte r ⊗ matrix r i) (λ r m. term-off byte r i k))
-      each i true k =
-          let both = column-file i k in
+      each i true k = let both = column-file i k in
           let b = both .0 in
           byte-eq (matrix s i) (sum K s (λ r. byte r ⊗ matrix r i))
           (ap (λ (x : Byte). x .0) (R.matrix-present rule small t fits s i e k) ∙ R.coef-value rule small t fits i s (omega arith)
@@ -186,8 +181,7 @@ module _ (rule : ℕ → ℕ → ℕ) (small : (f v : ℕ) → f < 256 → rule 
       go : (s : ℕ) → s < rows → (b : Bool) → t .volumes (suc s) ≡ b
           → product (w s .0) (rule (suc i) (suc s)) ≡ cond b (product (w s .0) (rule (suc i) (suc s))) 0
       go s l true q = refl
-      go s l false q =
-          ap (λ (x : Byte). product (x .0) (rule (suc i) (suc s))) (z s l q) ∙ product-zero-l (rule (suc i) (suc s))
+      go s l false q = ap (λ (x : Byte). product (x .0) (rule (suc i) (suc s))) (z s l q) ∙ product-zero-l (rule (suc i) (suc s))
 
   module _ (f : ℕ) (w : ℕ → Byte) (W : Weighs f w) (r : List ℕ) (len : length r ≡ 255)
       (bytes : (p : ℕ) → getD r p 0 < 256)
@@ -196,8 +190,7 @@ module _ (rule : ℕ → ℕ → ℕ) (small : (f v : ℕ) → f < 256 → rule 
       (hm : (i : ℕ) → i < t .n → t .files (suc i) ≡ false → getD r i 0 ≡ 0) where
     unused-zero : (v : ℕ) → isVolume (t .n) v ≡ true → ¬ Used rule t v → place r (t .n + v) ≡ 0
     unused-zero zero l q = absurd (not-suc-le-zero (oneTo-inside (255 - t .n) zero l .0))
-    unused-zero (suc s) l q =
-        let b = oneTo-inside (255 - t .n) (suc s) l .1 in
+    unused-zero (suc s) l q = let b = oneTo-inside (255 - t .n) (suc s) l .1 in
         let m : s < rows = omega arith in
         place-volume r s ∙ hw s m
         ∙ elim (Solutions.dependent-dec K is-zero matrix 256 s) [
@@ -207,8 +200,7 @@ module _ (rule : ℕ → ℕ → ℕ) (small : (f v : ℕ) → f < 256 → rule 
 
     column-weights : (g : ℕ) → isFile (t .n) g ≡ true → column t g ≡ true → weighted rule t r g ≡ cond (eqb f g) 1 0
     column-weights zero l e = absurd (not-suc-le-zero (oneTo-inside (t .n) zero l .0))
-    column-weights (suc g) l e =
-        let k : inColumn g ≡ true = ap₂ (λ (x y : Bool). x && y) l e in
+    column-weights (suc g) l e = let k : inColumn g ≡ true = ap₂ (λ (x y : Bool). x && y) l e in
         weighted-sum r w hw (λ s m h. W .unused s m (absent-dependent s h)) g k ∙ W .columns g k
 
     of-files : (g : ℕ) → isFile (t .n) g ≡ true → t .files g ≡ true → place r g ≡ weighted rule t r g
@@ -247,12 +239,10 @@ module _ (rule : ℕ → ℕ → ℕ) (small : (f v : ℕ) → f < 256 → rule 
     weight-columns g = go (inColumn g) refl
       where
         go : (b : Bool) → inColumn g ≡ b → sum K rows (λ s. weight s ⊗ matrix s g) .0 ≡ cond b (cond (eqb f (suc g)) 1 0) 0
-        go true e =
-            let both = and-both (isFile (t .n) (suc g)) (column t (suc g)) e in
+        go true e = let both = and-both (isFile (t .n) (suc g)) (column t (suc g)) e in
             sym (weighted-sum r weight (λ s l. refl) (λ s l h. weight-unused s l (absent-dependent s h)) g e)
             ∙ W .columns (suc g) (both .0) (both .1)
-        go false e =
-            ap (λ (x : Byte). x .0) (S.sum-none K rows (λ s. weight s ⊗ matrix s g) (λ s m. term-off weight s g e))
+        go false e = ap (λ (x : Byte). x .0) (S.sum-none K rows (λ s. weight s ⊗ matrix s g) (λ s m. term-off weight s g e))
 
   module _ (f : ℕ) (r r′ : List ℕ) (W : IsWeights rule t f r) (W′ : IsWeights rule t f r′) where
     same-volumes : (s : ℕ) → s < rows → getD r (t .n + s) 0 ≡ getD r′ (t .n + s) 0
@@ -278,11 +268,9 @@ module _ (rule : ℕ → ℕ → ℕ) (small : (f v : ℕ) → f < 256 → rule 
         ap (λ (k : ℕ). product k (rule g (suc s))) (place-volume r s ∙ same-volumes s l ∙ sym (place-volume r′ s)))
 
     same-file : (p : ℕ) → p < t .n → (b : Bool) → t .files (suc p) ≡ b → place r (suc p) ≡ place r′ (suc p)
-    same-file p l true e =
-        let h = oneTo-in (t .n) (suc p) (omega arith) l in
+    same-file p l true e = let h = oneTo-in (t .n) (suc p) (omega arith) l in
         W .of-files (suc p) h e ∙ same-weighted (suc p) ∙ sym (W′ .of-files (suc p) h e)
-    same-file p l false e =
-        let h = oneTo-in (t .n) (suc p) (omega arith) l in
+    same-file p l false e = let h = oneTo-in (t .n) (suc p) (omega arith) l in
         W .of-missing (suc p) h e ∙ sym (W′ .of-missing (suc p) h e)
 
     pub one-weights : r ≡ r′

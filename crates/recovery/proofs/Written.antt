@@ -39,8 +39,7 @@ module _ (rule : ℕ → ℕ → ℕ) (n : ℕ) (files ws room room′ : List �
   }
     where
       at : (i : ℕ) → i ≡ p → getD (set room′ p x) i 0 ≡ x
-      at i e =
-          let l = W .same-length in
+      at i e = let l = W .same-length in
           ap (λ (k : ℕ). getD (set room′ p x) k 0) e ∙ getD-set-same room′ p x 0 (omega arith)
 
   pub written-file : p < n → x ≡ fileWeight rule files ws (255 - n) p → Written rule n files ws room (set room′ p x) (p + 1)
@@ -72,8 +71,7 @@ module _ (rule : ℕ → ℕ → ℕ) (n : ℕ) (files ws room : List ℕ) where
   module _ (small : (f v : ℕ) → f < 256 → rule f v < 256) (few : n ≤ 254) (bytes : (v : ℕ) → v < 256 → getD ws v 0 < 256) where
     file-weight-byte : (i : ℕ) → i < n → fileWeight rule files ws (255 - n) i < 256
     unfolding fileWeight
-    file-weight-byte i l =
-        sumBelow-lt (255 - n) 8 _ (λ v h. product-byte _ _ (bytes (suc v) (omega arith)) (chosen (member files (suc i)) (suc v)))
+    file-weight-byte i l = sumBelow-lt (255 - n) 8 _ (λ v h. product-byte _ _ (bytes (suc v) (omega arith)) (chosen (member files (suc i)) (suc v)))
       where
         chosen : (b : Bool) (v : ℕ) → cond b (rule (suc i) v) 0 < 256
         chosen true v = small (suc i) v (omega arith)
@@ -87,8 +85,7 @@ module _ (rule : ℕ → ℕ → ℕ) (n : ℕ) (files ws room : List ℕ) where
         ]
 
   pub written-rest : (room′ : List ℕ) → Written rule n files ws room room′ 255 → room′ ≡ take 255 room′ ++ drop 255 room
-  written-rest room′ W =
-      let e = W .same-length in
+  written-rest room′ W = let e = W .same-length in
       sym (take-append-drop 255 room′)
       ∙ ap (λ (l : List ℕ). take 255 room′ ++ l)
       (ext-getD 0 (drop 255 room′) (drop 255 room) (simp length-drop (ap (λ (k : ℕ). k - 255) e))

@@ -89,8 +89,7 @@ module _ (n n′ : ℕ) (sizes sizes′ : List ℕ) (first : n′ ≡ min n usiz
   open-cut = go (oneTo 254 n) refl
     where
       go : (b : Bool) → oneTo 254 n ≡ b → openStep Powers n′ sizes′ ≡ openStep Powers n sizes
-      go true e =
-          let i = oneTo-inside 254 n e in
+      go true e = let i = oneTo-inside 254 n e in
           let z : n′ ≡ n = omega (arith, first) in
           elim (ℕ-discrete (length sizes) n) [
             | yes c ↦ by-sizes c z (allBelow n (fits sizes)) (allBelow n (fits sizes′)) refl refl

@@ -40,8 +40,7 @@ stands (List·Memᴰ·head e) = (0, omega arith, sym e)
 stands (List·Memᴰ·tail m) = let (i, l, e) = stands m in (suc i, omega arith, e)
 
 above : (k : ℕ) (ks : List ℕ) → Ascending (k ∷ ks) → {f : ℕ} → List·Memᴰ f ks → k < f
-above k ks up m =
-    let (i, l, e) = stands m in
+above k ks up m = let (i, l, e) = stands m in
     let less : k < getD ks i 0 = up 0 (suc i) (omega arith) (omega arith) in omega arith
 
 rest-up : (k : ℕ) (ks : List ℕ) → Ascending (k ∷ ks) → Ascending ks
@@ -60,8 +59,7 @@ ascending-one : (ks js : List ℕ) → Ascending ks → Ascending js → ((f : �
 ascending-one [] [] up vp same = refl
 ascending-one [] (j ∷ js) up vp same = absurd (List·Memᴰ·not-nil (same j .1 (List·Memᴰ·head refl)))
 ascending-one (k ∷ ks) [] up vp same = absurd (List·Memᴰ·not-nil (same k .0 (List·Memᴰ·head refl)))
-ascending-one (k ∷ ks) (j ∷ js) up vp same =
-    let low : j ≤ k = least j js vp (same k .0 (List·Memᴰ·head refl)) in
+ascending-one (k ∷ ks) (j ∷ js) up vp same = let low : j ≤ k = least j js vp (same k .0 (List·Memᴰ·head refl)) in
     let high : k ≤ j = least k ks up (same j .1 (List·Memᴰ·head refl)) in
     let first : k ≡ j = omega arith in
     ap₂ (λ (i : ℕ) (is : List ℕ). i ∷ is) first
@@ -83,8 +81,7 @@ module _ (d : State → ℕ → Bool) (D : Decides coefficient d) where
   ]
 
   line-is : (t : State) → t .n ≤ 254 → (a : Arrival) (k : ℕ) {l : List ℕ} → LineAfter t a k l → l ≡ eventLine d t (changeBy a) k
-  line-is t few a k (files z ks up members) =
-      let (js, vp, members′, line) = listed d D t few (changeBy a) k z in
+  line-is t few a k (files z ks up members) = let (js, vp, members′, line) = listed d D t few (changeBy a) k z in
       ap filesText
       (ascending-one ks js up vp (λ f. (λ m. members′ f .1 (members f .0 m), λ m. members f .1 (members′ f .0 m))))
       ∙ sym line
@@ -95,8 +92,7 @@ module _ (d : State → ℕ → Bool) (D : Decides coefficient d) where
 
   lines-after : (t : State) → t .n ≤ 254 → (es : List (Arrival × ℕ)) → (ls : List (List ℕ)) × LinesAfter t es ls
   lines-after t few [] = ([], no-more)
-  lines-after t few ((a, k) ∷ es) =
-      let (ls, after) = lines-after (next t (change (changeBy a) k)) (few-next t few a k) es in
+  lines-after t few ((a, k) ∷ es) = let (ls, after) = lines-after (next t (change (changeBy a) k)) (few-next t few a k) es in
       (eventLine d t (changeBy a) k ∷ ls, one-more (line-after t few a k) after)
 
   lines-are : (t : State) → t .n ≤ 254 → {es : List (Arrival × ℕ)} {ls : List (List ℕ)} → LinesAfter t es ls → flatten ls ≡ linesOf d t es

@@ -57,8 +57,7 @@ module _ (l : List ℕ) where
 
   pub event-space : getD l 1 0 ≢ 32 → isEventLine l ≡ false
   unfolding isEventLine
-  event-space q =
-      ap (λ (b : Bool). isLetter (getD l 0 0) && (b && isDecimal (drop 2 l))) (ne-eqb (getD l 1 0) 32 q) ∙ and-false (isLetter (getD l 0 0))
+  event-space q = ap (λ (b : Bool). isLetter (getD l 0 0) && (b && isDecimal (drop 2 l))) (ne-eqb (getD l 1 0) 32 q) ∙ and-false (isLetter (getD l 0 0))
 
   pub event-number : isLetter (getD l 0 0) ≡ true → getD l 1 0 ≡ 32 → isEventLine l ≡ isDecimal (drop 2 l)
   unfolding isEventLine
@@ -69,8 +68,7 @@ module _ (l : List ℕ) where
 -- the bytes from `from` on up to the line's byte 10
 pub part-body : (log : List ℕ) (from : ℕ) → from ≤ length log
     → let n = lineLength (drop from log) in 0 < n → take (from + n - 1 - from) (drop from log) ≡ bodyOf (take n (drop from log))
-part-body log from h l =
-    let n = lineLength (drop from log) in
+part-body log from h l = let n = lineLength (drop from log) in
     let m = line-most (drop from log) in
     let k : from + n - 1 - from ≡ n - 1 = omega arith in
     let long : length (take n (drop from log)) ≡ n = length-take-le n (drop from log) m in

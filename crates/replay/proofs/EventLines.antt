@@ -57,8 +57,7 @@ module _ (e : Event) (z : e .number ≡ 0) (o : e .over ≡ false) (r : Recovera
     where
       go : (b : Bool) → isInventory (e .inventory) ≡ b → EventLine ruleOf e (refusedLine (r .number))
       go true v = absurd (q (R .accepted v))
-      go false v =
-          subst (λ (k : ℕ). EventLine ruleOf e (refusedLine k)) (sym (ap (λ (x : RecoverableFiles). x .number) (R .first v))) (no-inventory z o v)
+      go false v = subst (λ (k : ℕ). EventLine ruleOf e (refusedLine k)) (sym (ap (λ (x : RecoverableFiles). x .number) (R .first v))) (no-inventory z o v)
 
   pub set-files : r .number ≡ 0 → EventLine ruleOf e (numbersLine (filesOf (e .inventory .n) (member (r .files))))
   set-files n = go (isInventory (e .inventory)) refl

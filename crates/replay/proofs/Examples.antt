@@ -119,8 +119,7 @@ of-2 = refl
 cancelled : (X Y : Contents) → X 1 ≡ Y 1 → parityByte coefficient 2 X 2 0 ≡ parityByte coefficient 2 Y 2 0
     → product 2 (getD (X 2) 0 0) ≡ product 2 (getD (Y 2) 0 0)
 unfolding parityByte sumBelow
-cancelled X Y first e =
-    let a : ℕ = bitXor 0 (product (coefficient 1 2) (getD (X 1) 0 0)) in
+cancelled X Y first e = let a : ℕ = bitXor 0 (product (coefficient 1 2) (getD (X 1) 0 0)) in
     let b : ℕ = bitXor 0 (product (coefficient 1 2) (getD (Y 1) 0 0)) in
     let same : a ≡ b = ap (λ (l : List ℕ). bitXor 0 (product (coefficient 1 2) (getD l 0 0))) first in
     let x : ℕ = product (coefficient 2 2) (getD (X 2) 0 0) in
@@ -133,8 +132,7 @@ halved x h = sym (product-assoc 142 2 x (omega arith) (omega arith) h) ∙ ap (�
 
 second-back : Recoverable coefficient t₂ 2
 unfolding greatest
-second-back X Y hX hY a =
-    let (lx, bx) = hX 2 refl in
+second-back X Y hX hY a = let (lx, bx) = hX 2 refl in
     let (ly, by) = hY 2 refl in
     let first : X 1 ≡ Y 1 = a .same-files 1 refl refl in
     let e = a .same-parity 2 refl refl 0 (omega arith) in
@@ -174,13 +172,11 @@ module _ (d : State → ℕ → Bool) (D : Decides coefficient d) where
 
   first-line : eventLine d (opened Powers 2 size) (addVolume Powers) 2 ≡ ascii "none\n"
   unfolding eventLine next numberOf changed filesOf
-  first-line =
-      ap₂ (λ (a b : Bool). numbersLine (([] ++ cond a (1 ∷ []) []) ++ cond b (2 ∷ []) [])) (none-yet 1 refl) (none-yet 2 refl)
+  first-line = ap₂ (λ (a b : Bool). numbersLine (([] ++ cond a (1 ∷ []) []) ++ cond b (2 ∷ []) [])) (none-yet 1 refl) (none-yet 2 refl)
 
   second-line : eventLine d t₁ addFile 1 ≡ ascii "2\n"
   unfolding eventLine next numberOf changed filesOf decimal decimalIn flatten
-  second-line =
-      ap₂ (λ (a b : Bool). numbersLine (([] ++ cond a (1 ∷ []) []) ++ cond b (2 ∷ []) [])) present-not second-now
+  second-line = ap₂ (λ (a b : Bool). numbersLine (([] ++ cond a (1 ∷ []) []) ++ cond b (2 ∷ []) [])) present-not second-now
 
   third-line : eventLine d t₂ (addVolume Powers) 2 ≡ ascii "refused 11\n"
   unfolding eventLine numberOf refusedLine decimal decimalIn

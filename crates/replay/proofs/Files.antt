@@ -49,8 +49,7 @@ module _ (test : ℕ → Bool) where
       at : Dec (i < length (filesOf n test)) → i < length (filesOf n test ++ (suc n ∷ [])) → (i < length (filesOf n test) → getD (filesOf n test) i 0 ≤ n)
           → getD (filesOf n test ++ (suc n ∷ [])) i 0 ≤ suc n
       at (yes b) h r = let m = r b in let g = List·getD-append (filesOf n test) (suc n ∷ []) 0 i b in omega arith
-      at (no q) h r =
-          let z : i ≡ length (filesOf n test) = omega (arith, length-append (filesOf n test) (suc n ∷ [])) in
+      at (no q) h r = let z : i ≡ length (filesOf n test) = omega (arith, length-append (filesOf n test) (suc n ∷ [])) in
           let g = ap (λ (k : ℕ). getD (filesOf n test ++ (suc n ∷ [])) k 0) z ∙ getD-append-seam (filesOf n test) (suc n) [] 0 in omega arith
 
   pub files-ascending : (n : ℕ) → Ascending (filesOf n test)
@@ -63,12 +62,10 @@ module _ (test : ℕ → Bool) where
       at : Dec (j < length (filesOf n test)) → j < length (filesOf n test ++ (suc n ∷ []))
           → (j < length (filesOf n test) → getD (filesOf n test) i 0 < getD (filesOf n test) j 0)
           → getD (filesOf n test ++ (suc n ∷ [])) i 0 < getD (filesOf n test ++ (suc n ∷ [])) j 0
-      at (yes b) h r =
-          let m = r b in
+      at (yes b) h r = let m = r b in
           let g = List·getD-append (filesOf n test) (suc n ∷ []) 0 i (omega arith) in
           let g′ = List·getD-append (filesOf n test) (suc n ∷ []) 0 j b in omega arith
-      at (no q) h r =
-          let z : j ≡ length (filesOf n test) = omega (arith, length-append (filesOf n test) (suc n ∷ [])) in
+      at (no q) h r = let z : j ≡ length (filesOf n test) = omega (arith, length-append (filesOf n test) (suc n ∷ [])) in
           let g = ap (λ (k : ℕ). getD (filesOf n test ++ (suc n ∷ [])) k 0) z ∙ getD-append-seam (filesOf n test) (suc n) [] 0 in
           let g′ = List·getD-append (filesOf n test) (suc n ∷ []) 0 i (omega arith) in
           let m = files-most n i (omega arith) in omega arith
@@ -114,8 +111,7 @@ same-shape (k ∷ ks) = refl
 
 pub listed : Listed
 unfolding eventLine
-listed d D t few c k e =
-    let t′ : State = next t (change c k) in
+listed d D t few c k e = let t′ : State = next t (change c k) in
     let few′ : t′ .n ≤ 254 = subst (λ (n : ℕ). n ≤ 254) (sym (next-same t (change c k) .same-n)) few in
     let member = files-member (d t′) (t′ .n) in (
       filesOf (t′ .n) (d t′),
@@ -130,7 +126,6 @@ listed d D t few c k e =
 
 pub event-refused : EventRefused
 unfolding eventLine refusedLine
-event-refused d t c k q =
-    let t′ : State = next t (change c k) in
+event-refused d t c k q = let t′ : State = next t (change c k) in
     ap (λ (b : Bool). cond b (numbersLine (filesOf (t′ .n) (d t′))) (refusedLine (numberOf t c k))) (ne-eqb (numberOf t c k) 0 q)
     ∙ append-assoc (ascii "refused ") (decimal (numberOf t c k)) (10 ∷ [])

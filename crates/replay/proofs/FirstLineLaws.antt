@@ -90,8 +90,7 @@ stored values count v values′ e l z =
     }
 
 pub unstored : (values : List ℕ) (count v : ℕ) (values′ : List ℕ) → length values ≡ 255 → 255 ≤ count → values′ ≡ values → Stored values count v values′
-unstored values count v values′ e l z =
-    subst (Stored values count v) (sym z) record { long = e; same = λ i a b. refl; new = λ b. absurd (omega arith) }
+unstored values count v values′ e l z = subst (Stored values count v) (sym z) record { long = e; same = λ i a b. refl; new = λ b. absurd (omega arith) }
 
 module _ (line : List ℕ) (at count : ℕ) (values : List ℕ) (R : Reads line at count values) where
   abbrev here : List ℕ
@@ -127,8 +126,7 @@ module _ (line : List ℕ) (at count : ℕ) (values : List ℕ) (R : Reads line 
 
     pub reads-last : at + wordLength here ≡ length line → NumbersRead line record { shaped = true; count = count + 1; values = values′ }
     unfolding value
-    reads-last e =
-        let d = length-drop at line in
+    reads-last e = let d = length-drop at line in
         let i = R .inside in
         let z : wordLength here ≡ length here = omega arith in
         let (f, n) = first-last here z in
@@ -143,8 +141,7 @@ module _ (line : List ℕ) (at count : ℕ) (values : List ℕ) (R : Reads line 
 
     pub reads-more : at + wordLength here < length line → Reads line (at + wordLength here + 1) (count + 1) values′
     unfolding value
-    reads-more l =
-        let d = length-drop at line in
+    reads-more l = let d = length-drop at line in
         let i = R .inside in
         let (f, n) = first-more here (omega arith) in
         let k : at + suc (wordLength here) ≡ at + wordLength here + 1 = omega arith in

@@ -40,8 +40,7 @@ prints-there log (suc m) e h = by (e .over) refl (prints-there log m (nextEvent 
         → ((next .over ≡ false → length log - next .from < m) → (lines : List (List ℕ)) × Prints ruleOf log next lines)
         → (lines : List (List ℕ)) × Prints ruleOf log e lines
     by true o more = ([], ends o)
-    by false o more =
-        let (line, E) = line-there next in
+    by false o more = let (line, E) = line-there next in
         let less = h o in
         let (lines, P) = more (λ y. let on = next-goes log (e .from) (e .inventory) next refl y in omega arith) in
         (line ∷ lines, goes-on o E P)
@@ -74,19 +73,15 @@ module _ (d : State → ℕ → Bool) (D : Decides coefficient d) (log : List �
       after : (b : Bool) → next .over ≡ b → Follows size t log (e .from) next line → Prints ruleOf log next lines
           → ((t′ : State) → Stands size t′ (next .inventory) → next .over ≡ false → flatten lines ≡ linesFrom d t′ log (next .from))
           → line ++ flatten lines ≡ linesFrom d t log (e .from)
-      after true v F p rest =
-          ap (λ (ls : List (List ℕ)). line ++ flatten ls) (ended-none next lines p v) ∙ append-nil line ∙ sym (F .ends v d D)
-      after false v F p rest =
-          let (t′, R′, h) = F .goes v in
+      after true v F p rest = ap (λ (ls : List (List ℕ)). line ++ flatten ls) (ended-none next lines p v) ∙ append-nil line ∙ sym (F .ends v d D)
+      after false v F p rest = let (t′, R′, h) = F .goes v in
           ap (λ (l : List ℕ). line ++ l) (rest t′ R′ v) ∙ sym (h d D)
 
   log-joined : (lines : List (List ℕ)) → LogPrints ruleOf log lines → flatten lines ≡ replayOf d log
   unfolding flatten
-  log-joined lines (at-once {line} o E) =
-      let (q, h) = opening-starts log .refusal o in
+  log-joined lines (at-once {line} o E) = let (q, h) = opening-starts log .refusal o in
       append-nil line ∙ line-refused (opening log) line E q ∙ sym (h d)
-  log-joined lines (by-events o P) =
-      let (size, t, R, h) = opening-starts log .goes o in
+  log-joined lines (by-events o P) = let (size, t, R, h) = opening-starts log .goes o in
       prints-joined size t (opening log) lines R o P ∙ sym (h d)
 
 pub lines-joined : LinesJoined

@@ -52,15 +52,13 @@ files-length test (suc n) = go (test (suc n)) (files-length test n)
 rest-short : (ks : List ℕ) → ((i : ℕ) → i < length ks → getD ks i 0 < 1000) → length (flatten (map (field (ascii " ")) ks)) ≤ 4 * length ks
 unfolding flatten
 rest-short [] h = omega arith
-rest-short (k ∷ ks) h =
-    let r = rest-short ks (λ i l. h (suc i) (omega arith)) in
+rest-short (k ∷ ks) h = let r = rest-short ks (λ i l. h (suc i) (omega arith)) in
     let d = decimal-length k 2 (h 0 (omega arith)) in
     omega (arith, length-append (decimal k) (flatten (map (field (ascii " ")) ks)))
 
 numbers-short : (ks : List ℕ) → ((i : ℕ) → i < length ks → getD ks i 0 < 1000) → length ks ≤ 254 → length (numbersLine ks) ≤ 1024
 numbers-short [] h l = omega arith
-numbers-short (k ∷ ks) h l =
-    let r = rest-short ks (λ i l. h (suc i) (omega arith)) in
+numbers-short (k ∷ ks) h l = let r = rest-short ks (λ i l. h (suc i) (omega arith)) in
     let d = decimal-length k 2 (h 0 (omega arith)) in
     omega (
       arith,
@@ -69,13 +67,11 @@ numbers-short (k ∷ ks) h l =
     )
 
 pub files-short : (test : ℕ → Bool) (n : ℕ) → n ≤ 254 → length (numbersLine (filesOf n test)) ≤ 1024
-files-short test n l =
-    numbers-short (filesOf n test) (λ i h. let m = files-most test n i h in omega arith) (let m = files-length test n in omega arith)
+files-short test n l = numbers-short (filesOf n test) (λ i h. let m = files-most test n i h in omega arith) (let m = files-length test n in omega arith)
 
 pub refused-short : (k : ℕ) → k < 1000 → length (refusedLine k) ≤ 1024
 unfolding refusedLine
-refused-short k l =
-    let d = decimal-length k 2 l in
+refused-short k l = let d = decimal-length k 2 l in
     omega (arith, length-append (field (ascii "refused ") k) (10 ∷ []), length-append (ascii "refused ") (decimal k))
 
 -- ---- the refusals
@@ -91,13 +87,11 @@ number-small : (t : State) (c : Change) (k : ℕ) → numberOf t c k < 1000
 unfolding numberOf
 number-small t addFile f = ranged (isFile (t .n) f) (cond (t .files f) 11 0) (of-cond (t .files f) 11 0 (omega arith) (omega arith))
 number-small t removeFile f = ranged (isFile (t .n) f) (cond (t .files f) 0 11) (of-cond (t .files f) 0 11 (omega arith) (omega arith))
-number-small t (addVolume c) v =
-    let own : ℕ = cond (t .quarantined v) 27 (cond (t .volumes v) 11 0) in
+number-small t (addVolume c) v = let own : ℕ = cond (t .quarantined v) 27 (cond (t .volumes v) 11 0) in
     ranged (isVolume (t .n) v) (cond (same c (t .code)) own 29)
     (of-cond (same c (t .code)) own 29
     (of-cond (t .quarantined v) 27 (cond (t .volumes v) 11 0) (omega arith) (of-cond (t .volumes v) 11 0 (omega arith) (omega arith))) (omega arith))
-number-small t removeVolume v =
-    let here : Bool = t .volumes v || t .quarantined v in
+number-small t removeVolume v = let here : Bool = t .volumes v || t .quarantined v in
     ranged (isVolume (t .n) v) (cond here 0 11) (of-cond here 0 11 (omega arith) (omega arith))
 number-small t quarantine v = ranged (isVolume (t .n) v) (cond (t .volumes v) 0 11) (of-cond (t .volumes v) 0 11 (omega arith) (omega arith))
 number-small t release v = ranged (isVolume (t .n) v) (cond (t .quarantined v) 0 11) (of-cond (t .quarantined v) 0 11 (omega arith) (omega arith))
@@ -177,8 +171,7 @@ text-fits d log = go (leb (length log) 65536) refl
     lines = cut lineLength log
 
     go : (b : Bool) → leb (length log) 65536 ≡ b → length (cond b (logLines d (lines .pieces) (lines .rest)) (refusedLine 1)) < 2 ^ 59
-    go true e =
-        let l = leb-true (length log) 65536 e in
+    go true e = let l = leb-true (length log) 65536 e in
         let c = cut-count lineLength log in
         let s = log-short d (lines .pieces) (lines .rest) in omega arith
     go false e = let r = refused-short 1 (omega arith) in omega arith

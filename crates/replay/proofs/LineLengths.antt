@@ -104,7 +104,5 @@ prints-fit log size t e (line ∷ lines) R (goes-on y E more) =
     rest false v F more = let (t′, R′, h) = F .goes v in more t′ (λ _. R′)
 
 pub lines-fit : LinesFit
-lines-fit log lines (at-once {line} o E) =
-    all-more (line-fits (opening log) line (first-small log) (λ y. absurd (true≢false (sym o ∙ y))) E) all-none
-lines-fit log lines (by-events o P) =
-    let (size, t, R, h) = opening-starts log .goes o in prints-fit log size t (opening log) lines (λ _. R) P
+lines-fit log lines (at-once {line} o E) = all-more (line-fits (opening log) line (first-small log) (λ y. absurd (true≢false (sym o ∙ y))) E) all-none
+lines-fit log lines (by-events o P) = let (size, t, R, h) = opening-starts log .goes o in prints-fit log size t (opening log) lines (λ _. R) P

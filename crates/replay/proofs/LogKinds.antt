@@ -48,8 +48,7 @@ first-decided : (log : List ℕ) → ((n : ℕ) × (sizes s : List ℕ) × (log 
 first-decided log = by (begins-decided isFirstLine log)
   where
     by : Begins isFirstLine log ⊎ BeginsNot isFirstLine log → ((n : ℕ) × (sizes s : List ℕ) × (log ≡ firstText n sizes ++ s)) ⊎ NoFirst log
-    by (inl (l, r, t, e)) =
-        let (n, sizes, z) = first-shaped .exactly l .0 t in
+    by (inl (l, r, t, e)) = let (n, sizes, z) = first-shaped .exactly l .0 t in
         inl (n, sizes, r, e ∙ ap (λ (x : List ℕ). (x ++ (10 ∷ [])) ++ r) z)
     by (inr none) =
         inr (λ n sizes r. none (spaced (n ∷ sizes)) r (spaced-without n sizes) (first-shaped .exactly (spaced (n ∷ sizes)) .1 (n, sizes, refl)))
@@ -58,8 +57,7 @@ event-decided : (s : List ℕ) → ((e : Arrival × ℕ) × (r : List ℕ) × (s
 event-decided s = by (begins-decided isEventLine s)
   where
     by : Begins isEventLine s ⊎ BeginsNot isEventLine s → ((e : Arrival × ℕ) × (r : List ℕ) × (s ≡ eventText e ++ r)) ⊎ NoEvent s
-    by (inl (l, r, t, e)) =
-        let (a, k, z) = event-shaped .exactly l .0 t in
+    by (inl (l, r, t, e)) = let (a, k, z) = event-shaped .exactly l .0 t in
         inl ((a, k), r, e ∙ ap (λ (x : List ℕ). (x ++ (10 ∷ [])) ++ r) z)
     by (inr none) = inr (λ (a, k) r. none _ r (event-without a k) (event-shaped .exactly _ .1 (a, k, refl)))
 
@@ -96,8 +94,7 @@ each-log log =
 
     short : length log ≤ 65536 → ((n : ℕ) × (sizes s : List ℕ) × (log ≡ firstText n sizes ++ s)) ⊎ NoFirst log → LogKind log
     short l (inr none) = no-first log none l
-    short l (inl (n, sizes, s, z)) =
-        let h = subst (λ (x : List ℕ). length x ≤ 65536) z l in
+    short l (inl (n, sizes, s, z)) = let h = subst (λ (x : List ℕ). length x ≤ 65536) z l in
         subst LogKind (sym z)
         (elim (ℕ-discrete (openStep Powers n sizes .number) 0) [
           | yes o ↦ opened n sizes s o h (events-there (suc (length s)) s (omega arith))

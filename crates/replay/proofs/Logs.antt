@@ -42,8 +42,7 @@ Test = State → ℕ → Bool
 -- ---- a line and its byte 10
 
 body-line : (l : List ℕ) → bodyOf (l ++ (10 ∷ [])) ≡ l
-body-line l =
-    let k : length (l ++ (10 ∷ [])) - 1 ≡ length l = omega (arith, length-append l (10 ∷ [])) in
+body-line l = let k : length (l ++ (10 ∷ [])) - 1 ≡ length l = omega (arith, length-append l (10 ∷ [])) in
     ap (λ (n : ℕ). take n (l ++ (10 ∷ []))) k ∙ take-at l (10 ∷ []) (length l) refl
 
 module _ (l s : List ℕ) (h : Without 10 l) where
@@ -63,8 +62,7 @@ module _ (l s : List ℕ) (h : Without 10 l) where
   body-joined = ap bodyOf line-taken ∙ body-line l
 
   cut-line : cut lineLength joined ≡ before (l ++ (10 ∷ [])) (cut lineLength s)
-  cut-line =
-      let k = line-some in
+  cut-line = let k = line-some in
       let m = line-most joined in
       cut-more lineLength joined (omega arith) k
       ∙ ap₂ (λ (a b : List ℕ). before a (cut lineLength b)) line-taken
@@ -72,8 +70,7 @@ module _ (l s : List ℕ) (h : Without 10 l) where
 
 -- a text that begins with a line
 pub begins : (s : List ℕ) → 0 < lineLength s → s ≡ (bodyOf (take (lineLength s) s) ++ (10 ∷ [])) ++ drop (lineLength s) s
-begins s h =
-    let l : List ℕ = take (lineLength s - 1) s in
+begins s h = let l : List ℕ = take (lineLength s - 1) s in
     let e = line-ends s h in
     let b : bodyOf (take (lineLength s) s) ≡ l = ap bodyOf e ∙ body-line l in
     sym (take-append-drop (lineLength s) s) ∙ ap (λ (t : List ℕ). t ++ drop (lineLength s) s) (e ∙ ap (λ (t : List ℕ). t ++ (10 ∷ [])) (sym b))
@@ -104,8 +101,7 @@ short d log h =
 by-first : (d : Test) (n : ℕ) (sizes s : List ℕ) → length (firstText n sizes ++ s) ≤ 65536
     → replayOf d (firstText n sizes ++ s) ≡ openedLines d n sizes (cut lineLength s .pieces) (cut lineLength s .rest)
 unfolding logLines
-by-first d n sizes s h =
-    let body : bodyOf (firstText n sizes) ≡ spaced (n ∷ sizes) = body-line (spaced (n ∷ sizes)) in
+by-first d n sizes s h = let body : bodyOf (firstText n sizes) ≡ spaced (n ∷ sizes) = body-line (spaced (n ∷ sizes)) in
     let ok : isFirstLine (bodyOf (firstText n sizes)) ≡ true = ap isFirstLine body ∙ first-shaped .exactly (spaced (n ∷ sizes)) .1 (n, sizes, refl) in
     let ns : numbersOf (bodyOf (firstText n sizes)) ≡ n ∷ sizes = ap numbersOf body ∙ first-shaped .says n sizes in
     short d (firstText n sizes ++ s) h
@@ -139,8 +135,7 @@ first-refused d log none h =
     after = cut lineLength (drop (lineLength log) log)
 
     other : (b : Bool) → isFirstLine (bodyOf (take (lineLength log) log)) ≡ b → 0 < lineLength log → isFirstLine (bodyOf (take (lineLength log) log)) ≡ false
-    other true e l =
-        let (n, sizes, z) = first-shaped .exactly (bodyOf (take (lineLength log) log)) .0 e in
+    other true e l = let (n, sizes, z) = first-shaped .exactly (bodyOf (take (lineLength log) log)) .0 e in
         absurd (none n sizes (drop (lineLength log) log) (begins log l ∙ ap (λ (t : List ℕ). (t ++ (10 ∷ [])) ++ drop (lineLength log) log) z))
     other false e l = e
 
@@ -183,8 +178,7 @@ end-lines d t (x ∷ s) none =
 
     other : (b : Bool) → isEventLine (bodyOf (take (lineLength (x ∷ s)) (x ∷ s))) ≡ b → 0 < lineLength (x ∷ s)
         → isEventLine (bodyOf (take (lineLength (x ∷ s)) (x ∷ s))) ≡ false
-    other true e l =
-        let (a, j, z) = event-shaped .exactly (bodyOf (take (lineLength (x ∷ s)) (x ∷ s))) .0 e in
+    other true e l = let (a, j, z) = event-shaped .exactly (bodyOf (take (lineLength (x ∷ s)) (x ∷ s))) .0 e in
         absurd
         (none (a, j) (drop (lineLength (x ∷ s)) (x ∷ s))
         (begins (x ∷ s) l ∙ ap (λ (t : List ℕ). (t ++ (10 ∷ [])) ++ drop (lineLength (x ∷ s)) (x ∷ s)) z))
@@ -194,8 +188,7 @@ events-lines : (d : Test) (t : State) (es : List (Arrival × ℕ)) (s : List ℕ
     → eventLines d t (cut lineLength (flatten (map eventText es) ++ s) .pieces) (cut lineLength (flatten (map eventText es) ++ s) .rest) ≡ linesOf d t es ++ endLine s
 unfolding flatten linesOf eventLines
 events-lines d t [] s none = end-lines d t s none
-events-lines d t (e ∷ es) s none =
-    let a : Arrival = e .0 in
+events-lines d t (e ∷ es) s none = let a : Arrival = e .0 in
     let k : ℕ = e .1 in
     let text : List ℕ = letterOf a ∷ 32 ∷ decimal k in
     let rest : List ℕ = flatten (map eventText es) ++ s in
@@ -217,8 +210,7 @@ events-lines d t (e ∷ es) s none =
 
 pub log-replayed : LogReplayed
 unfolding openedLines
-log-replayed d n sizes es s e none h =
-    let rest : List ℕ = flatten (map eventText es) ++ s in
+log-replayed d n sizes es s e none h = let rest : List ℕ = flatten (map eventText es) ++ s in
     let z : logText n sizes es ++ s ≡ firstText n sizes ++ rest = append-assoc (firstText n sizes) (flatten (map eventText es)) s in
     ap (replayOf d) z ∙ by-first d n sizes rest (subst (λ (l : List ℕ). length l ≤ 65536) z h)
     ∙ ap (λ (b : Bool). cond b (eventLines d (opened Powers n (sizeIn sizes)) (cut lineLength rest .pieces) (cut lineLength rest .rest)) (refusedLine (openStep Powers n sizes .number)))

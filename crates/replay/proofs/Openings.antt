@@ -49,8 +49,7 @@ module _ (line : List ℕ) (r : Numbers) (N : NumbersRead line r) (ok : r .shape
 
   pub opened : r .count ≤ 255
       → openStep Powers (getD (r .values) 0 0) (take (r .count - 1) (drop 1 (r .values))) ≡ openStep Powers (getD ns 0 0) (drop 1 ns)
-  opened l =
-      let c = N .counted ok in
+  opened l = let c = N .counted ok in
       let long = N .full in
       let s = some in
       let d = length-drop 1 (r .values) in

@@ -22,8 +22,7 @@ use Rattle.replay.proofs.ReplayLaws.{Stands, linesFrom, Starts, opening
 
 pub start-refused : (log : List ℕ) (a b : Buffer) (e : Event) (line : List ℕ) → e ≡ opening log → e .over ≡ true → EventLine ruleOf e line
     → b ≡ put a line → (d : State → ℕ → Bool) → Decides coefficient d → b ≡ put a (replayOf d log)
-start-refused log a b e line z o E p d D =
-    let (q, h) = subst (Starts log) (sym z) (opening-starts log) .refusal o in
+start-refused log a b e line z o E p d D = let (q, h) = subst (Starts log) (sym z) (opening-starts log) .refusal o in
     p ∙ ap (put a) (line-refused e line E q ∙ sym (h d))
 
 pub record Remains (log : List ℕ) (a b : Buffer) (from : ℕ) (s : Inventory) : Type 0 where
@@ -33,8 +32,7 @@ pub record Remains (log : List ℕ) (a b : Buffer) (from : ℕ) (s : Inventory) 
   pub rest : (d : State → ℕ → Bool) → Decides coefficient d → put b (linesFrom d state log from) ≡ put a (replayOf d log)
 
 pub remains-start : (log : List ℕ) (a : Buffer) (e : Event) → e ≡ opening log → e .over ≡ false → Remains log a a (e .from) (e .inventory)
-remains-start log a e z o =
-    let (size, t, R, h) = subst (Starts log) (sym z) (opening-starts log) .goes o in
+remains-start log a e z o = let (size, t, R, h) = subst (Starts log) (sym z) (opening-starts log) .goes o in
     record { size = size; state = t; stands = R; rest = λ d D. ap (put a) (sym (h d)) }
 
 module _ (log : List ℕ) (a b b′ : Buffer) (from : ℕ) (s : Inventory) (e : Event) (line : List ℕ) (H : Remains log a b from s)

@@ -99,8 +99,7 @@ module _ (log : List ℕ) where
   sizes = drop 1 (numbersOf first)
 
   start-ended : (k : ℕ) (e : Event) → ended k ≡ e → k ≢ 0 → ((d : Test) → replayOf d log ≡ refusedLine k) → Starts log e
-  start-ended k e z q h =
-      subst (Starts log) z record { refusal = λ _. (q, h); goes = λ o. absurd (true≢false o) }
+  start-ended k e z q h = subst (Starts log) z record { refusal = λ _. (q, h); goes = λ o. absurd (true≢false o) }
 
   too-long : 65536 < length log → (d : Test) → replayOf d log ≡ refusedLine 1
   unfolding replayOf
@@ -122,8 +121,7 @@ module _ (log : List ℕ) where
       by-first : (d : Test) → replayOf d log
           ≡ cond (isFirstLine first) (openedLines d n sizes (after .pieces) (after .rest)) (refusedLine 28)
       unfolding logLines
-      by-first d =
-          let m = line-most log in
+      by-first d = let m = line-most log in
           short d ∙ ap (λ (c : Cut). logLines d (c .pieces) (c .rest)) (cut-more lineLength log (omega (arith, q)) (omega (arith, q)))
 
       other-shape : isFirstLine first ≡ false → (d : Test) → replayOf d log ≡ refusedLine 28
@@ -190,8 +188,7 @@ module _ (size : ℕ → ℕ) (t : State) (log : List ℕ) (from : ℕ) (s : Inv
   this = bodyOf (take (lineLength here) here)
 
   follows-last : (k : ℕ) (e : Event) (line : List ℕ) → last k from s ≡ e → ((d : Test) → linesFrom d t log from ≡ line) → Follows size t log from e line
-  follows-last k e line z h =
-      subst (λ (e : Event). Follows size t log from e line) z record { ends = λ _ d D. h d; goes = λ o. absurd (true≢false o) }
+  follows-last k e line z h = subst (λ (e : Event). Follows size t log from e line) z record { ends = λ _ d D. h d; goes = λ o. absurd (true≢false o) }
 
   at-the-end : length log ≤ from → (d : Test) → linesFrom d t log from ≡ []
   unfolding eventLines
@@ -201,8 +198,7 @@ module _ (size : ℕ → ℕ) (t : State) (log : List ℕ) (from : ℕ) (s : Inv
 
   unended : from < length log → lineLength here ≡ 0 → (d : Test) → linesFrom d t log from ≡ refusedLine 28
   unfolding eventLines
-  unended h z d =
-      ap (λ (c : Cut). eventLines d t (c .pieces) (c .rest)) (cut-stop lineLength here z) ∙ some here (omega (arith, length-drop from log))
+  unended h z d = ap (λ (c : Cut). eventLines d t (c .pieces) (c .rest)) (cut-stop lineLength here z) ∙ some here (omega (arith, length-drop from log))
     where
       some : (l : List ℕ) → 0 < length l → eventLines d t [] l ≡ refusedLine 28
       some [] b = absurd (omega arith)
@@ -249,8 +245,7 @@ module _ (size : ℕ → ℕ) (t : State) (log : List ℕ) (from : ℕ) (s : Inv
   module _ (h : from < length log) (q : lineLength here ≢ 0) where
     by-line : (d : Test) → linesFrom d t log from ≡ cond (isEventLine this) (eventLine d t c k ++ rest d) (refusedLine 28)
     unfolding eventLines
-    by-line d =
-        let m = line-most here in
+    by-line d = let m = line-most here in
         ap (λ (c : Cut). eventLines d t (c .pieces) (c .rest)) (cut-more lineLength here (omega (arith, q)) (omega (arith, q)))
         ∙ ap (λ (l : List ℕ). cond (isEventLine this) (eventLine d t c k ++ eventLines d t′ (cut lineLength l .pieces) (cut lineLength l .rest)) (refusedLine 28))
         (drop-drop (lineLength here) from log)
@@ -288,8 +283,7 @@ module _ (size : ℕ → ℕ) (t : State) (log : List ℕ) (from : ℕ) (s : Inv
           h d ∙ sym (line-refused (last 28 from s) line (subst (λ (e : Event). EventLine ruleOf e line) (sym z) E) (suc-ne-zero 27)))
 
       by-shape : from < length log → lineLength here ≢ 0 → (b : Bool) → isEventLine this ≡ b → Follows size t log from (nextEvent log from s) line
-      by-shape h q true e =
-          let z = next-taken log from s h q e in
+      by-shape h q true e = let z = next-taken log from s h q e in
           subst (λ (x : Event). Follows size t log from x line) z
           (follows-taken h q e line (subst (λ (x : Event). EventLine ruleOf x line) (sym z) E))
       by-shape h q false e =
@@ -310,8 +304,7 @@ goes-on log from s o =
   where
     go : from < length log → lineLength (drop from log) ≢ 0 → (b : Bool) → isEventLine (bodyOf (take (lineLength (drop from log)) (drop from log))) ≡ b
         → (from < nextEvent log from s .from) × (nextEvent log from s .from ≤ length log)
-    go h q true e =
-        let z : from + lineLength (drop from log) ≡ nextEvent log from s .from = ap (λ (e : Event). e .from) (next-taken log from s h q e) in
+    go h q true e = let z : from + lineLength (drop from log) ≡ nextEvent log from s .from = ap (λ (e : Event). e .from) (next-taken log from s h q e) in
         let m = line-most (drop from log) in
         let d = length-drop from log in
         (omega (arith, q), omega arith)

@@ -39,14 +39,12 @@ without-more b c l q h (suc j) i = h j (omega arith)
 
 pub without-append : (b : ℕ) (s l : List ℕ) → Without b s → Without b l → Without b (s ++ l)
 without-append b [] l h k = k
-without-append b (c ∷ s) l h k =
-    without-more b c (s ++ l) (h 0 (omega arith)) (without-append b s l (λ i j. h (suc i) (omega arith)) k)
+without-append b (c ∷ s) l h k = without-more b c (s ++ l) (h 0 (omega arith)) (without-append b s l (λ i j. h (suc i) (omega arith)) k)
 
 digits-without : (b : ℕ) → b < 48 → (w : List ℕ) → allDigits w ≡ true → Without b w
 unfolding allDigits
 digits-without b l [] e = without-none b
-digits-without b l (c ∷ w) e =
-    let (d, r) = and-both (isDigit c) (allDigits w) e in
+digits-without b l (c ∷ w) e = let (d, r) = and-both (isDigit c) (allDigits w) e in
     let low = leb-true 48 c (and-both (leb 48 c) (leb c 57) d .0) in
     without-more b c w (λ z. omega arith) (digits-without b l w r)
 
@@ -118,15 +116,13 @@ spread-words (b ∷ s) = go (eqb b 32) refl (spread-words s)
 values-back : (ws : List (List ℕ)) → allDecimal ws ≡ true → map decimal (map valueOf ws) ≡ ws
 unfolding allDecimal
 values-back [] e = refl
-values-back (w ∷ ws) e =
-    let (a, b) = and-both (isDecimal w) (allDecimal ws) e in
+values-back (w ∷ ws) e = let (a, b) = and-both (isDecimal w) (allDecimal ws) e in
     ap₂ (λ (v : List ℕ) (vs : List (List ℕ)). v ∷ vs) (decimal-only w a) (values-back ws b)
 
 values-of : (ks : List ℕ) → (allDecimal (map decimal ks) ≡ true) × (map valueOf (map decimal ks) ≡ ks)
 unfolding allDecimal
 values-of [] = (refl, refl)
-values-of (k ∷ ks) =
-    let (a, b) = values-of ks in
+values-of (k ∷ ks) = let (a, b) = values-of ks in
     let (v, d) = decimal-spells k in
     (ap₂ _&&_ d a, ap₂ (λ (x : ℕ) (xs : List ℕ). x ∷ xs) v b)
 
@@ -152,8 +148,7 @@ first-shaped = record {
 
 letter-arrival : (b : ℕ) → isLetter b ≡ true → (a : Arrival) × (b ≡ letterOf a)
 unfolding isLetter
-letter-arrival b e =
-    first (eqb b 70) refl (eqb b 86) refl (eqb b 102) refl (eqb b 118) refl e
+letter-arrival b e = first (eqb b 70) refl (eqb b 86) refl (eqb b 102) refl (eqb b 118) refl e
   where
     first : (p : Bool) → eqb b 70 ≡ p → (q : Bool) → eqb b 86 ≡ q → (r : Bool) → eqb b 102 ≡ r → (s : Bool) → eqb b 118 ≡ s
         → (p || (q || (r || s))) ≡ true → (a : Arrival) × (b ≡ letterOf a)
@@ -174,8 +169,7 @@ event-text : (l : List ℕ) → isEventLine l ≡ true → (a : Arrival) × (k :
 unfolding isEventLine isLetter
 event-text [] e = absurd (false≢true e)
 event-text (b ∷ []) e = absurd (let z = and-both (isLetter b) _ e .1 in false≢true z)
-event-text (b ∷ c ∷ w) e =
-    let (x, y) = and-both (isLetter b) (eqb c 32 && isDecimal w) e in
+event-text (b ∷ c ∷ w) e = let (x, y) = and-both (isLetter b) (eqb c 32 && isDecimal w) e in
     let (s, d) = and-both (eqb c 32) (isDecimal w) y in
     let (a, z) = letter-arrival b x in
     (a, valueOf w, ap₂ (λ (p : ℕ) (r : List ℕ). p ∷ r) z (ap₂ (λ (p : ℕ) (r : List ℕ). p ∷ r) (eqb-true c 32 s) (sym (decimal-only w d))))

@@ -77,5 +77,4 @@ pub data Puts : Buffer → List (List ℕ) → Buffer → Type 0 where
 pub puts : {a c : Buffer} {ts : List (List ℕ)} → Puts a ts c → length (a .bytes) ≤ usizeMax → c ≡ put a (flatten ts)
 unfolding flatten
 puts (last {a} {b} {t} e) h = e ∙ ap (put a) (sym (append-nil t))
-puts (then {a} {b} {c} {t} {ts} e p) h =
-    puts p (omega (arith, ap (λ (d : Buffer). length (d .bytes)) e, put-length a t)) ∙ put-rest a t (flatten ts) h e
+puts (then {a} {b} {c} {t} {ts} e p) h = puts p (omega (arith, ap (λ (d : Buffer). length (d .bytes)) e, put-length a t)) ∙ put-rest a t (flatten ts) h e

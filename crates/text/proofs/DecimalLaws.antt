@@ -74,8 +74,7 @@ decimal-length = decimal-induct (λ n w. (k : ℕ) → n < 10 ^ suc k → length
     more : (n : ℕ) (w : List ℕ) → 10 ≤ n → ((k : ℕ) → n / 10 < 10 ^ suc k → length w ≤ suc k)
         → (k : ℕ) → n < 10 ^ suc k → length (w ++ (digit (n % 10) ∷ [])) ≤ suc k
     more n w h r zero g = absurd (omega arith)
-    more n w h r (suc k) g =
-        let q : n / 10 < 10 ^ suc k = omega (arith, pow-succ' 10 (suc k)) in
+    more n w h r (suc k) g = let q : n / 10 < 10 ^ suc k = omega (arith, pow-succ' 10 (suc k)) in
         omega (arith, length-append w (digit (n % 10) ∷ []), r k q)
 
 -- ---- the shape
@@ -111,11 +110,10 @@ spells = decimal-induct Spells one more
     one n h = record { digits = simp (digit-is n h); led = λ g. simp (ne-eqb (48 + n) 48 (λ e. omega arith)) }
 
     more : (n : ℕ) (w : List ℕ) → 10 ≤ n → Spells (n / 10) w → Spells n (w ++ (digit (n % 10) ∷ []))
-    more n w h z =
-        record {
-          digits = digits-snoc w (digit (n % 10)) ∙ simp (z .digits, digit-is (n % 10) (omega arith));
-          led = λ g. leads-snoc w (digit (n % 10)) (z .led (omega arith));
-        }
+    more n w h z = record {
+      digits = digits-snoc w (digit (n % 10)) ∙ simp (z .digits, digit-is (n % 10) (omega arith));
+      led = λ g. leads-snoc w (digit (n % 10)) (z .led (omega arith));
+    }
 
 decimal-led : (w : List ℕ) → allDigits w ≡ true → leads w ≡ true → isDecimal w ≡ true
 unfolding isDecimal allDigits leads
@@ -138,14 +136,12 @@ module _ (c : ℕ) (e : isDigit c ≡ true) where
   digit-within = let b = and-both (leb 48 c) (leb c 57) e in (leb-true 48 c (b .0), leb-true c 57 (b .1))
 
   decimal-digit : decimal (withDigit 0 c) ≡ c ∷ []
-  decimal-digit =
-      let b = digit-within in
+  decimal-digit = let b = digit-within in
       let d : digit (withDigit 0 c) ≡ c = omega arith in
       decimal-one (withDigit 0 c) (omega arith) ∙ ap (λ (k : ℕ). k ∷ []) d
 
   decimal-with : (v : ℕ) → 0 < v → decimal (withDigit v c) ≡ decimal v ++ (c ∷ [])
-  decimal-with v h =
-      let b = digit-within in
+  decimal-with v h = let b = digit-within in
       let q : withDigit v c / 10 ≡ v = omega arith in
       let d : digit (withDigit v c % 10) ≡ c = omega arith in
       decimal-more (withDigit v c) (omega arith) ∙ ap₂ (λ (m k : ℕ). decimal m ++ (k ∷ [])) q d
@@ -154,8 +150,7 @@ module _ (c : ℕ) (e : isDigit c ≡ true) where
 decimal-on : (v : ℕ) (w : List ℕ) → 0 < v → allDigits w ≡ true → decimal (foldl withDigit v w) ≡ decimal v ++ w
 unfolding allDigits
 decimal-on v [] h e = sym (append-nil (decimal v))
-decimal-on v (c ∷ w) h e =
-    let b = and-both (isDigit c) (allDigits w) e in
+decimal-on v (c ∷ w) h e = let b = and-both (isDigit c) (allDigits w) e in
     decimal-on (withDigit v c) w (omega arith) (b .1)
     ∙ ap (λ (u : List ℕ). u ++ w) (decimal-with c (b .0) v h)
     ∙ append-snoc (decimal v) c w
@@ -164,8 +159,7 @@ pub decimal-only : DecimalOnly
 unfolding isDecimal allDigits valueOf
 decimal-only [] e = absurd (false≢true e)
 decimal-only (c ∷ []) e = decimal-digit c e
-decimal-only (c ∷ d ∷ w) e =
-    let b = and-both (not (eqb c 48)) (allDigits (c ∷ d ∷ w)) e in
+decimal-only (c ∷ d ∷ w) e = let b = and-both (not (eqb c 48)) (allDigits (c ∷ d ∷ w)) e in
     let g = and-both (isDigit c) (allDigits (d ∷ w)) (b .1) in
     let low = digit-within c (g .0) in
     let other = eqb-false c 48 (not-true (eqb c 48) (b .0)) in

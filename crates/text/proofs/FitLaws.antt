@@ -27,8 +27,7 @@ module _ (t out : List ℕ) {l : List ℕ} {n : ℕ} (e : buffer l n ≡ put (bu
 
   pub fit-written : {o : List ℕ} {r : ℕ} → n ≤ length (l ++ out) → buffer o r ≡ put (buffer (l ++ out) 0) t
       → (Written n, o) ≡ written t out
-  fit-written k f =
-      let small : length t ≤ length out = omega (arith, count, ap length unwritten) in
+  fit-written k f = let small : length t ≤ length out = omega (arith, count, ap length unwritten) in
       let whole = f ∙ ap (λ (q : List ℕ). put (buffer q 0) t) unwritten ∙ put-whole out t small (omega arith) in
       let n-is : n ≡ length t = omega (arith, count) in
       written-fits t out small n-is (ap (λ (b : Buffer). b .bytes) whole)

@@ -53,15 +53,13 @@ lower-digit d h = by (ltb d 10) refl
   where
     by : (b : Bool) → ltb d 10 ≡ b → isHexDigit (hexDigit d) ≡ true
     by true e = let g = ltb-true d 10 e in simp (e, le-leb 48 (48 + d) (omega arith), le-leb (48 + d) 57 (omega arith))
-    by false e =
-        let g = ltb-false d 10 e in
+    by false e = let g = ltb-false d 10 e in
         simp (e, lt-leb (87 + d) 57 (omega arith), le-leb 48 (87 + d) (omega arith), le-leb 97 (87 + d) (omega arith), le-leb (87 + d) 102 (omega arith))
 
 pub hex-lower : (s : List ℕ) → Bytes s → allHexDigits (hexBytes s) ≡ true
 unfolding hexBytes allHexDigits
 hex-lower [] h = refl
-hex-lower (b ∷ s) h =
-    let small : b < 256 = h 0 in
+hex-lower (b ∷ s) h = let small : b < 256 = h 0 in
     simp (lower-digit (b / 16) (omega arith), lower-digit (b % 16) (omega arith), hex-lower s (λ i. h (suc i)))
 
 -- ---- what the digits of bytes spell
@@ -70,6 +68,5 @@ pub hex-spelled : (s : List ℕ) → Bytes s → (k : ℕ) → k < length s → 
 unfolding hexBytes
 hex-spelled [] h k l = absurd (omega arith)
 hex-spelled (b ∷ s) h zero l = hex-spells b (h 0)
-hex-spelled (b ∷ s) h (suc k) l =
-    let twice : suc k + suc k ≡ suc (suc (k + k)) = omega arith in
+hex-spelled (b ∷ s) h (suc k) l = let twice : suc k + suc k ≡ suc (suc (k + k)) = omega arith in
     ap (λ (n : ℕ). hexValue (take 2 (drop n (hexBytes (b ∷ s))))) twice ∙ hex-spelled s (λ i. h (suc i)) k (omega arith)

@@ -98,27 +98,23 @@ line-most s = elim (decLt (lengthTo 10 s) (length s)) [
 ]
 
 pub line-skip : (s : List ℕ) (i : ℕ) → i < lineLength s → lineLength s ≡ i + lineLength (drop i s)
-line-skip s i h =
-    let line = line-some s (omega arith) in
+line-skip s i h = let line = line-some s (omega arith) in
     let skip = to-skip 10 s i (omega (arith, line .1)) in
     omega (arith, line .1, line-ended (drop i s) (omega (arith, line .0, length-drop i s)))
 
 -- a line: bytes but 10, and byte 10
 pub line-joined : (l s : List ℕ) → ((i : ℕ) → i < length l → getD l i 0 ≢ 10) → lineLength (l ++ 10 ∷ s) ≡ length l + 1
-line-joined l s h =
-    let to = to-joined 10 l s h in line-ended (l ++ 10 ∷ s) (omega (arith, length-append l (10 ∷ s))) ∙ ap (λ (n : ℕ). n + 1) to
+line-joined l s h = let to = to-joined 10 l s h in line-ended (l ++ 10 ∷ s) (omega (arith, length-append l (10 ∷ s))) ∙ ap (λ (n : ℕ). n + 1) to
 
 pub line-ends : (s : List ℕ) → 0 < lineLength s → take (lineLength s) s ≡ take (lineLength s - 1) s ++ (10 ∷ [])
-line-ends s some =
-    let line = line-some s some in
+line-ends s some = let line = line-some s some in
     let n : ℕ = lengthTo 10 s in
     let less : lineLength s - 1 ≡ n = omega (arith, line .1) in
     ap (λ (k : ℕ). take k s) (line .1 ∙ add-one n) ∙ take-suc s n 0 (line .0)
     ∙ ap₂ (λ (k c : ℕ). take k s ++ (c ∷ [])) (sym less) (to-found 10 s (line .0))
 
 pub line-inside : (s : List ℕ) (i : ℕ) → suc i < lineLength s → getD s i 0 ≢ 10
-line-inside s i h e =
-    let line = line-some s (omega arith) in
+line-inside s i h e = let line = line-some s (omega arith) in
     omega (arith, line .1, to-skip 10 s i (omega (arith, line .1)), to-here 10 s i (omega (arith, line .0, line .1)) e)
 
 -- ---- words
@@ -160,8 +156,7 @@ pub decimal-zero : (w : List ℕ) → 0 < length w → getD w 0 0 ≡ 48 → isD
 unfolding isDecimal
 decimal-zero [] h e = absurd (omega arith)
 decimal-zero (c ∷ []) h e = ap isDigit e
-decimal-zero (c ∷ d ∷ w) h e =
-    ap (λ (b : Bool). not b && allDigits (c ∷ d ∷ w)) (eq-eqb c 48 e) ∙ sym (ne-eqb (suc (suc (length w))) 1 (λ z. omega arith))
+decimal-zero (c ∷ d ∷ w) h e = ap (λ (b : Bool). not b && allDigits (c ∷ d ∷ w)) (eq-eqb c 48 e) ∙ sym (ne-eqb (suc (suc (length w))) 1 (λ z. omega arith))
 
 pub decimal-by-digits : (w : List ℕ) → 0 < length w → getD w 0 0 ≢ 48 → isDecimal w ≡ allDigits w
 unfolding isDecimal allDigits
@@ -173,8 +168,7 @@ decimal-by-digits (c ∷ d ∷ w) h f = ap (λ (b : Bool). not b && allDigits (c
 
 cut-on-the-way : (s : List ℕ) (v : ℕ) → min (foldl withDigit (min v usizeMax) s) usizeMax ≡ min (foldl withDigit v s) usizeMax
 cut-on-the-way [] v = omega arith
-cut-on-the-way (c ∷ s) v =
-    let e : min (withDigit (min v usizeMax) c) usizeMax ≡ min (withDigit v c) usizeMax = omega arith in
+cut-on-the-way (c ∷ s) v = let e : min (withDigit (min v usizeMax) c) usizeMax ≡ min (withDigit v c) usizeMax = omega arith in
     sym (cut-on-the-way s (withDigit (min v usizeMax) c)) ∙ ap (λ (x : ℕ). min (foldl withDigit x s) usizeMax) e ∙ cut-on-the-way s (withDigit v c)
 
 pub value-more : (w : List ℕ) (v i r : ℕ) → i < length w → r ≡ min (withDigit v (getD w i 0)) usizeMax

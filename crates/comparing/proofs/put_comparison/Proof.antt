@@ -20,8 +20,7 @@ use Rattle.comparing.proofs.put_comparison.Statement.{statement}
 use Rattle.comparing.proofs.put_comparison.Tie as tie
 
 returns : tie.Need-returns
-returns c =
-    let second = c .before .before in
+returns c = let second = c .before .before in
     let first = second .before .before .before .before in
     let told = first .before .before in
     let s = told .before .before .before .before .before in
@@ -31,8 +30,7 @@ returns c =
     ∙ ap (put here) (sym (comparison-refused (now (s .args .one)) (now (s .args .two)) (sym (s .pre .0) ∙ told .enum-told .given .1)))
 
 returns-2 : tie.Need-returns-2
-returns-2 c =
-    let told = c .before .before .before .before in
+returns-2 c = let told = c .before .before .before .before in
     let accepted = told .before .before .before in
     let s = accepted .before .before .before .before .before in
     let here = buffer (now (s .args .out)) 0 in
@@ -43,8 +41,7 @@ returns-2 c =
     ∙ ap (put here) (sym (comparison-refused-2 (now (s .args .one)) (now (s .args .two)) first second))
 
 returns-3 : tie.Need-returns-3
-returns-3 c =
-    let runs = c .before .before in
+returns-3 c = let runs = c .before .before in
     let lists = runs .before .before .before .before .before .before in
     let header = lists .before .before .before .before .before .before in
     let two-accepted = header .before .before .before in
@@ -69,8 +66,6 @@ returns-3 c =
     (ap₂ (λ (x y : List ℕ). textOf (headLines one two) ++ (x ++ y)) list-text data-text ∙ sym (comparison-accepted one two first second))
 
 pub put-comparison-spec : {M : Type 1} → statement M
-put-comparison-spec =
-    tie.close
-    (tie.spec (λ c. search needs) (λ c. search needs) (λ c κs. search needs) (λ c κs. search needs) (λ c. search needs) returns (λ c. search needs)
-    (λ c. search needs) (λ c κs. search needs) (λ c. search needs) returns-2 (λ c κs. search needs) (λ c κs. search needs) (λ c κs. search needs)
-    (λ c κs. search needs) (λ c κs. search needs) (λ c κs. search needs) (λ c κs. search needs) (λ c. search needs) returns-3)
+put-comparison-spec = tie.close (tie.spec (λ c. search needs) (λ c. search needs) (λ c κs. search needs) (λ c κs. search needs) (λ c. search needs) returns
+    (λ c. search needs) (λ c. search needs) (λ c κs. search needs) (λ c. search needs) returns-2 (λ c κs. search needs) (λ c κs. search needs)
+    (λ c κs. search needs) (λ c κs. search needs) (λ c κs. search needs) (λ c κs. search needs) (λ c κs. search needs) (λ c. search needs) returns-3)

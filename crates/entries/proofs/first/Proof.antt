@@ -28,8 +28,7 @@ returns : tie.Need-returns
 returns c = sym (first-end (now (c .before .before .args .list)) (c .if1 .taken))
 
 returns-2 : tie.Need-returns-2
-returns-2 c =
-    let s : List ℕ = now (c .before .before .before .before .before .args .list) in
+returns-2 c = let s : List ℕ = now (c .before .before .before .before .before .args .list) in
     sym (first-size s (omega (arith, c .before .before .before .if1 .left)) (c .before .before .read64 .ensures)
     (sym (c .before .entry-size-allowed .ensures) ∙ not-true _ (c .if2 .taken)))
 
@@ -37,8 +36,7 @@ slice-aggregate-entry : tie.Need-slice-aggregate-entry
 slice-aggregate-entry c = simp length-take (omega (arith, sized-at (c .before) .high))
 
 returns-3 : tie.Need-returns-3
-returns-3 c =
-    let b = c .before .before .before in
+returns-3 c = let b = c .before .before .before in
     let s : List ℕ = now (b .before .before .before .before .before .args .list) in
     sym (first-file-size s (omega (arith, b .before .before .before .if1 .left)) (b .before .before .read64 .ensures) (allowed-at b)
     (ap fileSizeAllowed (sym (c .before .read642 .ensures)) ∙ lt-leb _ _ (c .if3 .taken)))
@@ -50,8 +48,7 @@ part-name-allowed-start : tie.Need-part-name-allowed-start
 part-name-allowed-start c = let z = sized-at (c .before .before .before) in simp length-take (omega (arith, z .high, z .low))
 
 returns-4 : tie.Need-returns-4
-returns-4 c =
-    let a = c .before .before .before in
+returns-4 c = let a = c .before .before .before in
     let b = a .before .before .before in
     let s : List ℕ = now (b .before .before .before .before .before .args .list) in
     let name = c .before .name-allowed .ensures ∙ ap (λ (l : List ℕ). nameAllowed l) (part-to-end (take (b .before .before .read64 .result) s) 56) in
@@ -59,8 +56,7 @@ returns-4 c =
     (ap fileSizeAllowed (sym (a .before .read642 .ensures)) ∙ le-leb _ _ (a .if3 .left)) (sym name ∙ not-true _ (c .if4 .taken)))
 
 returns-5 : tie.Need-returns-5
-returns-5 c =
-    let a = c .before .before .before .before in
+returns-5 c = let a = c .before .before .before .before in
     let b = a .before .before .before in
     let s : List ℕ = now (b .before .before .before .before .before .args .list) in
     let n : ℕ = b .before .before .read64 .result in
@@ -72,7 +68,5 @@ returns-5 c =
     sym (found ∙ cc (size, c .read643 .ensures, a .before .read642 .ensures))
 
 pub first-spec : {M : Type 1} → statement M
-first-spec =
-    tie.close
-    (tie.spec returns (λ c κs. search needs) (λ c κs. search needs) returns-2 slice-aggregate-entry (λ c κs. search needs) returns-3 sub-name-allowed
-    part-name-allowed-start (λ c. search needs) (λ c κs. search needs) returns-4 (λ c κs. search needs) returns-5)
+first-spec = tie.close (tie.spec returns (λ c κs. search needs) (λ c κs. search needs) returns-2 slice-aggregate-entry (λ c κs. search needs) returns-3
+    sub-name-allowed part-name-allowed-start (λ c. search needs) (λ c κs. search needs) returns-4 (λ c κs. search needs) returns-5)

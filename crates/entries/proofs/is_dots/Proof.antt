@@ -12,13 +12,11 @@ use Rattle.entries.proofs.is_dots.Statement.{statement}
 use Rattle.entries.proofs.is_dots.Tie as tie
 
 returns : tie.Need-returns
-returns c =
-    let s : List ℕ = now (c .before .before .args .name) in
+returns c = let s : List ℕ = now (c .before .before .args .name) in
     sym (dots-long (unitsOf s) (omega (arith, length-units s, c .before .before .pre .1)))
 
 returns-2 : tie.Need-returns-2
-returns-2 c =
-    let s : List ℕ = now (c .before .before .before .args .name) in
+returns-2 c = let s : List ℕ = now (c .before .before .before .args .name) in
     c .only-dots .ensures ∙ sym (dots-short (unitsOf s) (omega (arith, length-units s)) (omega (arith, length-units s)))
 
 pub is-dots-spec : {M : Type 1} → statement M

@@ -28,14 +28,12 @@ returns-3 c =
     sym (units-at (c .before .before) ∙ simp (sym (c .before .units-allowed .ensures), not-true (c .before .units-allowed .result) (c .if3 .taken)))
 
 returns-4 : tie.Need-returns-4
-returns-4 c =
-    let b = c .before .before in
+returns-4 c = let b = c .before .before in
     sym (units-at (b .before .before)
     ∙ simp (sym (c .before .is-dots .ensures), c .if4 .taken, and-false))
 
 returns-5 : tie.Need-returns-5
-returns-5 c =
-    let b = c .before .before in
+returns-5 c = let b = c .before .before in
     sym (units-at (b .before .before)
     ∙ simp (sym (b .before .units-allowed .ensures), not-false (b .before .units-allowed .result) (b .if3 .left), sym (c .before .is-dots .ensures), c .if4 .left))
 

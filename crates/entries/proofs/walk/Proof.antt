@@ -39,8 +39,7 @@ loop-less : tie.Need-loop-less Inv-loop μ-loop
 loop-less c = let i = entry-in (c .before) in omega (arith, i .low, i .fits)
 
 loop-again : tie.Need-loop-again Inv-loop μ-loop
-loop-again c =
-    let i = entry-in (c .before) in
+loop-again c = let i = entry-in (c .before) in
     let l = c .before .before .before .before .before .loop in
     let e = c .before .before .length .given .0 in
     let more = add-added (l .totals) (e .1 .0) (e .1 .1 .0) in
@@ -52,19 +51,15 @@ loop-again c =
     )
 
 returns : tie.Need-returns Inv-loop μ-loop
-returns c =
-    let l = c .before .before .before .loop in
+returns c = let l = c .before .before .before .loop in
     sym (walk-end (l .totals) (is-end (sym (c .enum-told .given .1) ∙ c .before .before .at .ensures))) ∙ l .inv .3
 
 returns-2 : tie.Need-returns-2 Inv-loop μ-loop
-returns-2 c =
-    let f = c .before .before .before in
+returns-2 c = let f = c .before .before .before in
     let l = f .before .before .before .loop in
     let refused = walk-fault (l .totals) (is-fault (sym (f .fault .given .1) ∙ f .before .before .at .ensures)) in
     ap walked.Refused (c .refusal-at .ensures) ∙ sym refused ∙ l .inv .3
 
 pub walk-spec : {M : Type 1} → statement M
-walk-spec =
-    tie.close
-    (tie.spec Inv-loop μ-loop loop-holds (λ c κs. search needs) (λ c. search needs) (λ c κs. search needs) add-from loop-less loop-again (λ c. search needs)
-    returns (λ c. search needs) (λ c. search needs) (λ c κs. search needs) returns-2)
+walk-spec = tie.close (tie.spec Inv-loop μ-loop loop-holds (λ c κs. search needs) (λ c. search needs) (λ c κs. search needs) add-from loop-less loop-again
+    (λ c. search needs) returns (λ c. search needs) (λ c. search needs) (λ c κs. search needs) returns-2)

@@ -35,8 +35,7 @@ slice-write-out : tie.Need-slice-write-out Inv-loop μ-loop
 slice-write-out c = omega (arith, kept (c .before .before), c .before .before .before .fitting .ensures)
 
 loop-again : tie.Need-loop-again Inv-loop μ-loop
-loop-again c =
-    let l = c .before .before in
+loop-again c = let l = c .before .before in
     let a = l .before .before .before .before .args in
     (omega arith, sets-more (now (a .out)) (now (a .bytes)) (a .at) (l .loop .i) (omega (arith, l .before .fitting .ensures)) (l .loop .inv .1))
 
@@ -44,15 +43,12 @@ same-length : tie.Need-same-length Inv-loop μ-loop
 same-length c = kept (c .before)
 
 returns : tie.Need-returns Inv-loop μ-loop
-returns c =
-    let l = c .before in
+returns c = let l = c .before in
     let a = l .before .before .before .before .args in
     let end : l .loop .i ≡ l .before .fitting .result = omega arith in
     l .loop .inv .1 ∙ ap (λ (k : ℕ). sets (now (a .out)) (a .at) (take k (now (a .bytes)))) end
     ∙ sets-fitting (now (a .out)) (now (a .bytes)) (a .at) (l .before .fitting .result) (l .before .fitting .ensures)
 
 pub put-spec : {M : Type 1} → statement M
-put-spec =
-    tie.close
-    (tie.spec Inv-loop μ-loop (λ c κs. search needs) loop-holds shared-slice-read-out add-out slice-write-out (λ c. omega arith) (λ c. omega arith) loop-again
-    same-length returns)
+put-spec = tie.close (tie.spec Inv-loop μ-loop (λ c κs. search needs) loop-holds shared-slice-read-out add-out slice-write-out (λ c. omega arith)
+    (λ c. omega arith) loop-again same-length returns)

@@ -13,8 +13,7 @@ returns : tie.Need-returns
 returns c = ap withNumber (written-short _ _ (c .if1 .taken))
 
 returns-2 : tie.Need-returns-2
-returns-2 c =
-    let a = c .before .before .before .before .before .before .before .args in
+returns-2 c = let a = c .before .before .before .before .before .before .before .args in
     let fits = c .before .before .before .before .if1 .left in
     let over = c .before .before .put .ensures ∙ sets-over (now (a .out)) (now (a .bytes)) fits in
     ap withNumber (written-fits (now (a .bytes)) (now (a .out)) fits refl over)

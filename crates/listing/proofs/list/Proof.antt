@@ -15,8 +15,7 @@ list-as-requires c κs = list-in (now (c .before .before .before .before .args .
 
 returns : tie.Need-returns
 unfolding listingOf
-returns c =
-    let a = c .before .before .before .before .before .before .before .args in
+returns c = let a = c .before .before .before .before .before .before .before .args in
     let read = c .before .before .before .before .read .ensures in
     c .before .before .list-as .ensures ∙ ap (λ (r : Reading). written (listingBy r (now (a .file))) (now (a .out))) read
 

@@ -15,11 +15,10 @@ list-as-requires c κs = tt
 
 returns-2 : tie.Need-returns-2
 unfolding inputListing
-returns-2 c =
-    let refusal = c .before .before .before .before in
+returns-2 c = let refusal = c .before .before .before .before in
     let listed = c .before .before .list-as .ensures in
     simp (lt-leb _ _ (refusal .before .if1 .left)) (rw (refusal .bare .ensures) at listed)
 
 pub list-input-spec : {M : Type 1} → statement M
-list-input-spec =
-    tie.close (tie.spec (λ c κs. search needs) (λ c. search needs) returns (λ c κs. search needs) list-as-requires (λ c. search needs) returns-2)
+list-input-spec = tie.close (tie.spec (λ c κs. search needs) (λ c. search needs) returns (λ c κs. search needs) list-as-requires (λ c. search needs)
+    returns-2)

@@ -20,13 +20,11 @@ use Rattle.listing.proofs.put_listing.Tie as tie
 
 -- the list of an accepted reading lies in the file
 list-in : (c : tie.After-known-told) → ListIn (Accepted (c .before .reading .given .0 .0)) (now (c .before .before .before .before .before .args .file))
-list-in c =
-    let s = c .before .before .before .before .before in
+list-in c = let s = c .before .before .before .before .before in
     subst (λ (r : Reading). ListIn r (now (s .args .file))) (c .before .reading .given .1) (s .pre)
 
 returns : tie.Need-returns
-returns c =
-    let told = c .before .before .before .before .before .enum-told .given .1 in
+returns c = let told = c .before .before .before .before .before .enum-told .given .1 in
     let a = c .before .before .before .before .before .before .before .before .before .args in
     let here = buffer (now (a .out)) 0 in
     c .before .before .put-refused .ensures
@@ -40,8 +38,7 @@ part-put-entries-end : tie.Need-part-put-entries-end
 part-put-entries-end c = omega (arith, list-in (c .before .before .before .before .before) .0, list-in (c .before .before .before .before .before) .1)
 
 returns-2 : tie.Need-returns-2
-returns-2 c =
-    let s = c .before .before .before .before .before .before .before .before .before .before .before .before .before .before in
+returns-2 c = let s = c .before .before .before .before .before .before .before .before .before .before .before .before .before .before in
     let f : List ℕ = now (s .args .file) in
     let here = buffer (now (s .args .out)) 0 in
     let known = c .before .before .before .before .before .before .before .before .before in
@@ -52,7 +49,5 @@ returns-2 c =
     ∙ ap (λ (r : Reading). put here (listingBy r f)) (sym (known .before .reading .given .1))
 
 pub put-listing-spec : {M : Type 1} → statement M
-put-listing-spec =
-    tie.close
-    (tie.spec (λ c. search needs) (λ c. search needs) (λ c κs. search needs) (λ c κs. search needs) (λ c. search needs) returns (λ c κs. search needs) add-end
-    (λ c. search needs) (λ c. search needs) part-put-entries-end (λ c κs. search needs) (λ c. search needs) returns-2)
+put-listing-spec = tie.close (tie.spec (λ c. search needs) (λ c. search needs) (λ c κs. search needs) (λ c κs. search needs) (λ c. search needs) returns
+    (λ c κs. search needs) add-end (λ c. search needs) (λ c. search needs) part-put-entries-end (λ c κs. search needs) (λ c. search needs) returns-2)

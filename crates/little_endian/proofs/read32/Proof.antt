@@ -7,12 +7,9 @@ use Rattle.little_endian.proofs.read32.Statement.{statement}
 use Rattle.little_endian.proofs.read32.Tie as tie
 
 returns : tie.Need-returns
-returns c =
-    let a = c .before .before .before .before .args in
+returns c = let a = c .before .before .before .before .args in
     read-halves 2 (now (a .s)) (a .at) _ (search needs) (c .before .before .read16 .ensures) (c .before .after .ensures) (c .read162 .ensures)
 
 pub read32-spec : {M : Type 1} → statement M
-read32-spec =
-    tie.close
-    (tie.spec (λ c κs. search needs) (λ c κs. search needs) (λ c κs. search needs) (λ c. search needs) (λ c. search needs) (λ c. search needs)
-    (λ c. search needs) returns)
+read32-spec = tie.close (tie.spec (λ c κs. search needs) (λ c κs. search needs) (λ c κs. search needs) (λ c. search needs) (λ c. search needs)
+    (λ c. search needs) (λ c. search needs) returns)

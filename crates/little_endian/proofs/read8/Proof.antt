@@ -9,13 +9,11 @@ use Rattle.little_endian.proofs.read8.Statement.{statement}
 use Rattle.little_endian.proofs.read8.Tie as tie
 
 returns : tie.Need-returns
-returns c =
-    let a = c .before .before .args in
+returns c = let a = c .before .before .args in
     sym (leAt-byte (now (a .s)) (a .at))
 
 returns-2 : tie.Need-returns-2
-returns-2 c =
-    let a = c .before .args in
+returns-2 c = let a = c .before .args in
     sym (leAt-byte (now (a .s)) (a .at) ∙ List·getD-eq-default (now (a .s)) 0 (c .if1 .left))
 
 pub read8-spec : {M : Type 1} → statement M

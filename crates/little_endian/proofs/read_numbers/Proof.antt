@@ -23,13 +23,11 @@ abbrev μ-loop : tie.MeasureT-loop
 μ-loop s at numbers₀ place₀ i₀ numbers place i = length numbers₀ - i
 
 loop-holds : tie.Need-loop-holds Inv-loop μ-loop
-loop-holds c =
-    let a = c .before .before .args in
+loop-holds c = let a = c .before .before .args in
     (omega arith, refl, ap (λ (k : ℕ). numbersAt k (now (a .s)) (a .at)) (sub-zero (length (now (a .numbers)))))
 
 loop-again : tie.Need-loop-again Inv-loop μ-loop
-loop-again c =
-    let r = c .before .read64 in
+loop-again c = let r = c .before .read64 in
     let l = c .before .before .before .loop in
     let a = c .before .before .before .before .before .before .args in
     let more =
@@ -42,15 +40,12 @@ same-length c = c .before .loop .inv .1
 
 returns : tie.Need-returns Inv-loop μ-loop
 unfolding numbersAt
-returns c =
-    let l = c .before .loop in
+returns c = let l = c .before .loop in
     let a = c .before .before .before .before .args in
     let none : length (now (a .numbers)) - l .i ≡ 0 = omega arith in
     sym (take-all (l .i) (l .numbers) (omega arith)) ∙ sym (append-nil (take (l .i) (l .numbers)))
     ∙ ap (λ (k : ℕ). take (l .i) (l .numbers) ++ numbersAt k (now (a .s)) (l .place)) (sym none) ∙ l .inv .2
 
 pub read-numbers-spec : {M : Type 1} → statement M
-read-numbers-spec =
-    tie.close
-    (tie.spec Inv-loop μ-loop loop-holds (λ c κs. search needs) (λ c. omega arith) (λ c. omega arith) (λ c κs. search needs) (λ c. omega arith)
-    (λ c. omega arith) loop-again same-length returns)
+read-numbers-spec = tie.close (tie.spec Inv-loop μ-loop loop-holds (λ c κs. search needs) (λ c. omega arith) (λ c. omega arith) (λ c κs. search needs)
+    (λ c. omega arith) (λ c. omega arith) loop-again same-length returns)

@@ -7,13 +7,11 @@ use Rattle.little_endian.proofs.write64.Statement.{statement}
 use Rattle.little_endian.proofs.write64.Tie as tie
 
 returns : tie.Need-returns
-returns c =
-    let high = c .before .before in
+returns c = let high = c .before .before in
     let low = high .before .before .before .before .before in
     let a = low .before .before .before .args in
     write-halves 4 (a .x) (now (a .out)) (a .at) _ (search needs) (low .write32 .ensures) (high .before .after .ensures) (high .write322 .ensures)
 
 pub write64-spec : {M : Type 1} → statement M
-write64-spec =
-    tie.close
-    (tie.spec (λ c. search needs) (λ c. search needs) (λ c κs. search needs) (λ c κs. search needs) (λ c κs. search needs) (λ c. search needs) returns)
+write64-spec = tie.close (tie.spec (λ c. search needs) (λ c. search needs) (λ c κs. search needs) (λ c κs. search needs) (λ c κs. search needs)
+    (λ c. search needs) returns)

@@ -10,13 +10,11 @@ use Rattle.little_endian.proofs.write8.Statement.{statement}
 use Rattle.little_endian.proofs.write8.Tie as tie
 
 returns : tie.Need-returns
-returns c =
-    let a = c .before .args in
+returns c = let a = c .before .args in
     sym (write-byte (now (a .out)) (a .at) (a .x) (search needs))
 
 returns-2 : tie.Need-returns-2
-returns-2 c =
-    let a = c .before .args in
+returns-2 c = let a = c .before .args in
     sym (sets-out (now (a .out)) (a .at) (toLe 1 (a .x)) (c .if1 .left))
 
 pub write8-spec : {M : Type 1} → statement M

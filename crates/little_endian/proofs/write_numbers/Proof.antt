@@ -24,8 +24,7 @@ loop-holds : tie.Need-loop-holds Inv-loop μ-loop
 loop-holds c = (omega arith, refl, refl)
 
 loop-again : tie.Need-loop-again Inv-loop μ-loop
-loop-again c =
-    let w = c .before .before .before .write64 in
+loop-again c = let w = c .before .before .before .write64 in
     let l = c .before .before .before .before .before .before .before .loop in
     let a = c .before .before .before .before .before .before .before .before .before .before .args in
     let more = write-more (l .out) (now (a .numbers)) (l .i) (l .place) _ (omega arith) (omega arith) (w .ensures) (c .after .ensures) in
@@ -36,13 +35,10 @@ same-length c = c .before .loop .inv .1
 
 returns : tie.Need-returns Inv-loop μ-loop
 unfolding numbersOf
-returns c =
-    let l = c .before .loop in
+returns c = let l = c .before .loop in
     let ns : List ℕ = now (c .before .before .before .before .args .numbers) in
     sym (ap (λ (r : List ℕ). sets (l .out) (l .place) (numbersOf r)) (drop-of-length-le ns {i = l .i} (omega arith))) ∙ l .inv .2
 
 pub write-numbers-spec : {M : Type 1} → statement M
-write-numbers-spec =
-    tie.close
-    (tie.spec Inv-loop μ-loop loop-holds (λ c. omega arith) (λ c. omega arith) (λ c κs. search needs) (λ c κs. search needs) (λ c. omega arith)
-    (λ c. omega arith) loop-again same-length returns)
+write-numbers-spec = tie.close (tie.spec Inv-loop μ-loop loop-holds (λ c. omega arith) (λ c. omega arith) (λ c κs. search needs) (λ c κs. search needs)
+    (λ c. omega arith) (λ c. omega arith) loop-again same-length returns)

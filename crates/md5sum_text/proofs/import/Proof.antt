@@ -23,8 +23,7 @@ use Rattle.md5sum_text.proofs.import.Statement.{statement}
 use Rattle.md5sum_text.proofs.import.Tie as tie
 
 returns : tie.Need-returns
-returns c =
-    let told = c .before .enum-told .given .1 in
+returns c = let told = c .before .enum-told .given .1 in
     let a = c .before .before .before .before .before .before .before .args in
     ap (λ (r : Refusal). refused r (now (a .out))) (c .refusal-of .ensures ∙ ap readingRefusal told)
     ∙ import-unread (now (a .file)) (now (a .text)) (now (a .out)) (sym (c .before .before .before .read .ensures) ∙ told)
@@ -38,22 +37,19 @@ accepted c = sym (c .before .before .before .read .ensures) ∙ c .before .readi
 faults : (c : tie.After-refusal)
     → let a = c .before .before .before .before .before .before .before .before .before .before .args in
     c .refusal .result ≡ textRefusal (entriesIn (now (a .file))) (linesOf (now (a .text)))
-faults c =
-    let known = c .before .before .before in
+faults c = let known = c .before .before .before in
     let a = known .before .before .before .before .before .before .before .args in
     c .refusal .ensures
     ∙ ap (λ (es : List (List ℕ)). textRefusal es (linesOf (now (a .text)))) (read-entries (now (a .file)) (accepted known) (c .before .before .part .ensures))
 
 returns-2 : tie.Need-returns-2
-returns-2 c =
-    let r = c .before .before in
+returns-2 c = let r = c .before .before in
     let known = r .before .before .before in
     let a = known .before .before .before .before .before .before .before .args in
     import-faulty (now (a .file)) (now (a .text)) (now (a .out)) (accepted known) (faults r) (c .if1 .taken)
 
 returns-3 : tie.Need-returns-3
-returns-3 c =
-    let r = c .before .before .before .before .before in
+returns-3 c = let r = c .before .before .before .before .before in
     let known = r .before .before .before in
     let a = known .before .before .before .before .before .before .before .args in
     let bytes : List ℕ = map (answerFor (linesOf (now (a .text)) .pieces)) (entriesIn (now (a .file))) in
@@ -67,8 +63,7 @@ put-answers-requires : tie.Need-put-answers-requires
 put-answers-requires c κs = ap (λ (x : Shapes). x .count) (c .before .before .before .before .before .before .shaped-lines .ensures)
 
 returns-4 : tie.Need-returns-4
-returns-4 c =
-    let put = c .before .before in
+returns-4 c = let put = c .before .before in
     let room = put .before .before in
     let r = room .before .before .before .before in
     let known = r .before .before .before in
@@ -86,7 +81,6 @@ returns-4 c =
     (written-fits bytes out fits (ap (λ (b : Buffer). b .at) whole) (ap (λ (b : Buffer). b .bytes) whole))
 
 pub import-spec : {M : Type 1} → statement M
-import-spec =
-    tie.close
-    (tie.spec (λ c κs. search needs) (λ c. search needs) (λ c. search needs) (λ c κs. search needs) returns (λ c κs. search needs) (λ c κs. search needs)
-    (λ c κs. c .shaped-lines .ensures) returns-2 (λ c κs. search needs) returns-3 put-answers-requires (λ c. search needs) returns-4)
+import-spec = tie.close (tie.spec (λ c κs. search needs) (λ c. search needs) (λ c. search needs) (λ c κs. search needs) returns (λ c κs. search needs)
+    (λ c κs. search needs) (λ c κs. c .shaped-lines .ensures) returns-2 (λ c κs. search needs) returns-3 put-answers-requires (λ c. search needs)
+    returns-4)

@@ -12,11 +12,8 @@ answer-requires : tie.Need-answer-requires
 answer-requires c κs = amend-asked _ _ _ _ (omega arith) (c .before .before .before .amend .ensures) (c .length-told .ensures)
 
 returns : tie.Need-returns
-returns c =
-    let t = c .before in
+returns c = let t = c .before in
     rw (c .answer .ensures) (rw (t .length-told .ensures) (ap answeredLength (t .before .before .before .amend .ensures)))
 
 pub par1-amend-spec : {M : Type 1} → statement M
-par1-amend-spec =
-    tie.close
-    (tie.spec (λ c κs. search needs) (λ c κs. search needs) answer-requires (λ c. search needs) returns)
+par1-amend-spec = tie.close (tie.spec (λ c κs. search needs) (λ c κs. search needs) answer-requires (λ c. search needs) returns)

@@ -9,5 +9,4 @@ returns : tie.Need-returns
 returns c = numbered-as (c .refusal-of .ensures) (c .before .before .before .write-entry .ensures)
 
 pub par1-write-entry-spec : {M : Type 1} → statement M
-par1-write-entry-spec =
-    tie.close (tie.spec (λ c κs. search needs) (λ c κs. search needs) (λ c. search needs) returns)
+par1-write-entry-spec = tie.close (tie.spec (λ c κs. search needs) (λ c κs. search needs) (λ c. search needs) returns)

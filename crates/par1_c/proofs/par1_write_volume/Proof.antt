@@ -14,12 +14,10 @@ returns : tie.Need-returns
 returns c = unknown-told _ _ _ (c .before .is-code .ensures) (c .if1 .taken)
 
 answer-requires : tie.Need-answer-requires
-answer-requires c κs =
-    volume-asked _ _ _ _ _ _ (omega arith) (refused-as (c .refusal-of .ensures) (c .before .before .before .write-volume .ensures))
+answer-requires c κs = volume-asked _ _ _ _ _ _ (omega arith) (refused-as (c .refusal-of .ensures) (c .before .before .before .write-volume .ensures))
 
 returns-2 : tie.Need-returns-2
-returns-2 c =
-    let f = c .before in
+returns-2 c = let f = c .before in
     let w = f .before .before .before in
     let k = w .before .before in
     let i = k .before in
@@ -27,7 +25,5 @@ returns-2 c =
     (rw (c .answer .ensures) (ap answered (refused-as (f .refusal-of .ensures) (w .write-volume .ensures))))
 
 pub par1-write-volume-spec : {M : Type 1} → statement M
-par1-write-volume-spec =
-    tie.close
-    (tie.spec (λ c κs. search needs) (λ c. search needs) returns (λ c κs. search needs) (λ c κs. search needs) (λ c κs. search needs) answer-requires
-    (λ c. search needs) returns-2)
+par1-write-volume-spec = tie.close (tie.spec (λ c κs. search needs) (λ c. search needs) returns (λ c κs. search needs) (λ c κs. search needs)
+    (λ c κs. search needs) answer-requires (λ c. search needs) returns-2)

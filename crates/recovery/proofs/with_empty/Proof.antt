@@ -23,8 +23,7 @@ loop-holds : tie.Need-loop-holds Inv-loop μ-loop
 loop-holds c = (omega arith, gathered-none _ _ _)
 
 loop-again : tie.Need-loop-again Inv-loop μ-loop
-loop-again c =
-    let l = c .before .before .before .before .before .loop in
+loop-again c = let l = c .before .before .before .before .before .loop in
     let a = c .before .before .before .before .before .before .args in
     let test : ℕ → Bool = λ (k : ℕ). not (member (a .files) k) && not (member (a .nonempty) k) in
     let tested : c .before .is-empty .result ≡ test (suc (l .i)) =
@@ -39,14 +38,11 @@ loop-again c =
     )
 
 returns : tie.Need-returns Inv-loop μ-loop
-returns c =
-    let l = c .before .loop in
+returns c = let l = c .before .loop in
     let a = c .before .before .args in
     let e : l .i ≡ a .n = omega arith in
     rw e at (l .inv .1)
 
 pub with-empty-spec : {M : Type 1} → statement M
-with-empty-spec =
-    tie.close
-    (tie.spec Inv-loop μ-loop loop-holds (λ c. omega arith) (λ c. omega arith) (λ c κs. search needs) (λ c κs. search needs) (λ c κs. search needs)
-    (λ c κs. search needs) (λ c. omega arith) (λ c. omega arith) loop-again returns)
+with-empty-spec = tie.close (tie.spec Inv-loop μ-loop loop-holds (λ c. omega arith) (λ c. omega arith) (λ c κs. search needs) (λ c κs. search needs)
+    (λ c κs. search needs) (λ c κs. search needs) (λ c. omega arith) (λ c. omega arith) loop-again returns)

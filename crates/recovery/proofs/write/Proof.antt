@@ -29,8 +29,7 @@ loop-holds : tie.Need-loop-holds Inv-loop μ-loop
 loop-holds c = (omega arith, refl, λ code files h. written-none (ruleOf code) _ files _ _)
 
 loop-again : tie.Need-loop-again Inv-loop μ-loop
-loop-again c =
-    let l = c .before .before .loop in
+loop-again c = let l = c .before .before .loop in
     let a = c .before .before .before .before .before .args in
     let inside : l .p < length (a .out .now) = omega arith in (
       omega arith,
@@ -46,15 +45,12 @@ loop-again c =
     )
 
 returns : tie.Need-returns Inv-loop μ-loop
-returns c =
-    let l = c .before .loop in
+returns c = let l = c .before .loop in
     let a = c .before .before .before .before .args in
     let e : l .p ≡ 255 = omega arith in
     subst (Written (ruleOf (a .code)) (a .n) (a .files) (a .weights .now) (a .out .now) (l .out)) e
     (l .inv .2 (a .code) (a .files) (λ i b. ap (λ (zs : List ℕ). getD zs i 0) (c .before .before .file-weights .ensures) ∙ listBelow-at 255 _ i b))
 
 pub write-spec : {M : Type 1} → statement M
-write-spec =
-    tie.close
-    (tie.spec Inv-loop μ-loop (λ c. omega arith) (λ c κs. search needs) loop-holds (λ c. omega arith) (λ c. omega arith) (λ c. omega arith)
-    (λ c. omega arith) (λ c. omega arith) (λ c. omega arith) (λ c. omega arith) loop-again (λ c. omega arith) returns)
+write-spec = tie.close (tie.spec Inv-loop μ-loop (λ c. omega arith) (λ c κs. search needs) loop-holds (λ c. omega arith) (λ c. omega arith)
+    (λ c. omega arith) (λ c. omega arith) (λ c. omega arith) (λ c. omega arith) (λ c. omega arith) loop-again (λ c. omega arith) returns)

@@ -42,8 +42,7 @@ module _ (t : ℕ) where
   same-length c = c .before .before .put .kept .0
 
   returns : lts.Need-returns claims here reads.Post
-  returns c =
-      let a = c .before .before .before .before .before .before .args in
+  returns c = let a = c .before .before .before .before .before .before .args in
       c .before .before .put .ensures ∙ ap (put (buffer (now (a .out)) (a .at))) (sym (decimal-one (a .n) (omega arith)))
 
   put-decimal-requires : lts.Need-put-decimal-requires claims here reads.Post
@@ -62,8 +61,7 @@ module _ (t : ℕ) where
   same-length-2 c = c .before .before .put2 .kept .0 ∙ c .before .before .before .before .before .before .put-decimal .kept .0
 
   returns-2 : lts.Need-returns-2 claims here reads.Post
-  returns-2 c =
-      let d = c .before .before .before .before .before .before in
+  returns-2 c = let d = c .before .before .before .before .before .before in
       let a = d .before .before .before .before .args in
       let b : Buffer = buffer (now (a .out)) (a .at) in
       put-then b _ _ (omega arith) (d .put-decimal .ensures) (c .before .before .put2 .ensures)

@@ -19,23 +19,18 @@ abbrev μ-loop : tie.MeasureT-loop
 
 returns : tie.Need-returns Inv-loop μ-loop
 unfolding allHexDigits
-returns c =
-    let l = c .before .before .before .before in
+returns c = let l = c .before .before .before .before in
     each-stops isHexDigit (l .loop .inv .1) (drop-at (now (l .before .before .args .word)) (l .loop .i) (omega arith)) (c .before .is-hex-digit .ensures) (c .if1 .taken)
 
 loop-again : tie.Need-loop-again Inv-loop μ-loop
 unfolding allHexDigits
-loop-again c =
-    let l = c .before .before .before .before in
+loop-again c = let l = c .before .before .before .before in
     (omega arith, each-goes isHexDigit (l .loop .inv .1) (drop-at (now (l .before .before .args .word)) (l .loop .i) (omega arith)) (c .before .is-hex-digit .ensures) (c .if1 .left))
 
 returns-2 : tie.Need-returns-2 Inv-loop μ-loop
 unfolding allHexDigits
-returns-2 c =
-    let l = c .before in each-over isHexDigit (l .loop .inv .1) (drop-of-length-le (now (l .before .before .args .word)) (c .loop-test .left))
+returns-2 c = let l = c .before in each-over isHexDigit (l .loop .inv .1) (drop-of-length-le (now (l .before .before .args .word)) (c .loop-test .left))
 
 pub all-hex-digits-spec : {M : Type 1} → statement M
-all-hex-digits-spec =
-    tie.close
-    (tie.spec Inv-loop μ-loop (λ c. (omega arith, refl)) (λ c. omega arith) (λ c κs. search needs) returns (λ c. omega arith) (λ c. omega arith) loop-again
-    returns-2)
+all-hex-digits-spec = tie.close (tie.spec Inv-loop μ-loop (λ c. (omega arith, refl)) (λ c. omega arith) (λ c κs. search needs) returns (λ c. omega arith)
+    (λ c. omega arith) loop-again returns-2)

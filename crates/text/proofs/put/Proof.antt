@@ -16,10 +16,8 @@ unfolding put
 returns c = let a = c .before .before .args in ap (buffer (set (now (a .out)) (a .at) (a .byte))) (omega arith)
 
 returns-2 : tie.Need-returns-2
-returns-2 c =
-    let a = c .before .before .before .args in
+returns-2 c = let a = c .before .before .before .args in
     ap (buffer (now (a .out))) (c .next .ensures) ∙ sym (put-beyond (now (a .out)) (a .at) (a .byte ∷ []) (omega arith))
 
 pub put-spec : {M : Type 1} → statement M
-put-spec =
-    tie.close (tie.spec (λ c. search needs) (λ c. search needs) (λ c. search needs) returns (λ c κs. search needs) returns-2)
+put-spec = tie.close (tie.spec (λ c. search needs) (λ c. search needs) (λ c. search needs) returns (λ c κs. search needs) returns-2)

@@ -22,17 +22,14 @@ abbrev μ-loop : tie.MeasureT-loop
 μ-loop out₀ start text at₀ i₀ out at i = length text - i
 
 loop-again : tie.Need-loop-again Inv-loop μ-loop
-loop-again c =
-    let l = c .before .before .before .before .before .before in
+loop-again c = let l = c .before .before .before .before .before .before in
     let more = drop-at (now (l .before .before .before .args .text)) (l .loop .i) (omega arith) in
     (omega arith, c .before .before .put .kept .0 ∙ l .loop .inv .1, omega arith, put-goes _ _ (l .loop .inv .3) _ _ (omega arith) more (c .before .before .put .ensures))
 
 returns : tie.Need-returns Inv-loop μ-loop
-returns c =
-    let l = c .before in
+returns c = let l = c .before in
     put-over _ _ (l .loop .inv .3) (l .loop .inv .2) (drop-of-length-le (now (l .before .before .before .args .text)) (c .loop-test .left))
 
 pub put-bytes-spec : {M : Type 1} → statement M
-put-bytes-spec =
-    tie.close
-    (tie.spec Inv-loop μ-loop (λ c. (omega arith, refl, omega arith, refl)) (λ c. omega arith) (λ c κs. search needs) (λ c. omega arith) (λ c. omega arith) loop-again (λ c. omega arith) returns)
+put-bytes-spec = tie.close (tie.spec Inv-loop μ-loop (λ c. (omega arith, refl, omega arith, refl)) (λ c. omega arith) (λ c κs. search needs)
+    (λ c. omega arith) (λ c. omega arith) loop-again (λ c. omega arith) returns)

@@ -7,8 +7,7 @@ use Rattle.text.proofs.put_field.Statement.{statement}
 use Rattle.text.proofs.put_field.Tie as tie
 
 returns : tie.Need-returns
-returns c =
-    let second = c .before .before in
+returns c = let second = c .before .before in
     let first = second .before .before .before .before in
     put-then _ _ _ (omega (arith, first .before .before .before .before .good .0 .0)) (first .put-bytes .ensures) (second .put-decimal .ensures)
 

@@ -12,8 +12,7 @@ use Rattle.text.proofs.put_hex.Statement.{statement}
 use Rattle.text.proofs.put_hex.Tie as tie
 
 returns : tie.Need-returns
-returns c =
-    let first = c .before .before .before .before .before .before .before in
+returns c = let first = c .before .before .before .before .before .before .before in
     let second = c .before .before in
     let a = first .before .before .before .before .args in
     let b : Buffer = buffer (now (a .out)) (a .at) in
@@ -21,6 +20,4 @@ returns c =
     ∙ ap₂ (λ (x y : ℕ). put b (x ∷ y ∷ [])) (first .before .hex-digit .ensures) (second .before .hex-digit2 .ensures)
 
 pub put-hex-spec : {M : Type 1} → statement M
-put-hex-spec =
-    tie.close
-    (tie.spec (λ c κs. search needs) (λ c κs. search needs) (λ c κs. search needs) (λ c κs. search needs) (λ c. search needs) returns)
+put-hex-spec = tie.close (tie.spec (λ c κs. search needs) (λ c κs. search needs) (λ c κs. search needs) (λ c κs. search needs) (λ c. search needs) returns)

@@ -37,20 +37,17 @@ further : (n m : ℕ) (x : Span) → past (n + m) x ≡ past n (past m x)
 further n m x = let e : n + m + x .from ≡ n + (m + x .from) = omega arith in ap (λ (k : ℕ). record { from = k; length = x .length }) e
 
 loop-holds : tie.Need-loop-holds Inv-loop μ-loop
-loop-holds c =
-    let s : List ℕ = now (c .before .before .args .list) in
+loop-holds c = let s : List ℕ = now (c .before .before .args .list) in
     (omega arith, nothing-before _ ∙ ap (spanIn (entriesOf s .pieces)) (c .before2 .ensures))
 
 returns : tie.Need-returns Inv-loop μ-loop
-returns c =
-    let l = c .before .before .loop in
+returns c = let l = c .before .before .loop in
     let none = entries-none _ _ (c .before .at .ensures) (c .match .keys2) in
     let at : l .from ≡ l .from + 0 = omega arith in
     ap (λ (n : ℕ). record { from = n; length = 0 }) at ∙ ap (past (l .from)) (sym (span-none (l .saved-before) none)) ∙ l .inv .1
 
 returns-2 : tie.Need-returns-2 Inv-loop μ-loop
-returns-2 c =
-    let known = c .before .before in
+returns-2 c = let known = c .before .before in
     let i = entry-in known in
     let e = known .before .length .given .0 in
     let l = known .before .before .before .before .loop in
@@ -59,8 +56,7 @@ returns-2 c =
     ap (λ (n : ℕ). record { from = n; length = e .0 }) at ∙ ap (past (l .from)) (sym here) ∙ l .inv .1
 
 loop-again : tie.Need-loop-again Inv-loop μ-loop
-loop-again c =
-    let known = c .before .before in
+loop-again c = let known = c .before .before in
     let i = entry-in known in
     let e = known .before .length .given .0 in
     let l = known .before .before .before .before in
@@ -80,7 +76,5 @@ loop-less : tie.Need-loop-less Inv-loop μ-loop
 loop-less c = let i = entry-in (c .before .before) in omega (arith, i .low, i .fits)
 
 pub entry-of-spec : {M : Type 1} → statement M
-entry-of-spec =
-    tie.close
-    (tie.spec Inv-loop μ-loop (λ c κs. search needs) loop-holds (λ c κs. search needs) (λ c. search needs) returns (λ c κs. search needs) returns-2 add-from
-    loop-less loop-again)
+entry-of-spec = tie.close (tie.spec Inv-loop μ-loop (λ c κs. search needs) loop-holds (λ c κs. search needs) (λ c. search needs) returns
+    (λ c κs. search needs) returns-2 add-from loop-less loop-again)

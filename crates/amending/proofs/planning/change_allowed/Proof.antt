@@ -17,8 +17,7 @@ use Rattle.amending.proofs.planning.change_allowed.Tie as tie
 stretch-is : (c : tie.After-stretch-allowed)
     → let a = c .before .before .before .before .args in
     c .stretch-allowed .result ≡ stretchAllowed (fileSizeOf (now (a .was))) (a .place) (a .old) (a .new)
-stretch-is c =
-    let a = c .before .before .before .before .args in
+stretch-is c = let a = c .before .before .before .before .args in
     c .stretch-allowed .ensures ∙ ap (λ (n : ℕ). stretchAllowed n (a .place) (a .old) (a .new)) (c .before .read64 .ensures)
 
 name-is : (c : tie.After-same)
@@ -43,13 +42,11 @@ returns c = simp (sym (stretch-is (c .before)) ∙ not-true _ (c .if1 .taken))
 
 returns-2 : tie.Need-returns-2
 unfolding changeAllowed
-returns-2 c =
-    simp (stretch-passed (c .before .before .before .before), sym (name-is (c .before)) ∙ not-true _ (c .if2 .taken))
+returns-2 c = simp (stretch-passed (c .before .before .before .before), sym (name-is (c .before)) ∙ not-true _ (c .if2 .taken))
 
 returns-3 : tie.Need-returns-3
 unfolding changeAllowed
-returns-3 c =
-    let new = c .before .before .read642 .ensures in
+returns-3 c = let new = c .before .before .read642 .ensures in
     let old = c .before .read643 .ensures in
     let named = c .before .before .before in
     let status = ne-eqb _ _ (λ e. c .if3 .taken (new ∙ e ∙ sym old)) in
@@ -57,8 +54,7 @@ returns-3 c =
 
 returns-4 : tie.Need-returns-4
 unfolding changeAllowed
-returns-4 c =
-    let k = c .before .before in
+returns-4 c = let k = c .before .before in
     let named = k .before .before .before in
     let sized = named .before .before .before .before in
     let a = sized .before .before .before .before .before .args in
@@ -68,7 +64,5 @@ returns-4 c =
     ∙ simp (stretch-passed sized, name-passed named, status)
 
 pub change-allowed-spec : {M : Type 1} → statement M
-change-allowed-spec =
-    tie.close
-    (tie.spec (λ c κs. search needs) (λ c κs. search needs) returns (λ c κs. search needs) (λ c κs. search needs) (λ c κs. search needs) returns-2
-    (λ c κs. search needs) (λ c κs. search needs) returns-3 (λ c κs. search needs) (λ c κs. search needs) returns-4)
+change-allowed-spec = tie.close (tie.spec (λ c κs. search needs) (λ c κs. search needs) returns (λ c κs. search needs) (λ c κs. search needs)
+    (λ c κs. search needs) returns-2 (λ c κs. search needs) (λ c κs. search needs) returns-3 (λ c κs. search needs) (λ c κs. search needs) returns-4)

@@ -9,8 +9,7 @@ use Rattle.amending.proofs.planning.is_grown.Statement.{statement}
 use Rattle.amending.proofs.planning.is_grown.Tie as tie
 
 returns : tie.Need-returns
-returns c =
-    let a = c .before .args in
+returns c = let a = c .before .args in
     let none : a .size ≡ a .size + (a .new - a .old) = omega arith in ap (eqb (a .grown)) none
 
 returns-2 : tie.Need-returns-2

@@ -17,8 +17,7 @@ returns-3 : tie.Need-returns-3
 returns-3 c = let a = c .before .before .before .args in simp (lt-leb (a .place + a .old) (a .size) (omega arith), and-false)
 
 returns-4 : tie.Need-returns-4
-returns-4 c =
-    let a = c .before .before .before .args in
+returns-4 c = let a = c .before .before .before .args in
     simp (eq-eqb _ _ (c .before .before .if1 .left), le-leb (a .place + a .old) (a .size) (omega arith))
 
 pub is-inside-spec : {M : Type 1} → statement M

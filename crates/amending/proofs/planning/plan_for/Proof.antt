@@ -14,6 +14,4 @@ returns-2 : tie.Need-returns-2
 returns-2 c = plan-unread ruleOf _ _ _ (sym (c .before .before .before .read .ensures) ∙ c .before .refusal .given .1)
 
 pub plan-for-spec : {M : Type 1} → statement M
-plan-for-spec =
-    tie.close
-    (tie.spec (λ c κs. search needs) (λ c. search needs) plan-read-requires (λ c. search needs) (λ c. search needs) returns-2)
+plan-for-spec = tie.close (tie.spec (λ c κs. search needs) (λ c. search needs) plan-read-requires (λ c. search needs) (λ c. search needs) returns-2)

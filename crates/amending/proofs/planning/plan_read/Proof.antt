@@ -22,8 +22,7 @@ tests-are : (c : tie.After-tests-refusal)
     c .tests-refusal .result
     ≡ testsRefusal (fileAllowed (a .file) (now (a .volume))) (a .place) (length (now (a .old))) (length (now (a .new)))
     (entryIn (a .file) (entriesIn (now (a .volume)))) (now (a .entry))
-tests-are c =
-    let k = c .before .before .before .before .before .before .before .before .before in
+tests-are c = let k = c .before .before .before .before .before .before .before .before .before in
     let a = k .args in
     let list = c .before .before .before .before .part .ensures in
     let span = c .before .before .before .entry-of .ensures in
@@ -36,21 +35,18 @@ tests-are c =
 start-is : (c : tie.After-entry-of)
     → let a = c .before .before .before .before .before .before .args in
     c .entry-of .result .from ≡ spanIn (entriesIn (now (a .volume))) (a .file - 1) .from
-start-is c =
-    let k = c .before .before .before .before .before .before in
+start-is c = let k = c .before .before .before .before .before .before in
     ap (λ (x : Span). x .from) (span-is (now (k .args .volume)) (k .pre) (k .args .file) (c .before .part .ensures) (c .entry-of .ensures))
 
 returns : tie.Need-returns
-returns c =
-    let t = c .before .before in
+returns c = let t = c .before .before in
     let k = t .before .before .before .before .before .before .before .before .before in
     let a = k .args in
     plan-refused ruleOf (changeOf (a .file) (a .place) (now (a .old)) (now (a .new))) (now (a .entry)) (now (a .volume)) (k .pre)
     (tests-are t) (c .if1 .taken)
 
 sized-plan-requires : tie.Need-sized-plan-requires
-sized-plan-requires c κs =
-    let t = c .before .before .before in
+sized-plan-requires c κs = let t = c .before .before .before in
     let e = t .before .before .before in
     let k = e .before .before .before .before .before .before in
     let a = k .args in
@@ -59,8 +55,7 @@ sized-plan-requires c κs =
     (tests-are t) (c .before .if1 .left) (start-is e))
 
 returns-2 : tie.Need-returns-2
-returns-2 c =
-    let t = c .before .before .before .before in
+returns-2 c = let t = c .before .before .before .before in
     let e = t .before .before .before in
     let k = e .before .before .before .before .before .before in
     let a = k .args in
@@ -70,7 +65,5 @@ returns-2 c =
     (tests-are t) (c .before .before .if1 .left) (start-is e)
 
 pub plan-read-spec : {M : Type 1} → statement M
-plan-read-spec =
-    tie.close
-    (tie.spec (λ c κs. search needs) (λ c κs. search needs) (λ c κs. search needs) (λ c κs. search needs) (λ c κs. search needs) returns (λ c κs. search needs)
-    sized-plan-requires returns-2)
+plan-read-spec = tie.close (tie.spec (λ c κs. search needs) (λ c κs. search needs) (λ c κs. search needs) (λ c κs. search needs) (λ c κs. search needs)
+    returns (λ c κs. search needs) sized-plan-requires returns-2)

@@ -17,8 +17,7 @@ part-past : (n m : ℕ) (v : List ℕ) → n ≤ m → drop (m - n) (drop n v) �
 part-past n m v h = let e : n + (m - n) ≡ m = omega arith in drop-drop (m - n) n v ∙ ap (λ (k : ℕ). drop k v) e
 
 returns : tie.Need-returns
-returns c =
-    let two = c .before .before in
+returns c = let two = c .before .before in
     let one = two .before .before .before in
     let a = one .before .before .before .before .before .before .args in
     let v : List ℕ = now (a .volume) in
@@ -28,6 +27,5 @@ returns c =
     (two .mul-add2 .ensures ∙ ap (mulAdd (a .weight) (now (a .new))) {y = first} (one .mul-add .ensures)) past
 
 pub add-stretch-spec : {M : Type 1} → statement M
-add-stretch-spec =
-    tie.close
-    (tie.spec (λ c. search needs) (λ c. search needs) (λ c. search needs) (λ c κs. search needs) (λ c κs. search needs) (λ c. search needs) returns)
+add-stretch-spec = tie.close (tie.spec (λ c. search needs) (λ c. search needs) (λ c. search needs) (λ c κs. search needs) (λ c κs. search needs)
+    (λ c. search needs) returns)

@@ -12,27 +12,23 @@ use Rattle.amending.proofs.writing.clear.Statement.{statement}
 use Rattle.amending.proofs.writing.clear.Tie as tie
 
 abbrev Inv-loop : tie.InvT-loop
-Inv-loop bytes₀ from to at₀ bytes at =
-    (from ≤ at) × (at ≤ max from to) × (bytes ≡ sets bytes₀ from (take (at - from) (replicate (to - from) 0)))
+Inv-loop bytes₀ from to at₀ bytes at = (from ≤ at) × (at ≤ max from to) × (bytes ≡ sets bytes₀ from (take (at - from) (replicate (to - from) 0)))
 
 abbrev μ-loop : tie.MeasureT-loop
 μ-loop bytes₀ from to at₀ bytes at = to - at
 
 -- the stores keep the length
 kept : (c : tie.At-loop Inv-loop μ-loop) → length (c .loop .bytes) ≡ length (now (c .before .args .bytes))
-kept c =
-    let a = c .before .args in
+kept c = let a = c .before .args in
     ap length (c .loop .inv .2) ∙ length-sets (now (a .bytes)) (a .from) (take (c .loop .at - a .from) (replicate (a .to - a .from) 0))
 
 loop-holds : tie.Need-loop-holds Inv-loop μ-loop
-loop-holds c =
-    let a = c .args in
+loop-holds c = let a = c .args in
     let n : a .from - a .from ≡ 0 = omega arith in
     (omega arith, omega arith, ap (λ (k : ℕ). sets (now (a .bytes)) (a .from) (take k (replicate (a .to - a .from) 0))) (sym n))
 
 loop-again : tie.Need-loop-again Inv-loop μ-loop
-loop-again c =
-    let l = c .before in
+loop-again c = let l = c .before in
     let a = l .before .args in
     let zeros : List ℕ = replicate (a .to - a .from) 0 in
     let i : ℕ = l .loop .at - a .from in
@@ -48,8 +44,7 @@ loop-again c =
     )
 
 returns : tie.Need-returns Inv-loop μ-loop
-returns c =
-    let l = c .before in
+returns c = let l = c .before in
     let a = l .before .args in
     let zeros : List ℕ = replicate (a .to - a .from) 0 in
     let all : length zeros ≤ l .loop .at - a .from = omega (arith, length-replicate {A = ℕ} (a .to - a .from) 0) in
@@ -62,6 +57,4 @@ same-length : tie.Need-same-length Inv-loop μ-loop
 same-length c = kept (c .before)
 
 pub clear-spec : {M : Type 1} → statement M
-clear-spec =
-    tie.close
-    (tie.spec Inv-loop μ-loop loop-holds slice-write-bytes (λ c. omega arith) (λ c. omega arith) loop-again same-length returns)
+clear-spec = tie.close (tie.spec Inv-loop μ-loop loop-holds slice-write-bytes (λ c. omega arith) (λ c. omega arith) loop-again same-length returns)

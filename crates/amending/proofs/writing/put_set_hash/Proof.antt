@@ -12,13 +12,11 @@ use Rattle.amending.proofs.writing.put_set_hash.Statement.{statement}
 use Rattle.amending.proofs.writing.put_set_hash.Tie as tie
 
 returns : tie.Need-returns
-returns c =
-    let put = c .before .before in
+returns c = let put = c .before .before in
     let hash = put .before .before .before in
     let t : List ℕ = now (hash .before .before .before .before .args .volume) in
     put .put .ensures ∙ ap (sets t 32) (hash .of-set .ensures ∙ ap (λ (l : List ℕ). setHash (entriesOf l .pieces)) (hash .before .part .ensures))
 
 pub put-set-hash-spec : {M : Type 1} → statement M
-put-set-hash-spec =
-    tie.close
-    (tie.spec (λ c κs. search needs) (λ c κs. search needs) (λ c. search needs) (λ c κs. search needs) (λ c. search needs) returns)
+put-set-hash-spec = tie.close (tie.spec (λ c κs. search needs) (λ c κs. search needs) (λ c. search needs) (λ c κs. search needs) (λ c. search needs)
+    returns)

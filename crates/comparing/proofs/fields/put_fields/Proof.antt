@@ -19,8 +19,7 @@ use Rattle.comparing.proofs.fields.put_fields.Statement.{statement}
 use Rattle.comparing.proofs.fields.put_fields.Tie as tie
 
 returns : tie.Need-returns
-returns c =
-    let c6 = c .before .before in
+returns c = let c6 = c .before .before in
     let c5 = c6 .before .before .before .before .before in
     let c4 = c5 .before .before .before .before .before in
     let c3 = c4 .before .before .before .before .before in
@@ -47,8 +46,6 @@ same-length : tie.Need-same-length
 same-length c = ap (λ (b : Buffer). length (b .bytes)) (returns c) ∙ put-length _ _
 
 pub put-fields-spec : {M : Type 1} → statement M
-put-fields-spec =
-    tie.close
-    (tie.spec (λ c κs. search needs) (λ c. search needs) (λ c κs. search needs) (λ c. search needs) (λ c κs. search needs) (λ c. search needs)
-    (λ c κs. search needs) (λ c. search needs) (λ c κs. search needs) (λ c. search needs) (λ c κs. search needs) (λ c. search needs) (λ c κs. search needs)
-    same-length returns)
+put-fields-spec = tie.close (tie.spec (λ c κs. search needs) (λ c. search needs) (λ c κs. search needs) (λ c. search needs) (λ c κs. search needs)
+    (λ c. search needs) (λ c κs. search needs) (λ c. search needs) (λ c κs. search needs) (λ c. search needs) (λ c κs. search needs) (λ c. search needs)
+    (λ c κs. search needs) same-length returns)

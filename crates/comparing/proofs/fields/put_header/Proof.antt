@@ -15,8 +15,7 @@ use Rattle.comparing.proofs.fields.put_header.Tie as tie
 
 returns : tie.Need-returns
 unfolding headLines
-returns c =
-    let c9 = c .before .before in
+returns c = let c9 = c .before .before in
     let c8 = c9 .before .before .before .before .before in
     let c7 = c8 .before .before .before .before .before in
     let c6 = c7 .before .before .before .before .before in
@@ -43,8 +42,6 @@ same-length : tie.Need-same-length
 same-length c = ap (λ (b : Buffer). length (b .bytes)) (returns c) ∙ put-length _ _
 
 pub put-header-spec : {M : Type 1} → statement M
-put-header-spec =
-    tie.close
-    (tie.spec (λ c. search needs) (λ c κs. search needs) (λ c. search needs) (λ c κs. search needs) (λ c. search needs) (λ c κs. search needs)
-    (λ c. search needs) (λ c κs. search needs) (λ c. search needs) (λ c κs. search needs) (λ c. search needs) (λ c κs. search needs) (λ c. search needs)
-    (λ c κs. search needs) (λ c. search needs) (λ c κs. search needs) (λ c. search needs) (λ c κs. search needs) same-length returns)
+put-header-spec = tie.close (tie.spec (λ c. search needs) (λ c κs. search needs) (λ c. search needs) (λ c κs. search needs) (λ c. search needs)
+    (λ c κs. search needs) (λ c. search needs) (λ c κs. search needs) (λ c. search needs) (λ c κs. search needs) (λ c. search needs) (λ c κs. search needs)
+    (λ c. search needs) (λ c κs. search needs) (λ c. search needs) (λ c κs. search needs) (λ c. search needs) (λ c κs. search needs) same-length returns)

@@ -9,8 +9,7 @@ use Rattle.comparing.proofs.lines.put_entry.Tie as tie
 
 returns : tie.Need-returns
 unfolding entryText
-returns c =
-    let newline = c .before .before in
+returns c = let newline = c .before .before in
     let name = newline .before .before .before .before in
     let space = name .before .before .before .before in
     let place = space .before .before .before .before in
@@ -19,6 +18,5 @@ returns c =
     (omega (arith, place .before .before .before .before .before .good .0 .0))
 
 pub put-entry-spec : {M : Type 1} → statement M
-put-entry-spec =
-    tie.close
-    (tie.spec (λ c. search needs) (λ c κs. search needs) (λ c κs. search needs) (λ c κs. search needs) (λ c κs. search needs) (λ c. search needs) returns)
+put-entry-spec = tie.close (tie.spec (λ c. search needs) (λ c κs. search needs) (λ c κs. search needs) (λ c κs. search needs) (λ c κs. search needs)
+    (λ c. search needs) returns)

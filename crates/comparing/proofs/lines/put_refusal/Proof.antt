@@ -15,16 +15,14 @@ use Rattle.comparing.proofs.lines.put_refusal.Tie as tie
 
 returns : tie.Need-returns
 unfolding flatten
-returns c =
-    let a = c .before .before .before .args in
+returns c = let a = c .before .before .before .args in
     let here = buffer (now (a .out)) (a .at) in
     sym (put-nil (now (a .out)) (a .at) (omega arith))
     ∙ ap (λ (r : Reading). put here (textOf (refusalLines (a .side) r))) (sym (c .enum-told .given .1))
 
 returns-2 : tie.Need-returns-2
 unfolding refusedText flatten
-returns-2 c =
-    let newline = c .before .before in
+returns-2 c = let newline = c .before .before in
     let number = newline .before .before .before .before in
     let side = number .before .before .before .before .before .before in
     let s = side .before .before .before .before .before .before .before in
@@ -34,7 +32,5 @@ returns-2 c =
     ∙ ap (λ (r : Reading). put here (textOf (refusalLines (s .args .side) r))) (sym (side .before .before .before .before .reading .given .1))
 
 pub put-refusal-spec : {M : Type 1} → statement M
-put-refusal-spec =
-    tie.close
-    (tie.spec (λ c. search needs) (λ c. search needs) returns (λ c. search needs) (λ c κs. search needs) (λ c. search needs) (λ c. search needs)
-    (λ c κs. search needs) (λ c κs. search needs) (λ c. search needs) returns-2)
+put-refusal-spec = tie.close (tie.spec (λ c. search needs) (λ c. search needs) returns (λ c. search needs) (λ c κs. search needs) (λ c. search needs)
+    (λ c. search needs) (λ c κs. search needs) (λ c κs. search needs) (λ c. search needs) returns-2)

@@ -36,8 +36,7 @@ loop-holds : tie.Need-loop-holds Inv-loop μ-loop
 loop-holds c = (refl, omega arith, c .before .before .pre, refl)
 
 returns : tie.Need-returns Inv-loop μ-loop
-returns c =
-    let l = c .before .before in
+returns c = let l = c .before .before in
     let none = no-entry (now (l .before .before .before .args .list)) (l .loop .from) (c .before .length-at .ensures) (c .if1 .taken) in
     put-over _ _ (l .loop .inv .3) (l .loop .inv .1) (none-lacking (l .loop .place) none)
 
@@ -51,8 +50,7 @@ loop-less : tie.Need-loop-less Inv-loop μ-loop
 loop-less c = let i = here (c .before .before .before .before .before) in omega (arith, i .low, i .fits)
 
 loop-again : tie.Need-loop-again Inv-loop μ-loop
-loop-again c =
-    let l = c .before .before .before .before .before .before .before .loop in
+loop-again c = let l = c .before .before .before .before .before .before .before .loop in
     let i = here (c .before .before .before .before .before) in
     let put-one = c .before .before .put-entry in (
       put-one .kept .0 ∙ l .inv .0,
@@ -62,7 +60,5 @@ loop-again c =
     )
 
 pub put-all-spec : {M : Type 1} → statement M
-put-all-spec =
-    tie.close
-    (tie.spec Inv-loop μ-loop loop-holds (λ c κs. search needs) (λ c. omega arith) returns (λ c. omega arith) (λ c κs. search needs) add-place add-from
-    loop-less loop-again)
+put-all-spec = tie.close (tie.spec Inv-loop μ-loop loop-holds (λ c κs. search needs) (λ c. omega arith) returns (λ c. omega arith) (λ c κs. search needs)
+    add-place add-from loop-less loop-again)

@@ -42,8 +42,7 @@ loop-holds : tie.Need-loop-holds Inv-loop μ-loop
 loop-holds c = (refl, omega arith, omega arith, omega arith, refl)
 
 returns : tie.Need-returns Inv-loop μ-loop
-returns c =
-    let over = c .before .before .before .before in
+returns c = let over = c .before .before .before .before in
     let l = over .before .before .loop in
     let none = no-entry (now (over .before .before .before .before .before .before .args .one)) (l .i) (over .before .length-at .ensures) (over .if1 .taken) in
     c .before .before .put-all .ensures
@@ -51,8 +50,7 @@ returns c =
     ∙ l .inv .4
 
 returns-2 : tie.Need-returns-2 Inv-loop μ-loop
-returns-2 c =
-    let over = c .before .before .before .before in
+returns-2 c = let over = c .before .before .before .before in
     let l = over .before .before .before .before .loop in
     let none = no-entry (now (over .before .before .before .before .before .before .before .before .args .two)) (l .j) (over .before .length-at2 .ensures) (over .if2 .taken) in
     c .before .before .put-all2 .ensures
@@ -72,8 +70,7 @@ loop-less : tie.Need-loop-less Inv-loop μ-loop
 loop-less c = let i = one-here (c .before .before .before .before .before .before) in omega (arith, i .low, i .fits)
 
 loop-again : tie.Need-loop-again Inv-loop μ-loop
-loop-again c =
-    let known = c .before .before .before .before .before .before in
+loop-again c = let known = c .before .before .before .before .before .before in
     let n : ℕ = known .before .before .before .length-at .result in
     let m : ℕ = known .before .length-at2 .result in
     let l = known .before .before .before .before .loop in
@@ -95,7 +92,6 @@ loop-again c =
     )
 
 pub put-entries-spec : {M : Type 1} → statement M
-put-entries-spec =
-    tie.close
-    (tie.spec Inv-loop μ-loop loop-holds (λ c κs. search needs) (λ c κs. search needs) (λ c. omega arith) returns (λ c κs. search needs) (λ c κs. search needs)
-    (λ c. omega arith) returns-2 (λ c κs. search needs) (λ c κs. search needs) (λ c κs. search needs) add-place add-i add-j loop-less loop-again)
+put-entries-spec = tie.close (tie.spec Inv-loop μ-loop loop-holds (λ c κs. search needs) (λ c κs. search needs) (λ c. omega arith) returns
+    (λ c κs. search needs) (λ c κs. search needs) (λ c. omega arith) returns-2 (λ c κs. search needs) (λ c κs. search needs) (λ c κs. search needs)
+    add-place add-i add-j loop-less loop-again)

@@ -32,15 +32,13 @@ next : (c : tie.After-agreement-from Inv-loop μ-loop)
     let first = c .before .before .difference-from .result in
     let end = c .agreement-from .result in
     (first < end) × (runsFrom d (n - l .loop .from) (l .loop .from) ≡ runOf first (end - 1) ∷ runsFrom d (n - end) end)
-next c =
-    let most = c .before .before .before .loop .inv .0 in
+next c = let most = c .before .before .before .loop .inv .0 in
     runs-next _ _ _ (rw (sym most) at (c .before .before .difference-from .ensures)) (c .before .if1 .left) (omega (arith, c .agreement-from .ensures .0))
     (rw (sym most) at (c .agreement-from .ensures .1))
 
 loop-holds : tie.Need-loop-holds Inv-loop μ-loop
 unfolding runLines runsOf
-loop-holds c =
-    let s = c .before .before .before .before in
+loop-holds c = let s = c .before .before .before .before in
     let a = now (s .args .a) in
     let b = now (s .args .b) in
     let all : c .greater .result - 0 ≡ max (length a) (length b) = omega (arith, c .greater .ensures) in (
@@ -52,8 +50,7 @@ loop-holds c =
 
 returns : tie.Need-returns Inv-loop μ-loop
 unfolding flatten
-returns c =
-    let l = c .before .before .loop in
+returns c = let l = c .before .before .loop in
     let s = c .before .before .before .before .before .before .before in
     let d = differs (now (s .args .a)) (now (s .args .b)) in
     let n = c .before .before .before .greater .result in
@@ -69,8 +66,7 @@ loop-less c =
 
 loop-again : tie.Need-loop-again Inv-loop μ-loop
 unfolding flatten
-loop-again c =
-    let l = c .before .before .before .before .before .before .before .loop in
+loop-again c = let l = c .before .before .before .before .before .before .before .loop in
     let line = c .before .before .put-run in (
       l .inv .0,
       line .kept .0 ∙ l .inv .1,
@@ -79,7 +75,5 @@ loop-again c =
     )
 
 pub put-runs-spec : {M : Type 1} → statement M
-put-runs-spec =
-    tie.close
-    (tie.spec Inv-loop μ-loop (λ c κs. search needs) loop-holds (λ c κs. search needs) (λ c. omega arith) returns (λ c κs. search needs) sub-put-run
-    (λ c κs. search needs) loop-less loop-again)
+put-runs-spec = tie.close (tie.spec Inv-loop μ-loop (λ c κs. search needs) loop-holds (λ c κs. search needs) (λ c. omega arith) returns
+    (λ c κs. search needs) sub-put-run (λ c κs. search needs) loop-less loop-again)

@@ -24,16 +24,14 @@ loop-holds : tie.Need-loop-holds Inv-loop μ-loop
 loop-holds c = (c .before .before .before .pre, omega arith, λ q high low. absurd (omega arith))
 
 returns : tie.Need-returns Inv-loop μ-loop
-returns c =
-    let l = c .before .before .before .before .loop in
+returns c = let l = c .before .before .before .before .loop in
     let s = c .before .before .before .before .before .before .before .before in
     let common = c .before .before .before .before .before .lesser .ensures in
     let same = same-byte (now (s .args .a)) (now (s .args .b)) (l .p) (omega arith) (omega arith) (c .if1 .taken) in
     (l .inv .0, record { low = l .inv .1; none-before = λ q high low. ap not (l .inv .2 q high low); found = λ h. ap not same })
 
 loop-again : tie.Need-loop-again Inv-loop μ-loop
-loop-again c =
-    let l = c .before .before .before .before .loop in
+loop-again c = let l = c .before .before .before .before .loop in
     let s = c .before .before .before .before .before .before .before .before in
     let a = now (s .args .a) in
     let b = now (s .args .b) in
@@ -42,8 +40,7 @@ loop-again c =
     (omega arith, omega arith, below-more (λ q. s .args .from ≤ q → differs a b q ≡ true) (l .p) (l .inv .2) (λ low. other))
 
 returns-2 : tie.Need-returns-2 Inv-loop μ-loop
-returns-2 c =
-    let l = c .before .before .loop in
+returns-2 c = let l = c .before .before .loop in
     let s = c .before .before .before .before .before .before in
     let a = now (s .args .a) in
     let b = now (s .args .b) in
@@ -54,7 +51,5 @@ returns-2 c =
     (omega arith, record { low = omega arith; none-before = λ q high low. ap not (all q low); found = λ h. absurd (omega arith) })
 
 pub agreement-from-spec : {M : Type 1} → statement M
-agreement-from-spec =
-    tie.close
-    (tie.spec Inv-loop μ-loop (λ c κs. search needs) loop-holds (λ c. omega arith) (λ c. omega arith) returns (λ c. omega arith) (λ c. omega arith) loop-again
-    (λ c κs. search needs) returns-2)
+agreement-from-spec = tie.close (tie.spec Inv-loop μ-loop (λ c κs. search needs) loop-holds (λ c. omega arith) (λ c. omega arith) returns
+    (λ c. omega arith) (λ c. omega arith) loop-again (λ c κs. search needs) returns-2)

@@ -22,16 +22,14 @@ loop-holds : tie.Need-loop-holds Inv-loop μ-loop
 loop-holds c = c .equal-blocks .ensures
 
 returns : tie.Need-returns Inv-loop μ-loop
-returns c =
-    let l = c .before .before .before .before .loop in
+returns c = let l = c .before .before .before .before .loop in
     let s = c .before .before .before .before .before .before .before .before .before in
     let common = c .before .before .before .before .before .before .lesser .ensures in
     let other = other-byte (now (s .args .a)) (now (s .args .b)) (l .p) (omega arith) (omega arith) (c .if1 .taken) in
     record { low = l .inv .0; none-before = l .inv .1; found = λ h. other }
 
 loop-again : tie.Need-loop-again Inv-loop μ-loop
-loop-again c =
-    let l = c .before .before .before .before .loop in
+loop-again c = let l = c .before .before .before .before .loop in
     let s = c .before .before .before .before .before .before .before .before .before in
     let a = now (s .args .a) in
     let b = now (s .args .b) in
@@ -40,8 +38,7 @@ loop-again c =
     (omega arith, below-more (λ q. s .args .from ≤ q → differs a b q ≡ false) (l .p) (l .inv .1) (λ low. same))
 
 returns-2 : tie.Need-returns-2 Inv-loop μ-loop
-returns-2 c =
-    let l = c .before .loop in
+returns-2 c = let l = c .before .loop in
     let s = c .before .before .before .before .before .before in
     let common = c .before .before .before .lesser .ensures in
     record {
@@ -51,7 +48,5 @@ returns-2 c =
     }
 
 pub difference-from-spec : {M : Type 1} → statement M
-difference-from-spec =
-    tie.close
-    (tie.spec Inv-loop μ-loop (λ c κs. search needs) (λ c κs. search needs) loop-holds (λ c. omega arith) (λ c. omega arith) returns (λ c. omega arith)
-    (λ c. omega arith) loop-again returns-2)
+difference-from-spec = tie.close (tie.spec Inv-loop μ-loop (λ c κs. search needs) (λ c κs. search needs) loop-holds (λ c. omega arith) (λ c. omega arith)
+    returns (λ c. omega arith) (λ c. omega arith) loop-again returns-2)

@@ -11,8 +11,7 @@ use Rattle.inventory.proofs.Inventory.add_volume.Tie as tie
 
 returns : tie.Need-returns
 unfolding changeStep inRange ofOtherCode whileQuarantined already afterChange
-returns c =
-    let called = c .before .before in
+returns c = let called = c .before .before in
     volumes-changed _ _ _ _ _ _ (c .before .insert .ensures)
     (called .change-number .ensures
     ∙ number-same _ (called .before .before .before .before .is-volume .ensures) (ap not (called .before .before .before .same .ensures))
@@ -20,7 +19,5 @@ returns c =
     (c .unless-refused .ensures)
 
 pub add-volume-spec : {M : Type 1} → statement M
-add-volume-spec =
-    tie.close
-    (tie.spec (λ c κs. search needs) (λ c κs. search needs) (λ c κs. search needs) (λ c κs. search needs) (λ c κs. search needs) (λ c κs. search needs)
-    (λ c κs. search needs) returns)
+add-volume-spec = tie.close (tie.spec (λ c κs. search needs) (λ c κs. search needs) (λ c κs. search needs) (λ c κs. search needs) (λ c κs. search needs)
+    (λ c κs. search needs) (λ c κs. search needs) returns)

@@ -13,11 +13,9 @@ returns c = simp (sym (c .before .is-inventory .ensures) ∙ not-true (c .before
 
 returns-2 : tie.Need-returns-2
 unfolding countReply countStep
-returns-2 c =
-    let called = c .before .before .before .before .before .before in
+returns-2 c = let called = c .before .before .before .before .before .before in
     let valid = sym (called .before .is-inventory .ensures) ∙ not-false (called .before .is-inventory .result) (called .if1 .left) in
     simp (valid, c .before .before .size .ensures, c .before .size2 .ensures, c .size3 .ensures)
 
 pub count-spec : {M : Type 1} → statement M
-count-spec =
-    tie.close (tie.spec (λ c κs. search needs) returns (λ c κs. search needs) (λ c κs. search needs) (λ c κs. search needs) returns-2)
+count-spec = tie.close (tie.spec (λ c κs. search needs) returns (λ c κs. search needs) (λ c κs. search needs) (λ c κs. search needs) returns-2)

@@ -16,21 +16,18 @@ use Rattle.inventory.proofs.Inventory.open.Statement.{statement}
 use Rattle.inventory.proofs.Inventory.open.Tie as tie
 
 abbrev Inv-loop : tie.InvT-loop
-Inv-loop code n sizes nonempty₀ k₀ nonempty k =
-    (k ≤ length sizes) × (nonempty ≡ nonemptyOf sizes k) × ((j : ℕ) → j < k → getD sizes j 0 ≤ 16777216)
+Inv-loop code n sizes nonempty₀ k₀ nonempty k = (k ≤ length sizes) × (nonempty ≡ nonemptyOf sizes k) × ((j : ℕ) → j < k → getD sizes j 0 ≤ 16777216)
 
 abbrev μ-loop : tie.MeasureT-loop
 μ-loop code n sizes nonempty₀ k₀ nonempty k = length sizes - k
 
 returns : tie.Need-returns Inv-loop μ-loop
-returns c =
-    let a = c .before .before .before .before .args in
+returns c = let a = c .before .before .before .before .args in
     c .refused-opening .ensures
     ∙ open-out-of-range (a .code) (a .n) (a .sizes .now) (sym (c .before .before .one-to .ensures) ∙ not-true (c .before .before .one-to .result) (c .before .if1 .taken))
 
 returns-2 : tie.Need-returns-2 Inv-loop μ-loop
-returns-2 c =
-    let a = c .before .before .before .before .before .args in
+returns-2 c = let a = c .before .before .before .before .before .args in
     c .refused-opening2 .ensures ∙ open-miscounted (a .code) (a .n) (a .sizes .now) (c .before .if2 .taken)
 
 loop-holds : tie.Need-loop-holds Inv-loop μ-loop
@@ -38,8 +35,7 @@ unfolding nonemptyOf
 loop-holds c = (omega arith, refl, λ j l. absurd (not-suc-le-zero l))
 
 returns-3 : tie.Need-returns-3 Inv-loop μ-loop
-returns-3 c =
-    let l = c .before .before .before .before .loop in
+returns-3 c = let l = c .before .before .before .before .loop in
     let ranged = c .before .before .before .before .before .before in
     let a = ranged .before .before .before .args in
     let in-range = sym (ranged .before .one-to .ensures) ∙ not-false (ranged .before .one-to .result) (ranged .if1 .left) in
@@ -47,8 +43,7 @@ returns-3 c =
     c .refused-opening3 .ensures ∙ open-too-large (a .code) (a .n) (a .sizes .now) in-range counted (l .k) (omega arith) (c .before .if3 .taken)
 
 loop-again : tie.Need-loop-again Inv-loop μ-loop
-loop-again c =
-    let l = c .before .before .before .before .before .loop in
+loop-again c = let l = c .before .before .before .before .before .loop in
     let sizes = c .before .before .before .before .before .before .before .before .before .before .args .sizes .now in
     let small : getD sizes (l .k) 0 ≤ 16777216 = c .before .before .if3 .left in (
       omega arith,
@@ -58,8 +53,7 @@ loop-again c =
     )
 
 returns-4 : tie.Need-returns-4 Inv-loop μ-loop
-returns-4 c =
-    let l = c .before .loop in
+returns-4 c = let l = c .before .loop in
     let ranged = c .before .before .before in
     let a = ranged .before .before .before .args in
     let in-range = sym (ranged .before .one-to .ensures) ∙ not-false (ranged .before .one-to .result) (ranged .if1 .left) in
@@ -71,8 +65,6 @@ returns-4 c =
     ∙ open-accepted (a .code) (a .n) (a .sizes .now) in-range counted (rw e at (l .inv .2))
 
 pub open-spec : {M : Type 1} → statement M
-open-spec =
-    tie.close
-    (tie.spec Inv-loop μ-loop (λ c κs. search needs) (λ c κs. search needs) returns (λ c κs. search needs) returns-2 loop-holds (λ c. omega arith)
-    (λ c. omega arith) (λ c κs. search needs) returns-3 (λ c. omega arith) (λ c. omega arith) (λ c. omega arith) (λ c κs. search needs) (λ c. omega arith)
-    (λ c. omega arith) loop-again returns-4)
+open-spec = tie.close (tie.spec Inv-loop μ-loop (λ c κs. search needs) (λ c κs. search needs) returns (λ c κs. search needs) returns-2 loop-holds
+    (λ c. omega arith) (λ c. omega arith) (λ c κs. search needs) returns-3 (λ c. omega arith) (λ c. omega arith) (λ c. omega arith) (λ c κs. search needs)
+    (λ c. omega arith) (λ c. omega arith) loop-again returns-4)

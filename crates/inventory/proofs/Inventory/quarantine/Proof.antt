@@ -11,15 +11,12 @@ use Rattle.inventory.proofs.Inventory.quarantine.Tie as tie
 
 returns : tie.Need-returns
 unfolding changeStep inRange ofOtherCode whileQuarantined already afterChange
-returns c =
-    let volumes = c .before .before in
+returns c = let volumes = c .before .before in
     let called = volumes .before .before in
     both-changed _ _ _ _ _ _ (volumes .before .remove .ensures)
     (called .change-number .ensures ∙ number-same _ (called .before .before .is-volume .ensures) refl refl (ap not (called .before .has .ensures)))
     (c .before .insert .ensures) (volumes .unless-refused .ensures) (c .unless-refused2 .ensures)
 
 pub quarantine-spec : {M : Type 1} → statement M
-quarantine-spec =
-    tie.close
-    (tie.spec (λ c κs. search needs) (λ c κs. search needs) (λ c κs. search needs) (λ c κs. search needs) (λ c κs. search needs) (λ c κs. search needs)
-    (λ c κs. search needs) returns)
+quarantine-spec = tie.close (tie.spec (λ c κs. search needs) (λ c κs. search needs) (λ c κs. search needs) (λ c κs. search needs) (λ c κs. search needs)
+    (λ c κs. search needs) (λ c κs. search needs) returns)

@@ -38,8 +38,7 @@ cast-query c = let l = few-files _ (valid (c .before .before .before .before .be
 
 -- the file's number, of at most 254 files
 number : (c : tie.Else2) → let a = c .before .before .before .before .before .args in (1 ≤ a .file) × (a .file ≤ 254)
-number c =
-    let a = c .before .before .before .before .before .args in
+number c = let a = c .before .before .before .before .before .args in
     let n = few-files (a .self) (valid (c .before .before)) in
     let l = oneTo-inside (a .self .n) (a .file) (ranged c) in
     (l .0, omega (arith, l .1, n))
@@ -51,12 +50,9 @@ cast-query-2 : tie.Need-cast-query-2
 cast-query-2 c = omega (arith, number (c .before .before .before .before) .1)
 
 returns-3 : tie.Need-returns-3
-returns-3 c =
-    let asked = c .before .before .before .before .before .before .before .before in
+returns-3 c = let asked = c .before .before .before .before .before .before .before .before in
     query-answered ruleOf rule-byte _ (valid (asked .before .before)) _ _ (ranged asked) _ _ (c .before .before .query .ensures)
 
 pub query-spec : {M : Type 1} → statement M
-query-spec =
-    tie.close
-    (tie.spec (λ c κs. search needs) returns (λ c κs. search needs) returns-2 cast-query sub-query cast-query-2 (λ c κs. search needs) (λ c. search needs)
-    returns-3)
+query-spec = tie.close (tie.spec (λ c κs. search needs) returns (λ c κs. search needs) returns-2 cast-query sub-query cast-query-2 (λ c κs. search needs)
+    (λ c. search needs) returns-3)

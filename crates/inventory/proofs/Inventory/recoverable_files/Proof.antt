@@ -17,8 +17,7 @@ valid : (c : tie.Else1) → isInventory (c .before .before .args .self) ≡ true
 valid c = sym (c .before .is-inventory .ensures) ∙ not-false (c .before .is-inventory .result) (c .if1 .left)
 
 returns : tie.Need-returns
-returns c =
-    set-refused ruleOf _ (sym (c .before .is-inventory .ensures) ∙ not-true (c .before .is-inventory .result) (c .if1 .taken))
+returns c = set-refused ruleOf _ (sym (c .before .is-inventory .ensures) ∙ not-true (c .before .is-inventory .result) (c .if1 .taken))
 
 cast-recoverable-files : tie.Need-cast-recoverable-files
 cast-recoverable-files c = let l = few-files _ (valid (c .before .before .before .before)) in omega arith
@@ -27,5 +26,4 @@ returns-2 : tie.Need-returns-2
 returns-2 c = set-gathered ruleOf rule-byte _ (valid (c .before .before .before .before .before)) _ (c .recoverable-files .ensures)
 
 pub recoverable-files-spec : {M : Type 1} → statement M
-recoverable-files-spec =
-    tie.close (tie.spec (λ c κs. search needs) returns cast-recoverable-files (λ c κs. search needs) returns-2)
+recoverable-files-spec = tie.close (tie.spec (λ c κs. search needs) returns cast-recoverable-files (λ c κs. search needs) returns-2)

@@ -11,15 +11,12 @@ use Rattle.inventory.proofs.Inventory.release.Tie as tie
 
 returns : tie.Need-returns
 unfolding changeStep inRange ofOtherCode whileQuarantined already afterChange
-returns c =
-    let volumes = c .before .before in
+returns c = let volumes = c .before .before in
     let called = volumes .before .before in
     both-changed _ _ _ _ _ _ (volumes .before .insert .ensures)
     (called .change-number .ensures ∙ number-same _ (called .before .before .is-volume .ensures) refl refl (ap not (called .before .has .ensures)))
     (c .before .remove .ensures) (volumes .unless-refused .ensures) (c .unless-refused2 .ensures)
 
 pub release-spec : {M : Type 1} → statement M
-release-spec =
-    tie.close
-    (tie.spec (λ c κs. search needs) (λ c κs. search needs) (λ c κs. search needs) (λ c κs. search needs) (λ c κs. search needs) (λ c κs. search needs)
-    (λ c κs. search needs) returns)
+release-spec = tie.close (tie.spec (λ c κs. search needs) (λ c κs. search needs) (λ c κs. search needs) (λ c κs. search needs) (λ c κs. search needs)
+    (λ c κs. search needs) (λ c κs. search needs) returns)

@@ -11,8 +11,7 @@ use Rattle.inventory.proofs.Inventory.remove_volume.Tie as tie
 
 returns : tie.Need-returns
 unfolding changeStep inRange ofOtherCode whileQuarantined already afterChange
-returns c =
-    let volumes = c .before .before in
+returns c = let volumes = c .before .before in
     let called = volumes .before .before in
     let either = called .before in
     let tests = either .before in
@@ -22,7 +21,5 @@ returns c =
     (c .before .remove2 .ensures) (volumes .unless-refused .ensures) (c .unless-refused2 .ensures)
 
 pub remove-volume-spec : {M : Type 1} → statement M
-remove-volume-spec =
-    tie.close
-    (tie.spec (λ c κs. search needs) (λ c κs. search needs) (λ c κs. search needs) (λ c κs. search needs) (λ c κs. search needs) (λ c κs. search needs)
-    (λ c κs. search needs) (λ c κs. search needs) (λ c κs. search needs) returns)
+remove-volume-spec = tie.close (tie.spec (λ c κs. search needs) (λ c κs. search needs) (λ c κs. search needs) (λ c κs. search needs) (λ c κs. search needs)
+    (λ c κs. search needs) (λ c κs. search needs) (λ c κs. search needs) (λ c κs. search needs) returns)

@@ -91,13 +91,10 @@ returns-5 c =
     (first-fails _ _ (sym (c .before .within4 .ensures) ∙ not-true (c .before .within4 .result) (c .if5 .taken)))
 
 returns-6 : tie.Need-returns-6
-returns-6 c =
-    let last = c .before in
+returns-6 c = let last = c .before in
     volumes-within (last .before .before .before)
     (first-holds _ _ _ (sym (last .before .within4 .ensures) ∙ not-false (last .before .within4 .result) (last .if5 .left)) (c .apart .ensures))
 
 pub is-inventory-spec : {M : Type 1} → statement M
-is-inventory-spec =
-    tie.close
-    (tie.spec (λ c κs. search needs) returns (λ c κs. search needs) returns-2 (λ c κs. search needs) returns-3 sub-within (λ c κs. search needs) returns-4
-    sub-within-2 (λ c κs. search needs) returns-5 (λ c κs. search needs) returns-6)
+is-inventory-spec = tie.close (tie.spec (λ c κs. search needs) returns (λ c κs. search needs) returns-2 (λ c κs. search needs) returns-3 sub-within
+    (λ c κs. search needs) returns-4 sub-within-2 (λ c κs. search needs) returns-5 (λ c κs. search needs) returns-6)

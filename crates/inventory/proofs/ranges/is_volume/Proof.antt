@@ -9,8 +9,7 @@ use Rattle.inventory.proofs.ranges.is_volume.Statement.{statement}
 use Rattle.inventory.proofs.ranges.is_volume.Tie as tie
 
 returns : tie.Need-returns
-returns c =
-    let a = c .before .args in
+returns c = let a = c .before .args in
     sym (oneTo-outside (255 - a .n) (a .volume) (λ h l. omega arith))
 
 pub is-volume-spec : {M : Type 1} → statement M

@@ -38,13 +38,11 @@ loop-holds : tie.Need-loop-holds Inv-loop μ-loop
 loop-holds c = (omega arith, refl, omega arith, omega arith, refl)
 
 returns : tie.Need-returns Inv-loop μ-loop
-returns c =
-    let l = c .before .before .loop in
+returns c = let l = c .before .before .loop in
     put-over _ _ (l .inv .4) (l .inv .2) (lines-none (l .saved) (entries-none _ _ (c .before .at .ensures) (c .match .keys2)))
 
 add-saved : tie.Need-add-saved Inv-loop μ-loop
-add-saved c =
-    let known = c .before .before .before in
+add-saved c = let known = c .before .before .before in
     let i = entry-in known in
     omega (arith, i .low, i .fits, c .saved-count .ensures, saved-most (known .before .length .given .0 .1 .0))
 
@@ -55,8 +53,7 @@ loop-less : tie.Need-loop-less Inv-loop μ-loop
 loop-less c = let i = entry-in (c .before .before .before .before .before .before .before) in omega (arith, i .low, i .fits)
 
 loop-again : tie.Need-loop-again Inv-loop μ-loop
-loop-again c =
-    let line = c .before .before in
+loop-again c = let line = c .before .before in
     let count = line .before .before in
     let known = count .before .before .before in
     let i = entry-in known in
@@ -78,6 +75,5 @@ loop-again c =
     )
 
 pub put-entries-spec : {M : Type 1} → statement M
-put-entries-spec =
-    tie.close
-    (tie.spec Inv-loop μ-loop loop-holds (λ c κs. search needs) (λ c. search needs) (λ c. omega arith) returns (λ c κs. search needs) (λ c κs. search needs) (λ c κs. search needs) add-saved (λ c κs. search needs) add-from loop-less loop-again)
+put-entries-spec = tie.close (tie.spec Inv-loop μ-loop loop-holds (λ c κs. search needs) (λ c. search needs) (λ c. omega arith) returns
+    (λ c κs. search needs) (λ c κs. search needs) (λ c κs. search needs) add-saved (λ c κs. search needs) add-from loop-less loop-again)

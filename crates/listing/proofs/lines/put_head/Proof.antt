@@ -9,8 +9,7 @@ use Rattle.listing.proofs.lines.put_head.Tie as tie
 
 returns : tie.Need-returns
 unfolding headLine
-returns c =
-    let newline = c .before .before in
+returns c = let newline = c .before .before in
     let saved = newline .before .before .before .before in
     let files = saved .before .before .before .before .before in
     let volume = files .before .before .before .before .before in
@@ -19,7 +18,5 @@ returns c =
     (omega (arith, volume .before .before .before .before .good .0 .0))
 
 pub put-head-spec : {M : Type 1} → statement M
-put-head-spec =
-    tie.close
-    (tie.spec (λ c. search needs) (λ c κs. search needs) (λ c. search needs) (λ c κs. search needs) (λ c. search needs) (λ c κs. search needs)
-    (λ c κs. search needs) (λ c. search needs) returns)
+put-head-spec = tie.close (tie.spec (λ c. search needs) (λ c κs. search needs) (λ c. search needs) (λ c κs. search needs) (λ c. search needs)
+    (λ c κs. search needs) (λ c κs. search needs) (λ c. search needs) returns)

@@ -9,8 +9,7 @@ use Rattle.listing.proofs.lines.put_line.Tie as tie
 
 returns : tie.Need-returns
 unfolding lineOf
-returns c =
-    let newline = c .before .before in
+returns c = let newline = c .before .before in
     let name = newline .before .before .before .before in
     let space = name .before .before .before .before in
     let size = space .before .before .before .before in
@@ -22,7 +21,5 @@ returns c =
     (omega (arith, label .before .before .before .before .good .0 .0))
 
 pub put-line-spec : {M : Type 1} → statement M
-put-line-spec =
-    tie.close
-    (tie.spec (λ c κs. search needs) (λ c. search needs) (λ c κs. search needs) (λ c κs. search needs) (λ c κs. search needs) (λ c κs. search needs)
-    (λ c. search needs) returns)
+put-line-spec = tie.close (tie.spec (λ c κs. search needs) (λ c. search needs) (λ c κs. search needs) (λ c κs. search needs) (λ c κs. search needs)
+    (λ c κs. search needs) (λ c. search needs) returns)

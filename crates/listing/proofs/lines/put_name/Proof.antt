@@ -24,8 +24,7 @@ abbrev μ-loop : tie.MeasureT-loop
 μ-loop out₀ start name at₀ i₀ out at i = length name - i
 
 loop-again : tie.Need-loop-again Inv-loop μ-loop
-loop-again c =
-    let l = c .before .before .before .before .before .before .before in
+loop-again c = let l = c .before .before .before .before .before .before .before in
     let name : List ℕ = now (l .before .before .before .args .name) in
     let unit = c .before .before .before .shown .ensures ∙ ap shown (c .before .before .before .before .read16 .ensures) in
     let rest : List ℕ = map shown (unitsOf (drop (l .loop .i + 2) name)) in
@@ -33,12 +32,9 @@ loop-again c =
     (omega arith, c .before .before .put .kept .0 ∙ l .loop .inv .1, omega arith, put-goes _ _ (l .loop .inv .3) _ rest (omega arith) more (c .before .before .put .ensures))
 
 returns : tie.Need-returns Inv-loop μ-loop
-returns c =
-    let l = c .before in
+returns c = let l = c .before in
     put-over _ _ (l .loop .inv .3) (l .loop .inv .2) (ap (map shown) (units-none (now (l .before .before .before .args .name)) (l .loop .i) (omega arith)))
 
 pub put-name-spec : {M : Type 1} → statement M
-put-name-spec =
-    tie.close
-    (tie.spec Inv-loop μ-loop (λ c. (omega arith, refl, omega arith, refl)) (λ c. omega arith) (λ c κs. search needs) (λ c κs. search needs)
-    (λ c κs. search needs) (λ c. omega arith) (λ c. omega arith) loop-again (λ c. omega arith) returns)
+put-name-spec = tie.close (tie.spec Inv-loop μ-loop (λ c. (omega arith, refl, omega arith, refl)) (λ c. omega arith) (λ c κs. search needs)
+    (λ c κs. search needs) (λ c κs. search needs) (λ c. omega arith) (λ c. omega arith) loop-again (λ c. omega arith) returns)

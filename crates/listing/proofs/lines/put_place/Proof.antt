@@ -11,17 +11,13 @@ use Rattle.listing.proofs.lines.put_place.Tie as tie
 
 returns : tie.Need-returns
 unfolding placeField
-returns c =
-    let placed = c .before .before .before .before .before in
+returns c = let placed = c .before .before .before .before .before in
     simp (sym (placed .before .is-placed .ensures) ∙ placed .if1 .taken) (c .before .before .put-field .ensures)
 
 returns-2 : tie.Need-returns-2
 unfolding placeField
-returns-2 c =
-    let s = c .before .before .before in
+returns-2 c = let s = c .before .before .before in
     simp (sym (c .before .is-placed .ensures) ∙ c .if1 .left) (sym (put-nil (now (s .args .out)) (s .args .at) (omega (arith, s .fits .at))))
 
 pub put-place-spec : {M : Type 1} → statement M
-put-place-spec =
-    tie.close
-    (tie.spec (λ c κs. search needs) (λ c. search needs) (λ c κs. search needs) (λ c. search needs) returns returns-2)
+put-place-spec = tie.close (tie.spec (λ c κs. search needs) (λ c. search needs) (λ c κs. search needs) (λ c. search needs) returns returns-2)

@@ -27,8 +27,7 @@ here : (c : tie.Else1 Inv-loop μ-loop)
 here c = entry-here _ _ (c .before .length-at .ensures) (c .if1 .left)
 
 returns : tie.Need-returns Inv-loop μ-loop
-returns c =
-    let l = c .before .before in
+returns c = let l = c .before .before in
     each-over isFitting (l .loop .inv .1) (no-entry (now (l .before .before .args .list)) (l .loop .from) (c .before .length-at .ensures) (c .if1 .taken))
 
 -- whether it fits
@@ -43,8 +42,7 @@ returns-2 c =
     let h = c .before .before .before .before in each-stops isFitting (h .before .before .loop .inv .1) (here h .pieces-are) (tested (c .before)) (c .if2 .taken)
 
 loop-again : tie.Need-loop-again Inv-loop μ-loop
-loop-again c =
-    let h = c .before .before .before .before in
+loop-again c = let h = c .before .before .before .before in
     (here h .fits, each-goes isFitting (h .before .before .loop .inv .1) (here h .pieces-are) (tested (c .before)) (c .if2 .left))
 
 add-from : tie.Need-add-from Inv-loop μ-loop
@@ -54,7 +52,5 @@ loop-less : tie.Need-loop-less Inv-loop μ-loop
 loop-less c = let i = here (c .before .before .before .before) in omega (arith, i .low, i .fits)
 
 pub all-fitting-spec : {M : Type 1} → statement M
-all-fitting-spec =
-    tie.close
-    (tie.spec Inv-loop μ-loop (λ c. (omega arith, refl)) (λ c κs. search needs) returns (λ c κs. search needs) (λ c κs. search needs)
-    (λ c κs. search needs) returns-2 add-from loop-less loop-again)
+all-fitting-spec = tie.close (tie.spec Inv-loop μ-loop (λ c. (omega arith, refl)) (λ c κs. search needs) returns (λ c κs. search needs)
+    (λ c κs. search needs) (λ c κs. search needs) returns-2 add-from loop-less loop-again)

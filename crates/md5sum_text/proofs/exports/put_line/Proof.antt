@@ -20,8 +20,7 @@ put-units-requires c κs = rw (c .name-of .ensures) (c .before .before .before .
 
 returns : tie.Need-returns
 unfolding lineFor
-returns c =
-    let newline = c .before .before in
+returns c = let newline = c .before .before in
     let name = newline .before .before .before .before in
     let spaces = name .before .before .before .before .before in
     let sum = spaces .before .before .before .before .before in
@@ -32,7 +31,5 @@ returns c =
     (sum .before .part .ensures) (name .before .name-of .ensures)
 
 pub put-line-spec : {M : Type 1} → statement M
-put-line-spec =
-    tie.close
-    (tie.spec (λ c κs. search needs) (λ c κs. search needs) (λ c. search needs) (λ c κs. search needs) (λ c κs. search needs) put-units-requires
-    (λ c κs. search needs) (λ c. search needs) returns)
+put-line-spec = tie.close (tie.spec (λ c κs. search needs) (λ c κs. search needs) (λ c. search needs) (λ c κs. search needs) (λ c κs. search needs)
+    put-units-requires (λ c κs. search needs) (λ c. search needs) returns)

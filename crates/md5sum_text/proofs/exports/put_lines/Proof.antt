@@ -35,14 +35,12 @@ loop-holds c = (omega arith, refl, omega arith, c .before .before .pre, refl)
 
 returns : tie.Need-returns Inv-loop μ-loop
 unfolding exportText
-returns c =
-    let l = c .before .before in
+returns c = let l = c .before .before in
     let none = no-entry (now (l .before .before .before .args .list)) (l .loop .from) (c .before .length-at .ensures) (c .if1 .taken) in
     put-over _ _ (l .loop .inv .4) (l .loop .inv .2) (ap exportText none)
 
 put-line-requires : tie.Need-put-line-requires Inv-loop μ-loop
-put-line-requires c κs =
-    let h = c .before .before in fitting-both (here h) (c .part .ensures) (h .before .before .loop .inv .3) .0
+put-line-requires c κs = let h = c .before .before in fitting-both (here h) (c .part .ensures) (h .before .before .loop .inv .3) .0
 
 add-from : tie.Need-add-from Inv-loop μ-loop
 add-from c = omega (arith, here (c .before .before .before .before .before) .fits)
@@ -51,8 +49,7 @@ loop-less : tie.Need-loop-less Inv-loop μ-loop
 loop-less c = let i = here (c .before .before .before .before .before) in omega (arith, i .low, i .fits)
 
 loop-again : tie.Need-loop-again Inv-loop μ-loop
-loop-again c =
-    let line = c .before .before in
+loop-again c = let line = c .before .before in
     let entry = line .before .part .ensures in
     let i = here (line .before .before .before) in
     let l = line .before .before .before .before .before in
@@ -65,7 +62,5 @@ loop-again c =
     )
 
 pub put-lines-spec : {M : Type 1} → statement M
-put-lines-spec =
-    tie.close
-    (tie.spec Inv-loop μ-loop loop-holds (λ c κs. search needs) (λ c. omega arith) returns (λ c κs. search needs) put-line-requires add-from
-    loop-less loop-again)
+put-lines-spec = tie.close (tie.spec Inv-loop μ-loop loop-holds (λ c κs. search needs) (λ c. omega arith) returns (λ c κs. search needs) put-line-requires
+    add-from loop-less loop-again)

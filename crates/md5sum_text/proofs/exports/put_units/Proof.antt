@@ -29,14 +29,12 @@ loop-holds : tie.Need-loop-holds Inv-loop μ-loop
 loop-holds c = (omega arith, refl, omega arith, c .before .before .pre, refl)
 
 cast-put : tie.Need-cast-put Inv-loop μ-loop
-cast-put c =
-    let l = c .before .before .before in
+cast-put c = let l = c .before .before .before in
     let s : List ℕ = now (l .before .before .before .args .name) in
     omega (arith, fits-first s (l .loop .i) (l .loop .inv .3) (omega arith), c .before .read16 .ensures)
 
 loop-again : tie.Need-loop-again Inv-loop μ-loop
-loop-again c =
-    let l = c .before .before .before .before .before .before in
+loop-again c = let l = c .before .before .before .before .before .before in
     let s : List ℕ = now (l .before .before .before .args .name) in
     let more = units-more s (l .loop .i) (omega arith) in
     let rest : List ℕ = unitsOf (drop (l .loop .i + 2) s) in (
@@ -49,12 +47,9 @@ loop-again c =
     )
 
 returns : tie.Need-returns Inv-loop μ-loop
-returns c =
-    let l = c .before in
+returns c = let l = c .before in
     put-over _ _ (l .loop .inv .4) (l .loop .inv .2) (units-none (now (l .before .before .before .args .name)) (l .loop .i) (omega arith))
 
 pub put-units-spec : {M : Type 1} → statement M
-put-units-spec =
-    tie.close
-    (tie.spec Inv-loop μ-loop loop-holds (λ c. omega arith) (λ c κs. search needs) cast-put (λ c κs. search needs) (λ c. omega arith) (λ c. omega arith)
-    loop-again (λ c. omega arith) returns)
+put-units-spec = tie.close (tie.spec Inv-loop μ-loop loop-holds (λ c. omega arith) (λ c κs. search needs) cast-put (λ c κs. search needs)
+    (λ c. omega arith) (λ c. omega arith) loop-again (λ c. omega arith) returns)

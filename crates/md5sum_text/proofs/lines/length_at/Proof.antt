@@ -14,8 +14,7 @@ add-line-length : tie.Need-add-line-length
 add-line-length c = let s = c .before in omega (arith, past-sum (now (s .args .text)) (s .args .at) (s .pre) .0)
 
 add-result : tie.Need-add-result
-add-result c =
-    let s = c .before .before in
+add-result c = let s = c .before .before in
     let has = has-line (drop (s .args .at) (now (s .args .text))) (s .pre) in
     omega
     (arith, c .line-length .ensures, past-sum (now (s .args .text)) (s .args .at) (s .pre) .1, has .high, length-drop (s .args .at) (now (s .args .text)))

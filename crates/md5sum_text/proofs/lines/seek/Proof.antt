@@ -28,8 +28,7 @@ abbrev μ-loop : tie.MeasureT-loop
 line-in : (c : tie.In-loop Inv-loop μ-loop)
     → let s : List ℕ = now (c .before .before .before .before .before .args .text) in
     IsLine s (place (c .before .loop .number) (c .before .loop .at)) (shapedLength (drop (c .before .loop .at) s))
-line-in c =
-    let l = c .before in
+line-in c = let l = c .before in
     let a = l .before .before .before .before in line-at (now (a .args .text)) (place (l .loop .number) (l .loop .at)) (l .loop .inv .2) (omega (arith, a .pre .1))
 
 -- what the test of it says
@@ -37,8 +36,7 @@ tested : (c : tie.After-is-other Inv-loop μ-loop)
     → let l = c .before .before .before .before in
     let a = l .before .before .before .before .args in
     c .is-other .result ≡ isOther (now (a .name)) (now (a .sum)) (getD (linesOf (now (a .text)) .pieces) (l .loop .number) [])
-tested c =
-    let l = c .before .before .before .before in
+tested c = let l = c .before .before .before .before in
     let a = l .before .before .before .before .args in
     c .is-other .ensures
     ∙ ap (isOther (now (a .name)) (now (a .sum)))
@@ -51,8 +49,7 @@ is-other-requires : tie.Need-is-other-requires Inv-loop μ-loop
 is-other-requires c κs = line-long (line-in (c .before .before)) (c .before .length-at .ensures) (c .part .ensures)
 
 returns : tie.Need-returns Inv-loop μ-loop
-returns c =
-    let l = c .before .before .before .before .before in
+returns c = let l = c .before .before .before .before .before in
     record {
       sought =
           record {
@@ -68,15 +65,13 @@ add-at : tie.Need-add-at Inv-loop μ-loop
 add-at c = omega (arith, line-in (c .before .before .before .before) .fits, c .before .before .before .length-at .ensures)
 
 loop-again : tie.Need-loop-again Inv-loop μ-loop
-loop-again c =
-    let l = c .before .before .before .before .before in
+loop-again c = let l = c .before .before .before .before .before in
     let i = line-in (c .before .before .before .before) in
     let size = c .before .before .before .length-at .ensures in
     (omega arith, omega arith, rw size (i .next), below-more _ _ (l .loop .inv .3) (λ h. sym (tested (c .before)) ∙ c .if1 .left))
 
 returns-2 : tie.Need-returns-2 Inv-loop μ-loop
-returns-2 c =
-    let l = c .before in
+returns-2 c = let l = c .before in
     record {
       sought =
           record { low = l .loop .inv .0; high = l .loop .inv .1; before = l .loop .inv .3; found = λ h. absurd (omega arith) };
@@ -84,7 +79,5 @@ returns-2 c =
     }
 
 pub seek-spec : {M : Type 1} → statement M
-seek-spec =
-    tie.close
-    (tie.spec Inv-loop μ-loop loop-holds (λ c κs. line-in c .some) (λ c κs. search needs) is-other-requires returns (λ c. omega arith) add-at (λ c. omega arith)
-    loop-again returns-2)
+seek-spec = tie.close (tie.spec Inv-loop μ-loop loop-holds (λ c κs. line-in c .some) (λ c κs. search needs) is-other-requires returns (λ c. omega arith)
+    add-at (λ c. omega arith) loop-again returns-2)

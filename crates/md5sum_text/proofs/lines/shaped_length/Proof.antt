@@ -14,8 +14,7 @@ use Rattle.md5sum_text.proofs.lines.shaped_length.Tie as tie
 -- what the test of the line at hand says
 tested : (c : tie.After-is-shaped) → let a = c .before .before .before .before .args in
     c .is-shaped .result ≡ isShaped (take (lineLength (drop (a .at) (now (a .text)))) (drop (a .at) (now (a .text))))
-tested c =
-    let a = c .before .before .before .before .args in
+tested c = let a = c .before .before .before .before .args in
     let s : List ℕ = drop (a .at) (now (a .text)) in
     c .is-shaped .ensures ∙ ap isShaped (c .before .part .ensures ∙ ap (λ (n : ℕ). take n s) (c .before .before .line-length .ensures))
 

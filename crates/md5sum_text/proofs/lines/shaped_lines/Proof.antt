@@ -28,8 +28,7 @@ abbrev shapes : ℕ → ℕ → Shapes
 shapes count end = record { count = count; end = end }
 
 returns : tie.Need-returns Inv-loop μ-loop
-returns c =
-    let l = c .before .before in
+returns c = let l = c .before .before in
     let s : List ℕ = now (l .before .before .args .text) in
     let stop = lines-stop s (l .loop .end) (sym (c .before .shaped-length .ensures) ∙ c .if1 .taken) in
     let count = ap (λ (x : Cut). length (x .pieces)) stop in
@@ -40,23 +39,20 @@ returns c =
 line-in : (c : tie.Else1 Inv-loop μ-loop)
     → let l = c .before .before in
     HasLine (drop (l .loop .end) (now (l .before .before .args .text)))
-line-in c =
-    let l = c .before .before in
+line-in c = let l = c .before .before in
     has-line (drop (l .loop .end) (now (l .before .before .args .text))) (omega (arith, c .before .shaped-length .ensures))
 
 -- it is one of the lines
 more-count : (c : tie.Else1 Inv-loop μ-loop) → let l = c .before .before in
     l .loop .count + 1 ≤ length (linesOf (now (l .before .before .args .text)) .pieces)
-more-count c =
-    let l = c .before .before in
+more-count c = let l = c .before .before in
     let more = lines-more (now (l .before .before .args .text)) (l .loop .end) (omega (arith, c .before .shaped-length .ensures)) in
     omega (arith, ap (λ (x : Cut). length (x .pieces)) more)
 
 fits : (c : tie.Else1 Inv-loop μ-loop)
     → let l = c .before .before in
     l .loop .end + c .before .shaped-length .result ≤ length (now (l .before .before .args .text))
-fits c =
-    let l = c .before .before in
+fits c = let l = c .before .before in
     omega (arith, line-in c .high, c .before .shaped-length .ensures, length-drop (l .loop .end) (now (l .before .before .args .text)))
 
 add-count : tie.Need-add-count Inv-loop μ-loop
@@ -69,8 +65,7 @@ loop-less : tie.Need-loop-less Inv-loop μ-loop
 loop-less c = omega (arith, fits c)
 
 loop-again : tie.Need-loop-again Inv-loop μ-loop
-loop-again c =
-    let l = c .before .before in
+loop-again c = let l = c .before .before in
     let s : List ℕ = now (l .before .before .args .text) in
     let size = c .before .shaped-length .ensures in
     let more = lines-more s (l .loop .end) (omega arith) in
@@ -78,6 +73,5 @@ loop-again c =
     (fits c, rw size (omega arith), rw size (sym (ap (λ (x : Cut). x .rest) more) ∙ l .loop .inv .2))
 
 pub shaped-lines-spec : {M : Type 1} → statement M
-shaped-lines-spec =
-    tie.close
-    (tie.spec Inv-loop μ-loop (λ c. (omega arith, omega arith, refl)) (λ c κs. search needs) returns add-count add-end loop-less loop-again)
+shaped-lines-spec = tie.close (tie.spec Inv-loop μ-loop (λ c. (omega arith, omega arith, refl)) (λ c κs. search needs) returns add-count add-end loop-less
+    loop-again)

@@ -24,8 +24,7 @@ abbrev μ-loop : tie.MeasureT-loop
 μ-loop name text i₀ i = length text - i
 
 returns : tie.Need-returns Inv-loop μ-loop
-returns c =
-    let a = c .before .before .before .args in sym (same-lengths (now (a .name)) (now (a .text)) (c .if1 .taken))
+returns c = let a = c .before .before .before .args in sym (same-lengths (now (a .name)) (now (a .text)) (c .if1 .taken))
 
 -- the unit and the byte at hand decide, or those after them do
 here : (s t : List ℕ) (i u : ℕ) → 2 * i + 2 ≤ length s → i + 1 ≤ length t → u ≡ leAt 2 s (2 * i)
@@ -35,8 +34,7 @@ here s t i u h k e =
     ∙ ap (λ (x : ℕ). eqb x (getD t i 0) && equal (unitsOf (drop (2 * (i + 1)) s)) (drop (i + 1) t)) (sym e)
 
 returns-2 : tie.Need-returns-2 Inv-loop μ-loop
-returns-2 c =
-    let l = c .before .before .before .before in
+returns-2 c = let l = c .before .before .before .before in
     let a = l .before .before .before .before .args in
     let read = c .before .before .read16 in
     sym
@@ -45,8 +43,7 @@ returns-2 c =
     ∙ l .loop .inv .1
 
 loop-again : tie.Need-loop-again Inv-loop μ-loop
-loop-again c =
-    let l = c .before .before .before .before in
+loop-again c = let l = c .before .before .before .before in
     let a = l .before .before .before .before .args in
     let read = c .before .before .read16 in (
       omega arith,
@@ -57,14 +54,11 @@ loop-again c =
     )
 
 returns-3 : tie.Need-returns-3 Inv-loop μ-loop
-returns-3 c =
-    let l = c .before in
+returns-3 c = let l = c .before in
     let a = l .before .before .before .before .args in
     sym (same-end (now (a .name)) (now (a .text)) (l .loop .i) (omega (arith, l .before .if1 .left)) (c .loop-test .left)) ∙ l .loop .inv .1
 
 pub units-are-spec : {M : Type 1} → statement M
-units-are-spec =
-    tie.close
-    (tie.spec Inv-loop μ-loop returns (λ c. (omega arith, refl)) (λ c. omega arith) (λ c κs. search needs) (λ c. omega arith)
+units-are-spec = tie.close (tie.spec Inv-loop μ-loop returns (λ c. (omega arith, refl)) (λ c. omega arith) (λ c κs. search needs) (λ c. omega arith)
     (λ c. omega (arith, c .shared-slice-known3 .given (c .before .before .before .loop .i))) returns-2 (λ c. omega arith) (λ c. omega arith) loop-again
     returns-3)

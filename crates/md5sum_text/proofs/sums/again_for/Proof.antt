@@ -18,8 +18,7 @@ tested : (c : tie.After-units-fit) → c .units-fit .result ≡ isFitting (now (
 tested c = c .units-fit .ensures ∙ ap (λ (n : List ℕ). unitsFit (unitsOf n)) (c .before .name-of .ensures)
 
 returns : tie.Need-returns
-returns c =
-    let s = c .before .before .before .before .before in
+returns c = let s = c .before .before .before .before .before in
     again-none (now (s .args .text)) (now (s .args .entry)) (s .args .count) (s .pre) (sym (tested (c .before)) ∙ not-true (c .before .units-fit .result) (c .if1 .taken))
 
 seek-requires : tie.Need-seek-requires
@@ -30,8 +29,7 @@ seek-requires-2 c κs =
     let f = c .before .seek .ensures in (f .sought .high, c .before .before .before .before .before .before .before .before .pre, f .stands)
 
 returns-2 : tie.Need-returns-2
-returns-2 c =
-    let fit = c .before .before .before .before in
+returns-2 c = let fit = c .before .before .before .before in
     let s = fit .before .before .before .before .before in
     let t : List ℕ = now (s .args .text) in
     let e : List ℕ = now (s .args .entry) in
@@ -43,6 +41,5 @@ returns-2 c =
     (found-as t e name (c .seek2 .ensures))
 
 pub again-for-spec : {M : Type 1} → statement M
-again-for-spec =
-    tie.close
-    (tie.spec (λ c κs. search needs) (λ c κs. search needs) returns (λ c. search needs) seek-requires (λ c κs. search needs) seek-requires-2 returns-2)
+again-for-spec = tie.close (tie.spec (λ c κs. search needs) (λ c κs. search needs) returns (λ c. search needs) seek-requires (λ c κs. search needs)
+    seek-requires-2 returns-2)

@@ -33,14 +33,12 @@ here c = entry-here _ _ (c .before .length-at .ensures) (c .if1 .left)
 
 loop-holds : tie.Need-loop-holds Inv-loop μ-loop
 unfolding againIn
-loop-holds c =
-    let s = c .before .before in
+loop-holds c = let s = c .before .before in
     let ls : List (List ℕ) = linesOf (now (s .args .text)) .pieces in
     (omega arith, omega (arith, s .pre), ap (λ (n : ℕ). firstBelow n (isAgain (entriesOf (now (s .args .list)) .pieces) ls)) (s .pre))
 
 returns : tie.Need-returns Inv-loop μ-loop
-returns c =
-    let l = c .before .before in
+returns c = let l = c .before .before in
     let a = l .before .before .before .args in
     let none = no-entry (now (a .list)) (l .loop .from) (c .before .length-at .ensures) (c .if1 .taken) in
     again-end (l .loop .first) (linesOf (now (a .text)) .pieces) none ∙ l .loop .inv .2
@@ -52,8 +50,7 @@ loop-less : tie.Need-loop-less Inv-loop μ-loop
 loop-less c = let i = here (c .before .before) in omega (arith, i .low, i .fits)
 
 loop-again : tie.Need-loop-again Inv-loop μ-loop
-loop-again c =
-    let known = c .before .before in
+loop-again c = let known = c .before .before in
     let i = here known in
     let l = known .before .before in
     let a = l .before .before .before .args in
@@ -69,7 +66,5 @@ loop-again c =
     )
 
 pub again-in-spec : {M : Type 1} → statement M
-again-in-spec =
-    tie.close
-    (tie.spec Inv-loop μ-loop loop-holds (λ c κs. search needs) returns (λ c κs. search needs)
+again-in-spec = tie.close (tie.spec Inv-loop μ-loop loop-holds (λ c κs. search needs) returns (λ c κs. search needs)
     (λ c κs. c .before .before .before .loop .inv .1) add-from loop-less loop-again)

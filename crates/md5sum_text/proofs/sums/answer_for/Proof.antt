@@ -23,15 +23,13 @@ tested : (c : tie.After-units-fit) → c .units-fit .result ≡ isFitting (now (
 tested c = c .units-fit .ensures ∙ ap (λ (n : List ℕ). unitsFit (unitsOf n)) (c .before .name-of .ensures)
 
 returns : tie.Need-returns
-returns c =
-    let s = c .before .before .before .before .before in
+returns c = let s = c .before .before .before .before .before in
     sym
     (answer-unfit (linesOf (now (s .args .text)) .pieces) (now (s .args .entry))
     (sym (tested (c .before)) ∙ not-true (c .before .units-fit .result) (c .if1 .taken)))
 
 returns-2 : tie.Need-returns-2
-returns-2 c =
-    let seek = c .before .before in
+returns-2 c = let seek = c .before .before in
     let fit = seek .before .before in
     let s = fit .before .before .before .before .before in
     let fits = sym (tested (fit .before)) ∙ not-false (fit .before .units-fit .result) (fit .if1 .left) in
@@ -43,8 +41,7 @@ returns-2 c =
 compared : (c : tie.After-is-sum)
     → let s = c .before .before .before .before .before .before .before .before .before .before .before in
     answerFor (linesOf (now (s .args .text)) .pieces) (now (s .args .entry)) ≡ cond (c .is-sum .result) 1 2
-compared c =
-    let seek = c .before .before .before .before in
+compared c = let seek = c .before .before .before .before in
     let fit = seek .before .before in
     let s = fit .before .before .before .before .before in
     let t : List ℕ = now (s .args .text) in
@@ -65,8 +62,6 @@ returns-4 : tie.Need-returns-4
 returns-4 c = sym (compared (c .before) ∙ ap (λ (b : Bool). cond b 1 2) (c .if3 .left))
 
 pub answer-for-spec : {M : Type 1} → statement M
-answer-for-spec =
-    tie.close
-    (tie.spec (λ c κs. search needs) (λ c κs. search needs) returns (λ c. search needs)
-    (λ c κs. (omega arith, omega (arith, c .before .before .before .before .before .before .pre), refl)) returns-2 (λ c κs. search needs) (λ c κs. search needs)
-    returns-3 returns-4)
+answer-for-spec = tie.close (tie.spec (λ c κs. search needs) (λ c κs. search needs) returns (λ c. search needs)
+    (λ c κs. (omega arith, omega (arith, c .before .before .before .before .before .before .pre), refl)) returns-2 (λ c κs. search needs)
+    (λ c κs. search needs) returns-3 returns-4)

@@ -19,8 +19,7 @@ use Rattle.md5sum_text.proofs.sums.is_sum.Tie as tie
 
 -- what is put into a buffer that is long enough stands at its front
 held : (t l : List ℕ) {m : List ℕ} {n : ℕ} → length t ≤ length l → length l ≤ usizeMax → buffer m n ≡ put (buffer l 0) t → take n m ≡ t
-held t l h k e =
-    let whole = e ∙ put-whole l t h k in
+held t l h k e = let whole = e ∙ put-whole l t h k in
     ap₂ (λ (n : ℕ) (m : List ℕ). take n m) (ap (λ (b : Buffer). b .at) whole) (ap (λ (b : Buffer). b .bytes) whole)
     ∙ take-append-seam t (drop (length t) l)
 
@@ -28,8 +27,7 @@ sum-most : (e : List ℕ) → length (hexBytes (md5Of e)) ≤ 32
 sum-most e = omega (arith, hex-length (md5Of e), length-take 16 (drop 24 e))
 
 returns : tie.Need-returns
-returns c =
-    let put = c .before .before .before .before in
+returns c = let put = c .before .before .before .before in
     let a = put .before .before .before .before .before .args in
     let hash = put .before .before .part .ensures in
     c .same .ensures
@@ -39,6 +37,5 @@ returns c =
     ∙ ap hexBytes hash)
 
 pub is-sum-spec : {M : Type 1} → statement M
-is-sum-spec =
-    tie.close
-    (tie.spec (λ c κs. search needs) (λ c. search needs) (λ c κs. search needs) (λ c. search needs) (λ c κs. search needs) (λ c κs. search needs) returns)
+is-sum-spec = tie.close (tie.spec (λ c κs. search needs) (λ c. search needs) (λ c κs. search needs) (λ c. search needs) (λ c κs. search needs)
+    (λ c κs. search needs) returns)

@@ -18,8 +18,7 @@ use Rattle.md5sum_text.proofs.sums.put_answers.Statement.{statement}
 use Rattle.md5sum_text.proofs.sums.put_answers.Tie as tie
 
 abbrev Inv-loop : tie.InvT-loop
-Inv-loop out₀ list text count at₀ from₀ out at from =
-    let answer : List ℕ → ℕ = answerFor (linesOf text .pieces) in
+Inv-loop out₀ list text count at₀ from₀ out at from = let answer : List ℕ → ℕ = answerFor (linesOf text .pieces) in
     (from ≤ length list) × (length out ≡ length out₀) × (at ≤ usizeMax)
     × (put (buffer out at) (map answer (entriesOf (drop from list) .pieces)) ≡ put (buffer out₀ at₀) (map answer (entriesOf list .pieces)))
 
@@ -32,8 +31,7 @@ here : (c : tie.Else1 Inv-loop μ-loop)
 here c = entry-here _ _ (c .before .length-at .ensures) (c .if1 .left)
 
 returns : tie.Need-returns Inv-loop μ-loop
-returns c =
-    let l = c .before .before in
+returns c = let l = c .before .before in
     let a = l .before .before .before .before .args in
     let none = no-entry (now (a .list)) (l .loop .from) (c .before .length-at .ensures) (c .if1 .taken) in
     put-over _ _ (l .loop .inv .3) (l .loop .inv .2) (ap (map (answerFor (linesOf (now (a .text)) .pieces))) none)
@@ -45,8 +43,7 @@ loop-less : tie.Need-loop-less Inv-loop μ-loop
 loop-less c = let i = here (c .before .before .before .before .before .before) in omega (arith, i .low, i .fits)
 
 loop-again : tie.Need-loop-again Inv-loop μ-loop
-loop-again c =
-    let stored = c .before .before in
+loop-again c = let stored = c .before .before in
     let h = stored .before .before .before .before in
     let i = here h in
     let l = h .before .before in
@@ -63,8 +60,6 @@ loop-again c =
     )
 
 pub put-answers-spec : {M : Type 1} → statement M
-put-answers-spec =
-    tie.close
-    (tie.spec Inv-loop μ-loop (λ c. (omega arith, refl, omega arith, refl)) (λ c κs. search needs) (λ c. omega arith) returns
-    (λ c κs. search needs) (λ c κs. c .before .before .before .before .before .before .before .before .pre) (λ c κs. search needs) add-from
-    loop-less loop-again)
+put-answers-spec = tie.close (tie.spec Inv-loop μ-loop (λ c. (omega arith, refl, omega arith, refl)) (λ c κs. search needs) (λ c. omega arith) returns
+    (λ c κs. search needs) (λ c κs. c .before .before .before .before .before .before .before .before .pre) (λ c κs. search needs) add-from loop-less
+    loop-again)

@@ -22,15 +22,13 @@ module _ (c : tie.Start) where
   rest-is = omega (arith, ap (λ (x : Shapes). x .end) (c .pre), cut-length shapedLength (now (c .args .text)))
 
 returns : tie.Need-returns
-returns c =
-    let again = c .before .before .again-in in
+returns c = let again = c .before .before .again-in in
     let s = c .before .before .before .before .before in
     sym
     (text-again (entriesOf (now (s .args .list)) .pieces) (linesOf (now (s .args .text))) (again .ensures) (omega (arith, count-is s, c .if1 .taken)))
 
 returns-2 : tie.Need-returns-2
-returns-2 c =
-    let again = c .before .before .before .before .before .again-in in
+returns-2 c = let again = c .before .before .before .before .before .again-in in
     let s = c .before .before .before .before .before .before .before .before in
     let t = linesOf (now (s .args .text)) in
     sym
@@ -39,8 +37,7 @@ returns-2 c =
     ∙ ap (λ (n : ℕ). record { number = 22; place = n + 1 }) (sym (count-is s)))
 
 returns-3 : tie.Need-returns-3
-returns-3 c =
-    let again = c .before .before .before .before .before .again-in in
+returns-3 c = let again = c .before .before .before .before .before .again-in in
     let s = c .before .before .before .before .before .before .before .before in
     let t = linesOf (now (s .args .text)) in
     c .bare .ensures
@@ -49,8 +46,6 @@ returns-3 c =
     ∙ shape-none (length (t .pieces)) (t .rest) (omega (arith, rest-is s, c .before .if2 .left)))
 
 pub refusal-spec : {M : Type 1} → statement M
-refusal-spec =
-    tie.close
-    (tie.spec (λ c κs. count-is (c .before .before)) (λ c. omega arith) returns
+refusal-spec = tie.close (tie.spec (λ c κs. count-is (c .before .before)) (λ c. omega arith) returns
     (λ c. let s = c .before .before .before .before .before .before .before .before in omega (arith, count-is s, cut-count shapedLength (now (s .args .text)), s .good .1 .0 .1))
     returns-2 (λ c κs. search needs) returns-3)

@@ -31,21 +31,17 @@ returns c = simp (ne-eqb _ _ (λ z. c .if1 .taken (c .before .read64 .ensures �
 
 returns-2 : tie.Need-returns-2
 unfolding isDescribed
-returns-2 c =
-    let whole = sym (whole-test (c .before)) ∙ not-true (c .before .matches .result) (c .if2 .taken) in
+returns-2 c = let whole = sym (whole-test (c .before)) ∙ not-true (c .before .matches .result) (c .if2 .taken) in
     simp (size-passed (c .before .before .before), whole)
 
 returns-3 : tie.Need-returns-3
 unfolding isDescribed
-returns-3 c =
-    let b = c .before .before .before in
+returns-3 c = let b = c .before .before .before in
     let whole = sym (whole-test (b .before)) ∙ not-false (b .before .matches .result) (b .if2 .left) in
     c .matches2 .ensures
     ∙ ap₂ (λ (h m : List _). equal h (md5 m)) (c .before .before .part2 .ensures) (c .before .first-part .ensures)
     ∙ simp (size-passed (b .before .before .before), whole)
 
 pub is-described-spec : {M : Type 1} → statement M
-is-described-spec =
-    tie.close
-    (tie.spec (λ c κs. search needs) returns (λ c κs. search needs) (λ c κs. search needs) returns-2 (λ c κs. search needs) (λ c κs. search needs)
-    (λ c κs. search needs) returns-3)
+is-described-spec = tie.close (tie.spec (λ c κs. search needs) returns (λ c κs. search needs) (λ c κs. search needs) returns-2 (λ c κs. search needs)
+    (λ c κs. search needs) (λ c κs. search needs) returns-3)

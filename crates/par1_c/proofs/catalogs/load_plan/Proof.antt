@@ -18,6 +18,4 @@ returns c = let l = c .before .before .before in
     λ j. record { answer = number j; count = count j }
 
 pub load-plan-spec : {M : Type 1} → statement M
-load-plan-spec =
-    tie.close
-    (tie.spec (λ c κs. search needs) (λ c κs. search needs) answer-requires (λ c κs. search needs) returns)
+load-plan-spec = tie.close (tie.spec (λ c κs. search needs) (λ c κs. search needs) answer-requires (λ c κs. search needs) returns)

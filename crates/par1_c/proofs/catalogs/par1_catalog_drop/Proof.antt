@@ -15,6 +15,4 @@ returns c = let t = c .before in
     rw (c .answer .ensures) (rw (t .length-told .ensures) (ap answeredLength (t .before .before .before .drop-volume .ensures)))
 
 pub par1-catalog-drop-spec : {M : Type 1} → statement M
-par1-catalog-drop-spec =
-    tie.close
-    (tie.spec (λ c κs. search needs) (λ c κs. search needs) answer-requires (λ c. search needs) returns)
+par1-catalog-drop-spec = tie.close (tie.spec (λ c κs. search needs) (λ c κs. search needs) answer-requires (λ c. search needs) returns)

@@ -8,8 +8,7 @@ use Rattle.par1_c.proofs.inventories.par1_add_file.Statement.{statement
 use Rattle.par1_c.proofs.inventories.par1_add_file.Tie as tie
 
 returns : tie.Need-returns
-returns c =
-    let s = c .before .before in
+returns c = let s = c .before .before in
     changed-same _ (changeStep addFile) _ (s .before .before .before .loaded .ensures) (s .before .before .add-file .ensures) (s .store .ensures)
 
 pub par1-add-file-spec : {M : Type 1} → statement M

@@ -12,8 +12,7 @@ returns : tie.Need-returns
 returns c = unknown-told _ _ _ (c .before .is-code .ensures) (c .if1 .taken)
 
 returns-2 : tie.Need-returns-2
-returns-2 c =
-    let s = c .before .before in
+returns-2 c = let s = c .before .before in
     let k = s .before .before .before in
     let l = k .before in
     let i = l .before .before in
@@ -21,7 +20,5 @@ returns-2 c =
     (changed-same _ (changeStep (addVolume (k .code-of .result))) _ (l .loaded .ensures) (s .before .before .add-volume .ensures) (s .store .ensures))
 
 pub par1-add-volume-spec : {M : Type 1} → statement M
-par1-add-volume-spec =
-    tie.close
-    (tie.spec (λ c κs. search needs) returns (λ c κs. search needs) (λ c κs. search needs) (λ c κs. search needs) (λ c κs. search needs) (λ c. search needs)
-    returns-2)
+par1-add-volume-spec = tie.close (tie.spec (λ c κs. search needs) returns (λ c κs. search needs) (λ c κs. search needs) (λ c κs. search needs)
+    (λ c κs. search needs) (λ c. search needs) returns-2)

@@ -8,8 +8,7 @@ use Rattle.par1_c.proofs.inventories.par1_quarantine.Statement.{stateme
 use Rattle.par1_c.proofs.inventories.par1_quarantine.Tie as tie
 
 returns : tie.Need-returns
-returns c =
-    let s = c .before .before in
+returns c = let s = c .before .before in
     changed-same _ (changeStep quarantine) _ (s .before .before .before .loaded .ensures) (s .before .before .quarantine .ensures) (s .store .ensures)
 
 pub par1-quarantine-spec : {M : Type 1} → statement M

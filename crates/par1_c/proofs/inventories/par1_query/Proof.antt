@@ -10,8 +10,7 @@ use Rattle.par1_c.proofs.inventories.par1_query.Statement.{statement}
 use Rattle.par1_c.proofs.inventories.par1_query.Tie as tie
 
 returns : tie.Need-returns
-returns c =
-    let q = c .before .before .before in
+returns c = let q = c .before .before .before in
     let l = q .before .before in
     let a = l .before .before .before .args in
     record {

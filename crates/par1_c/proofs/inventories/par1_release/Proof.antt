@@ -8,8 +8,7 @@ use Rattle.par1_c.proofs.inventories.par1_release.Statement.{statement}
 use Rattle.par1_c.proofs.inventories.par1_release.Tie as tie
 
 returns : tie.Need-returns
-returns c =
-    let s = c .before .before in
+returns c = let s = c .before .before in
     changed-same _ (changeStep release) _ (s .before .before .before .loaded .ensures) (s .before .before .release .ensures) (s .store .ensures)
 
 pub par1-release-spec : {M : Type 1} → statement M

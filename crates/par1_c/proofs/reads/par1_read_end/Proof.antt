@@ -14,5 +14,4 @@ returns : tie.Need-returns
 returns c = rw (c .answer .ensures) (ap answeredEnd (c .before .before .before .before .before .end-read .ensures))
 
 pub par1-read-end-spec : {M : Type 1} → statement M
-par1-read-end-spec =
-    tie.close (tie.spec (λ c κs. search needs) answer-requires (λ c. search needs) (λ c. search needs) returns)
+par1-read-end-spec = tie.close (tie.spec (λ c κs. search needs) answer-requires (λ c. search needs) (λ c. search needs) returns)

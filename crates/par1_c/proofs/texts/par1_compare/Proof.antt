@@ -11,11 +11,8 @@ answer-requires : tie.Need-answer-requires
 answer-requires c κs = compare-asked _ _ _ (c .before .before .before .compare .ensures) (c .length-told .ensures)
 
 returns : tie.Need-returns
-returns c =
-    let t = c .before in
+returns c = let t = c .before in
     rw (c .answer .ensures) (rw (t .length-told .ensures) (ap answeredLength (t .before .before .before .compare .ensures)))
 
 pub par1-compare-spec : {M : Type 1} → statement M
-par1-compare-spec =
-    tie.close
-    (tie.spec (λ c κs. search needs) (λ c κs. search needs) answer-requires (λ c. search needs) returns)
+par1-compare-spec = tie.close (tie.spec (λ c κs. search needs) (λ c κs. search needs) answer-requires (λ c. search needs) returns)

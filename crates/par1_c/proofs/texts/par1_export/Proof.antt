@@ -12,11 +12,8 @@ answer-requires : tie.Need-answer-requires
 answer-requires c κs = export-asked _ _ (omega arith) (c .before .before .before .export .ensures) (c .length-told .ensures)
 
 returns : tie.Need-returns
-returns c =
-    let t = c .before in
+returns c = let t = c .before in
     rw (c .answer .ensures) (rw (t .length-told .ensures) (ap answeredLength (t .before .before .before .export .ensures)))
 
 pub par1-export-spec : {M : Type 1} → statement M
-par1-export-spec =
-    tie.close
-    (tie.spec (λ c κs. search needs) (λ c κs. search needs) answer-requires (λ c. search needs) returns)
+par1-export-spec = tie.close (tie.spec (λ c κs. search needs) (λ c κs. search needs) answer-requires (λ c. search needs) returns)

@@ -13,8 +13,7 @@ use Rattle.par1_read.proofs.reading.header_refusal.Tie as tie
 
 returns : tie.Need-returns
 unfolding headerRefusal
-returns c =
-    let laid = c .before .before .before .before in
+returns c = let laid = c .before .before .before .before in
     let read = laid .before .before in
     let signed = ap₂ (λ (n k : ℕ). eqb n k) (read .before .read64 .ensures) (sym signature-is) in
     let version = laid .before .version-allowed .ensures ∙ ap versionAllowed (read .read32 .ensures) in
@@ -24,7 +23,5 @@ returns c =
     (test-of 4 (c .before .before .before .test .ensures) (laid .layout-allowed .ensures) refl)))
 
 pub header-refusal-spec : {M : Type 1} → statement M
-header-refusal-spec =
-    tie.close
-    (tie.spec (λ c κs. search needs) (λ c κs. search needs) (λ c κs. search needs) (λ c κs. search needs) (λ c κs. search needs) (λ c κs. search needs)
-    (λ c κs. search needs) (λ c κs. search needs) (λ c κs. search needs) returns)
+header-refusal-spec = tie.close (tie.spec (λ c κs. search needs) (λ c κs. search needs) (λ c κs. search needs) (λ c κs. search needs)
+    (λ c κs. search needs) (λ c κs. search needs) (λ c κs. search needs) (λ c κs. search needs) (λ c κs. search needs) returns)

@@ -28,8 +28,7 @@ part-digest-start : tie.Need-part-digest-start
 part-digest-start c = omega (arith, passed (c .before .before) .size .low)
 
 returns-2 : tie.Need-returns-2
-returns-2 c =
-    let hashed = c .before .before .before .before in
+returns-2 c = let hashed = c .before .before .before .before in
     let digest = hashed .before in
     let found = digest .before .before in
     let f : List ℕ = now (found .before .before .before .before .before .args .file) in
@@ -38,8 +37,6 @@ returns-2 c =
     c .read-from .ensures ∙ read-as f list control (hashed .of-set .ensures) (c .before .walk .ensures)
 
 pub read-spec : {M : Type 1} → statement M
-read-spec =
-    tie.close
-    (tie.spec (λ c κs. search needs) (λ c κs. search needs) returns (λ c κs. search needs) (λ c κs. search needs) sub-digest part-digest-start
-    (λ c. search needs) (λ c κs. search needs) (λ c κs. search needs) (λ c. search needs) (λ c. search needs) (λ c κs. search needs) (λ c κs. search needs)
-    returns-2)
+read-spec = tie.close (tie.spec (λ c κs. search needs) (λ c κs. search needs) returns (λ c κs. search needs) (λ c κs. search needs) sub-digest
+    part-digest-start (λ c. search needs) (λ c κs. search needs) (λ c κs. search needs) (λ c. search needs) (λ c. search needs) (λ c κs. search needs)
+    (λ c κs. search needs) returns-2)

@@ -11,8 +11,7 @@ returns : tie.Need-returns
 returns c = sym (from-refused _ _ _ _ _ (c .before .before .refusal-from .ensures) (c .if1 .taken))
 
 returns-2 : tie.Need-returns-2
-returns-2 c =
-    let passed = c .before .before in
+returns-2 c = let passed = c .before .before in
     let none = ap (λ (r : Refusal). r .number) (sym (passed .before .before .refusal-from .ensures)) ∙ passed .if1 .left in
     sym (from-accepted _ _ _ _ _ none (c .before .saved-in .ensures) (c .parts-from .ensures))
 

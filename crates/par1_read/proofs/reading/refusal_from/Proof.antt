@@ -10,6 +10,5 @@ unfolding refusalFrom
 returns c = cc
 
 pub refusal-from-spec : {M : Type 1} → statement M
-refusal-from-spec =
-    tie.close
-    (tie.spec (λ c κs. search needs) (λ c κs. search needs) (λ c κs. search needs) (λ c κs. search needs) (λ c κs. search needs) returns)
+refusal-from-spec = tie.close (tie.spec (λ c κs. search needs) (λ c κs. search needs) (λ c κs. search needs) (λ c κs. search needs) (λ c κs. search needs)
+    returns)

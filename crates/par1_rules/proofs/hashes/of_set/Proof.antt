@@ -33,13 +33,11 @@ entry-in : (c : tie.After-known-told Inv-loop μ-loop)
 entry-in c = entry-at _ _ (c .before .before .before .at .ensures) (c .before .length .given .1)
 
 loop-holds : tie.Need-loop-holds Inv-loop μ-loop
-loop-holds c =
-    let s : List ℕ = now (c .before .before .args .list) in
+loop-holds c = let s : List ℕ = now (c .before .before .args .list) in
     (omega arith, ap (λ (h : Md5). finished (pushedOver h (entriesOf s .pieces))) (c .new .ensures) ∙ set-start _)
 
 returns : tie.Need-returns Inv-loop μ-loop
-returns c =
-    let l = c .before .before .before .loop in
+returns c = let l = c .before .before .before .loop in
     let none = entries-none _ _ (c .before .before .at .ensures) (c .before .match .keys2) in
     c .finish .ensures ∙ ap finished (sym (set-none (l .hash) none)) ∙ l .inv .1
 
@@ -53,8 +51,7 @@ loop-less : tie.Need-loop-less Inv-loop μ-loop
 loop-less c = let i = entry-in (c .before .before) in omega (arith, i .low, i .fits)
 
 loop-again : tie.Need-loop-again Inv-loop μ-loop
-loop-again c =
-    let known = c .before .before in
+loop-again c = let known = c .before .before in
     let i = entry-in known in
     let e = known .before .length .given .0 in
     let l = known .before .before .before .before in
@@ -67,7 +64,5 @@ loop-again c =
     )
 
 pub of-set-spec : {M : Type 1} → statement M
-of-set-spec =
-    tie.close
-    (tie.spec Inv-loop μ-loop (λ c κs. search needs) loop-holds (λ c κs. search needs) (λ c. search needs) (λ c κs. search needs) returns add-part
-    (λ c κs. search needs) (λ c κs. search needs) add-from loop-less loop-again)
+of-set-spec = tie.close (tie.spec Inv-loop μ-loop (λ c κs. search needs) loop-holds (λ c κs. search needs) (λ c. search needs) (λ c κs. search needs)
+    returns add-part (λ c κs. search needs) (λ c κs. search needs) add-from loop-less loop-again)

@@ -22,16 +22,14 @@ returns-3 c = simp (ne-eqb _ _ (c .before .if2 .left), c .if3 .taken)
 
 returns-4 : tie.Need-returns-4
 unfolding numberAllowed
-returns-4 c =
-    let a = c .before .before .before .before .args in
+returns-4 c = let a = c .before .before .before .before .args in
     let few = le-leb _ _ (c .before .before .before .if1 .left) in
     let volume = ne-eqb _ _ (c .before .before .if2 .left) in
     simp (few, volume, le-leb 1 (a .saved) (omega arith), lt-leb (a .number + a .saved) 255 (omega arith))
 
 returns-5 : tie.Need-returns-5
 unfolding numberAllowed
-returns-5 c =
-    let a = c .before .before .before .before .args in
+returns-5 c = let a = c .before .before .before .before .args in
     let few = le-leb _ _ (c .before .before .before .if1 .left) in
     let volume = ne-eqb _ _ (c .before .before .if2 .left) in
     simp (few, volume, le-leb 1 (a .saved) (omega arith), le-leb (a .number + a .saved) 255 (omega arith))

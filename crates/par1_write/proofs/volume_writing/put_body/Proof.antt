@@ -11,8 +11,7 @@ use Rattle.par1_write.proofs.volume_writing.put_body.Tie as tie
 
 returns : tie.Need-returns
 unfolding bodyBytes
-returns c =
-    let fourth = c .before .before in
+returns c = let fourth = c .before .before in
     let third = fourth .before .before .before .before in
     let second = third .before .before .before .before in
     let one = second .before .before .before .before in
@@ -22,7 +21,5 @@ returns c =
     (stored _ refl (third .put2 .ensures) (stored _ refl (fourth .put3 .ensures) stored-all))))
 
 pub put-body-spec : {M : Type 1} → statement M
-put-body-spec =
-    tie.close
-    (tie.spec (λ c κs. search needs) (λ c. search needs) (λ c κs. search needs) (λ c κs. search needs) (λ c κs. search needs) (λ c. search needs)
-    (λ c κs. search needs) (λ c. search needs) returns)
+put-body-spec = tie.close (tie.spec (λ c κs. search needs) (λ c. search needs) (λ c κs. search needs) (λ c κs. search needs) (λ c κs. search needs)
+    (λ c. search needs) (λ c κs. search needs) (λ c. search needs) returns)

@@ -13,8 +13,7 @@ use Rattle.par1_write.proofs.volume_writing.put_head.Tie as tie
 
 returns : tie.Need-returns
 unfolding headBytes
-returns c =
-    let fourth = c .before .before in
+returns c = let fourth = c .before .before in
     let third = fourth .before .before .before .before .before in
     let second = third .before .before .before .before in
     let one = second .before .before .before .before in
@@ -27,7 +26,5 @@ returns c =
     (stored-as 16 (length-md5 _) (hashed .digest .ensures) (fourth .put .ensures) stored-all))))
 
 pub put-head-spec : {M : Type 1} → statement M
-put-head-spec =
-    tie.close
-    (tie.spec (λ c κs. search needs) (λ c. search needs) (λ c. search needs) (λ c. search needs) (λ c κs. search needs) (λ c κs. search needs)
-    (λ c κs. search needs) (λ c κs. search needs) (λ c. search needs) (λ c κs. search needs) (λ c. search needs) returns)
+put-head-spec = tie.close (tie.spec (λ c κs. search needs) (λ c. search needs) (λ c. search needs) (λ c. search needs) (λ c κs. search needs)
+    (λ c κs. search needs) (λ c κs. search needs) (λ c κs. search needs) (λ c. search needs) (λ c κs. search needs) (λ c. search needs) returns)

@@ -21,24 +21,20 @@ shared-slice-read-changed-by : tie.Need-shared-slice-read-changed-by
 shared-slice-read-changed-by c = omega (arith, event-long _ (c .before .before .pre))
 
 sub-value-of : tie.Need-sub-value-of
-sub-value-of c =
-    let s = c .before .before in
+sub-value-of c = let s = c .before .before in
     omega (arith, event-long _ (s .pre))
 
 part-value-of-start : tie.Need-part-value-of-start
-part-value-of-start c =
-    let s = c .before .before in
+part-value-of-start c = let s = c .before .before in
     omega (arith, event-long _ (s .pre))
 
 returns : tie.Need-returns
-returns c =
-    let a = c .before .before .before .before .before .args in
+returns c = let a = c .before .before .before .before .before .args in
     let l = now (a .line) in
     c .changed-by .ensures
     ∙ ap (changeStep (changeOf (getD l 0 0)) (a .inventory)) (c .before .value-of .ensures ∙ ap (λ (w : List ℕ). min (valueOf w) usizeMax) (part-to-end l 2))
     ∙ change-cut (changeOf (getD l 0 0)) (a .inventory) (numberIn l)
 
 pub changed-spec : {M : Type 1} → statement M
-changed-spec =
-    tie.close
-    (tie.spec shared-slice-read-changed-by sub-value-of part-value-of-start (λ c. search needs) (λ c κs. search needs) (λ c κs. search needs) returns)
+changed-spec = tie.close (tie.spec shared-slice-read-changed-by sub-value-of part-value-of-start (λ c. search needs) (λ c κs. search needs)
+    (λ c κs. search needs) returns)

@@ -24,8 +24,7 @@ returns-4 c = sym (ap isLetter (c .match .keys4))
 
 returns-5 : tie.Need-returns-5
 unfolding isLetter
-returns-5 c =
-    let q = c .match .rest in
+returns-5 c = let q = c .match .rest in
     let b = c .before .args .letter in
     sym (rw (ne-eqb b 70 (q .0 .0 .0 .1), ne-eqb b 86 (q .0 .0 .1), ne-eqb b 102 (q .0 .1), ne-eqb b 118 (q .1)) refl)
 

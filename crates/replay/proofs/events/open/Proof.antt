@@ -28,8 +28,7 @@ unended c z = c .if2 .left (c .before .line-length .ensures ∙ z)
 
 body : (c : tie.Else2) → let log = now (c .before .before .before .before .args .log) in
     take (c .before .line-length .result - 1) log ≡ bodyOf (take (lineLength log) log)
-body c =
-    let log = now (c .before .before .before .before .args .log) in
+body c = let log = now (c .before .before .before .before .args .log) in
     let q = unended c in
     let e = c .before .line-length .ensures in
     ap (λ (n : ℕ). take n log) (let k : c .before .line-length .result - 1 ≡ 0 + lineLength log - 1 - 0 = omega arith in k)
@@ -39,16 +38,14 @@ returns : tie.Need-returns
 returns c = c .ended .ensures ∙ opening-long (now (c .before .before .before .args .log)) (c .before .if1 .taken)
 
 returns-2 : tie.Need-returns-2
-returns-2 c =
-    let log = now (c .before .before .before .before .before .args .log) in
+returns-2 c = let log = now (c .before .before .before .before .before .args .log) in
     c .ended2 .ensures ∙ opening-none log (c .before .before .before .if1 .left) (sym (c .before .before .line-length .ensures) ∙ c .before .if2 .taken)
 
 slice-aggregate-open-line : tie.Need-slice-aggregate-open-line
 slice-aggregate-open-line c = simp length-take (omega (arith, inside (c .before)))
 
 returns-3 : tie.Need-returns-3
-returns-3 c =
-    let l = c .before .before .before .before .before in
+returns-3 c = let l = c .before .before .before .before .before in
     let log = now (l .before .before .before .before .args .log) in
     let o = c .before .before .before .open-line in
     c .ended3 .ensures
@@ -56,8 +53,7 @@ returns-3 c =
     (sym (ap isFirstLine (body l)) ∙ sym (o .ensures .shape) ∙ not-true (o .result .shaped) (c .before .if3 .taken))
 
 returns-4 : tie.Need-returns-4
-returns-4 c =
-    let l = c .before .before .before .before .before .before in
+returns-4 c = let l = c .before .before .before .before .before .before in
     let log = now (l .before .before .before .before .args .log) in
     let o = c .before .before .before .before .open-line in
     let ok = not-false (o .result .shaped) (c .before .before .if3 .left) in
@@ -66,7 +62,5 @@ returns-4 c =
     ∙ opening-opens log (l .before .before .if1 .left) (unended l) (sym (ap isFirstLine (body l)) ∙ sym (o .ensures .shape) ∙ ok)
 
 pub open-spec : {M : Type 1} → statement M
-open-spec =
-    tie.close
-    (tie.spec (λ c κs. search needs) returns (λ c κs. search needs) (λ c κs. search needs) returns-2 (λ c. search needs) slice-aggregate-open-line
-    (λ c κs. search needs) (λ c κs. search needs) returns-3 (λ c κs. search needs) returns-4)
+open-spec = tie.close (tie.spec (λ c κs. search needs) returns (λ c κs. search needs) (λ c κs. search needs) returns-2 (λ c. search needs)
+    slice-aggregate-open-line (λ c κs. search needs) (λ c κs. search needs) returns-3 (λ c κs. search needs) returns-4)

@@ -27,16 +27,14 @@ abbrev μ-loop : tie.MeasureT-loop
 
 -- the word at hand lies in the line
 inside : (c : tie.After-word-length Inv-loop μ-loop) → let l = c .before in l .loop .at + c .word-length .result ≤ length (now (l .before .before .args .line))
-inside c =
-    let l = c .before in
+inside c = let l = c .before in
     let line = now (l .before .before .args .line) in
     omega (arith, c .word-length .ensures, word-most (drop (l .loop .at) line), length-drop (l .loop .at) line, l .loop .inv .inside)
 
 word : (c : tie.After-word-length Inv-loop μ-loop) → let l = c .before in
     let s = drop (l .loop .at) (now (l .before .before .args .line)) in
     take (l .loop .at + c .word-length .result - l .loop .at) s ≡ take (wordLength s) s
-word c =
-    let l = c .before in
+word c = let l = c .before in
     let s = drop (l .loop .at) (now (l .before .before .args .line)) in
     let k : l .loop .at + c .word-length .result - l .loop .at ≡ c .word-length .result = omega arith in
     ap (λ (n : ℕ). take n s) (k ∙ c .word-length .ensures)
@@ -45,14 +43,12 @@ word c =
 decimal : (c : tie.Else1 Inv-loop μ-loop) → let l = c .before .before .before .before in
     let s = drop (l .loop .at) (now (l .before .before .args .line)) in
     isDecimal (take (wordLength s) s) ≡ true
-decimal c =
-    let ok = c .before .is-decimal in
+decimal c = let ok = c .before .is-decimal in
     sym (ap isDecimal (word (c .before .before .before))) ∙ sym (ok .ensures) ∙ not-false (ok .result) (c .if1 .left)
 
 -- of a digit or more
 long : (c : tie.Else1 Inv-loop μ-loop) → 0 < c .before .before .before .word-length .result
-long c =
-    let w = c .before .before .before in
+long c = let w = c .before .before .before in
     let l = w .before in
     let s = drop (l .loop .at) (now (l .before .before .args .line)) in
     omega (arith, w .word-length .ensures, decimal-long (take (wordLength s) s) (decimal c), length-take-le (wordLength s) s (word-most s))
@@ -61,8 +57,7 @@ long c =
 kept : (c : tie.Joined2 Inv-loop μ-loop) → let l = c .before .before .before .before .before in
     let s = drop (l .loop .at) (now (l .before .before .args .line)) in
     Stored (l .loop .values) (l .loop .count) (min (valueOf (take (wordLength s) s)) usizeMax) (c .if2 .values)
-kept c =
-    let w = c .before .before .before .before in
+kept c = let w = c .before .before .before .before in
     let l = w .before in
     ⊎-elim
     (λ z.
@@ -80,39 +75,33 @@ part-word-end : tie.Need-part-word-end Inv-loop μ-loop
 part-word-end c = omega (arith, inside c)
 
 returns : tie.Need-returns Inv-loop μ-loop
-returns c =
-    let w = c .before .before .before in
+returns c = let w = c .before .before .before in
     let l = w .before in
     let ok = c .before .is-decimal in
     reads-stop _ (l .loop .at) (l .loop .count) (l .loop .values) (l .loop .inv)
     (sym (ap isDecimal (word w)) ∙ sym (ok .ensures) ∙ not-true (ok .result) (c .if1 .taken))
 
 add-count : tie.Need-add-count Inv-loop μ-loop
-add-count c =
-    let w = c .before .before .before .before in
+add-count c = let w = c .before .before .before .before in
     let l = w .before in
     omega (arith, l .loop .inv .few, l .loop .inv .inside, inside w, long (c .before))
 
 returns-2 : tie.Need-returns-2 Inv-loop μ-loop
-returns-2 c =
-    let w = c .before .before .before .before .before in
+returns-2 c = let w = c .before .before .before .before .before in
     let l = w .before in
     reads-last _ (l .loop .at) (l .loop .count) (l .loop .values) (l .loop .inv) (decimal (c .before .before)) _ (kept (c .before))
     (ap (λ (k : ℕ). l .loop .at + k) (sym (w .word-length .ensures)) ∙ c .if3 .taken)
 
 add-at : tie.Need-add-at Inv-loop μ-loop
-add-at c =
-    let w = c .before .before .before .before .before in
+add-at c = let w = c .before .before .before .before .before in
     omega (arith, inside w, c .if3 .left)
 
 loop-less : tie.Need-loop-less Inv-loop μ-loop
-loop-less c =
-    let w = c .before .before .before .before .before in
+loop-less c = let w = c .before .before .before .before .before in
     omega (arith, inside w, c .if3 .left)
 
 loop-again : tie.Need-loop-again Inv-loop μ-loop
-loop-again c =
-    let w = c .before .before .before .before .before in
+loop-again c = let w = c .before .before .before .before .before in
     let l = w .before in
     let e = w .word-length .ensures in
     let q = c .if3 .left in
@@ -121,7 +110,5 @@ loop-again c =
     (omega (arith, inside w, q)))
 
 pub read-numbers-spec : {M : Type 1} → statement M
-read-numbers-spec =
-    tie.close
-    (tie.spec Inv-loop μ-loop loop-holds (λ c κs. search needs) add-end (λ c. omega arith) (λ c. omega arith) part-word-end (λ c κs. search needs) returns
-    (λ c κs. search needs) (λ c. omega arith) (λ c. omega arith) add-count returns-2 add-at loop-less loop-again)
+read-numbers-spec = tie.close (tie.spec Inv-loop μ-loop loop-holds (λ c κs. search needs) add-end (λ c. omega arith) (λ c. omega arith) part-word-end
+    (λ c κs. search needs) returns (λ c κs. search needs) (λ c. omega arith) (λ c. omega arith) add-count returns-2 add-at loop-less loop-again)

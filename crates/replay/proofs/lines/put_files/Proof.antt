@@ -29,8 +29,7 @@ unfolding filesOf
 loop-holds c = (omega arith, refl, refl, sym (put-nil _ _ (omega arith)))
 
 loop-again : tie.Need-loop-again Inv-loop μ-loop
-loop-again c =
-    let l = c .before .before .before in
+loop-again c = let l = c .before .before .before in
     let a = l .before .before .args in
     let tested = c .before .has .ensures in
     let room = l .before .before .good .0 .0 in
@@ -52,8 +51,7 @@ loop-again c =
     )
 
 returns : tie.Need-returns Inv-loop μ-loop
-returns c =
-    let l = c .before .before .before .before .before .before in
+returns c = let l = c .before .before .before .before .before .before in
     let a = l .before .before .args in
     let e : l .loop .k ≡ a .n = omega arith in
     let here : Buffer = buffer (now (a .out)) (a .start) in
@@ -63,8 +61,7 @@ returns c =
     ∙ ap (λ (k : ℕ). put here (numbersLine (filesOf k (member (a .set))))) e
 
 returns-2 : tie.Need-returns-2 Inv-loop μ-loop
-returns-2 c =
-    let l = c .before .before .before .before .before .before .before in
+returns-2 c = let l = c .before .before .before .before .before .before .before in
     let a = l .before .before .args in
     let e : l .loop .k ≡ a .n = omega arith in
     let here : Buffer = buffer (now (a .out)) (a .start) in
@@ -74,7 +71,6 @@ returns-2 c =
     ∙ ap (λ (k : ℕ). put here (numbersLine (filesOf k (member (a .set))))) e
 
 pub put-files-spec : {M : Type 1} → statement M
-put-files-spec =
-    tie.close
-    (tie.spec Inv-loop μ-loop loop-holds (λ c. omega arith) (λ c κs. search needs) (λ c. omega arith) (λ c κs. search needs) (λ c. omega arith)
-    (λ c. omega arith) loop-again (λ c κs. search needs) (λ c. omega arith) returns (λ c. omega arith) (λ c κs. search needs) (λ c. omega arith) returns-2)
+put-files-spec = tie.close (tie.spec Inv-loop μ-loop loop-holds (λ c. omega arith) (λ c κs. search needs) (λ c. omega arith) (λ c κs. search needs)
+    (λ c. omega arith) (λ c. omega arith) loop-again (λ c κs. search needs) (λ c. omega arith) returns (λ c. omega arith) (λ c κs. search needs)
+    (λ c. omega arith) returns-2)

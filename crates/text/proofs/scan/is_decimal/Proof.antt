@@ -12,16 +12,13 @@ returns : tie.Need-returns
 returns c = sym (decimal-none (now (c .before .before .args .word)) (c .if1 .taken))
 
 returns-2 : tie.Need-returns-2
-returns-2 c =
-    let s = c .before .before .before .before in
+returns-2 c = let s = c .before .before .before .before in
     sym (decimal-zero (now (s .args .word)) (omega (arith, c .before .before .if1 .left)) (c .if2 .taken))
 
 returns-3 : tie.Need-returns-3
-returns-3 c =
-    let s = c .before .before .before .before .before in
+returns-3 c = let s = c .before .before .before .before .before in
     c .all-digits .ensures
     ∙ sym (decimal-by-digits (now (s .args .word)) (omega (arith, c .before .before .before .if1 .left)) (c .before .if2 .left))
 
 pub is-decimal-spec : {M : Type 1} → statement M
-is-decimal-spec =
-    tie.close (tie.spec returns (λ c. search needs) returns-2 (λ c κs. search needs) returns-3)
+is-decimal-spec = tie.close (tie.spec returns (λ c. search needs) returns-2 (λ c κs. search needs) returns-3)

@@ -24,8 +24,7 @@ unfolding valueOf
 loop-holds c = (omega arith, omega arith, refl)
 
 loop-again : tie.Need-loop-again Inv-loop μ-loop
-loop-again c =
-    let l = c .before .before .before in
+loop-again c = let l = c .before .before .before in
     let digits = now (l .before .before .args .digits) in (
       omega arith,
       omega (arith, c .with-digit .ensures),
@@ -33,11 +32,9 @@ loop-again c =
     )
 
 returns : tie.Need-returns Inv-loop μ-loop
-returns c =
-    let l = c .before in
+returns c = let l = c .before in
     sym (value-none (now (l .before .before .args .digits)) (l .loop .value) (l .loop .i) (c .loop-test .left) (l .loop .inv .1)) ∙ l .loop .inv .2
 
 pub value-of-spec : {M : Type 1} → statement M
-value-of-spec =
-    tie.close
-    (tie.spec Inv-loop μ-loop loop-holds (λ c. omega arith) (λ c κs. search needs) (λ c. omega arith) (λ c. omega arith) loop-again returns)
+value-of-spec = tie.close (tie.spec Inv-loop μ-loop loop-holds (λ c. omega arith) (λ c κs. search needs) (λ c. omega arith) (λ c. omega arith) loop-again
+    returns)
