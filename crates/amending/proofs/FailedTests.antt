@@ -18,7 +18,7 @@ use Rattle.lent_bytes.proofs.EqualLaws.{equal-same, equal-true}
 use Rattle.entries.specs.Entry.{statusOf, fileSizeOf, nameOf}
 use Rattle.entries.specs.Numbering.{savedOf}
 use Rattle.parity.proofs.Files.{isFile-in, isFile-inside}
-use Rattle.par1.proofs.FailedTests.{Decides, decides-by}
+use Rattle.refusals.proofs.OrderLaws.{Decides, decides-by}
 use Rattle.par1_read.specs.Reading.{entriesIn}
 use Rattle.par1_rules.specs.Layout.{volumeNumberOf}
 use Rattle.amending.specs.Amending.{Change}

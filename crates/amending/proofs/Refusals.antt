@@ -14,7 +14,7 @@
 use mathlib.Core.Path.{_≡_, refl, sym, ap, ap₂, _∙_}
 use mathlib.Core.Bool.{Bool, true, false, cond}
 use mathlib.Core.List.{List}
-use Prim.Native.Nat.{ℕ, zero, suc, _≤_, _<_}
+use Prim.Native.Nat.{ℕ, _≤_, _<_}
 use native.Mathlib.Decide.{decLt}
 use native.Mathlib.Omega.{arith}
 use lib.Dec.{leb}
@@ -27,18 +27,19 @@ use Rattle.lent_bytes.specs.declared.Writing.{Writing}
 use Rattle.lent_bytes.specs.declared.Writing.the-variants.{Written, Refused}
 use Rattle.lent_bytes.proofs.WritingLaws.{written-short, unless-none, unless-refused, unless-accepted, unless-tells, never, refused-exactly}
 use Rattle.par1.specs.Checking.{loneRefusal}
+use Rattle.par1.proofs.Faults.{lone-number, lone-some, lone-first, lone-passed, lone-kept}
 use Rattle.par1_read.specs.Reading.{entriesIn, readOf}
 use Rattle.par1_read.specs.declared.reading.Parts.{Parts}
 use Rattle.par1_read.specs.declared.reading.Reading.{Reading}
 use Rattle.par1_read.specs.declared.reading.Reading.the-variants as reading
 use Rattle.par1_read.proofs.ReadingLaws.{refused-some}
 use Rattle.par1_rules.specs.Rules.{lengthAllowed}
-use Rattle.par1.proofs.FailedTests.{Decides, passes, fails, fails-where, passes-where}
+use Rattle.refusals.proofs.OrderLaws.{Decides, passes, fails, fails-where, passes-where}
 use Rattle.par1_rules.proofs.RuleLaws.{Between, between, long-enough, too-long}
 use Rattle.refusals.specs.Limits.{maxVolumeLength}
 use Rattle.refusals.specs.Tests.{bare, test}
 use Rattle.refusals.specs.declared.Refusal.{Refusal}
-use Rattle.refusals.proofs.TestLaws.{test-passed, or-none}
+use Rattle.refusals.proofs.TestLaws.{test-passed, or-else, or-none}
 use Rattle.amending.specs.Amending.{Change, amendVolume}
 use Rattle.amending.specs.Call.{changeAllowed, entryIn, fileAllowed, changeRefusal, amendRefusal, amendOf}
 use Rattle.amending.specs.Claim as claim
@@ -106,34 +107,39 @@ module _ (rules : Code → ℕ → ℕ → ℕ) (c : Change) (d vol out : List �
       → writtenUnless (changeRefusal rules c d vol) (amendVolume rules c d vol) out ≡ refused (bare k) out
   unfolding changeRefusal
   first-fails (claim.no-file f) = number-refused 10 (simp (fails-where (missing-decides (c .file) vol) f)) (λ z. omega arith)
-  first-fails (claim.bad-entry {k} f l) = number-refused _ (simp (file-passes f, l)) (λ z. omega arith)
-  first-fails (claim.bad-change f l s) = number-refused 21 (simp (file-passes f, l, fails-where (wrong-decides c was d) s)) (λ z. omega arith)
+  first-fails (claim.bad-entry {k} f l) = number-refused k (simp (file-passes f, lone-number l) (or-else k _ (lone-some l))) (lone-some l)
+  first-fails (claim.bad-change f l s) =
+      number-refused 21 (simp (file-passes f, lone-passed d l, fails-where (wrong-decides c was d) s)) (λ z. omega arith)
   first-fails (claim.too-long f l s h) =
-      number-refused 1 (simp (file-passes f, l, right-passes s, too-long (length (amendVolume rules c d vol)) h)) (λ z. omega arith)
+      number-refused 1 (simp (file-passes f, lone-passed d l, right-passes s, too-long (length (amendVolume rules c d vol)) h)) (λ z. omega arith)
   first-fails (claim.no-room f l s high h) = let file = file-passes f in
+      let lone = lone-passed d l in
       let change = right-passes s in
-      let none = change-none rules c d vol file l change (record { low = total-low file l change; high = high }) in
+      let none = change-none rules c d vol file lone change (record { low = total-low file lone change; high = high }) in
       sym (unless-none (amendVolume rules c d vol) out (sym none) refl (written-short (amendVolume rules c d vol) out h))
 
   -- one of the tests fails, or the call is accepted
   first-of : (P : Type 0) → ((k : ℕ) → claim.Fails rules c d vol out k → P)
       → (writtenUnless (changeRefusal rules c d vol) (amendVolume rules c d vol) out ≡ accepted (amendVolume rules c d vol) out → P) → P
-  first-of P some none =
-      by (missing-decides (c .file) vol) (loneRefusal d) (wrong-decides c was d) refl
-      (decLt maxVolumeLength (length (amendVolume rules c d vol))) (decLt (length out) (length (amendVolume rules c d vol)))
+  first-of P some none = by (missing-decides (c .file) vol)
     where
-      by : Decides (fileAllowed (c .file) vol) (claim.NoSuchFile (c .file) vol) → (k : ℕ)
-          → Decides (changeAllowed (c .place) (length (c .old)) (length (c .new)) was d) (claim.WrongChange c was d) → loneRefusal d ≡ k
+      kept : fileAllowed (c .file) vol ≡ true → (claim.NoSuchFile (c .file) vol → ⊥) → loneRefusal d ≡ 0
+          → Decides (changeAllowed (c .place) (length (c .old)) (length (c .new)) was d) (claim.WrongChange c was d)
           → Dec (maxVolumeLength < length (amendVolume rules c d vol)) → Dec (length out < length (amendVolume rules c d vol)) → P
-      by (fails p f) k t l long room = some 10 (claim.no-file f)
-      by (passes p f) (suc k) t l long room = some (suc k) (claim.bad-entry f l)
-      by (passes p f) zero (fails q s) l long room = some 21 (claim.bad-change f l s)
-      by (passes p f) zero (passes q s) l (yes h) room = some 1 (claim.too-long f l s h)
-      by (passes p f) zero (passes q s) l (no h) (yes k) = some 14 (claim.no-room f l s (omega arith) k)
-      by (passes p f) zero (passes q s) l (no h) (no k) =
+      kept p f l (fails q s) long room = some 21 (claim.bad-change f (lone-kept d l) s)
+      kept p f l (passes q s) (yes h) room = some 1 (claim.too-long f (lone-kept d l) s h)
+      kept p f l (passes q s) (no h) (yes k) = some 14 (claim.no-room f (lone-kept d l) s (omega arith) k)
+      kept p f l (passes q s) (no h) (no k) =
           let passed = change-none rules c d vol p l q (record { low = total-low p l q; high = omega arith }) in
           let room : length (amendVolume rules c d vol) ≤ length out = omega arith in
           none (unless-accepted (changeRefusal rules c d vol) (amendVolume rules c d vol) out (ap (λ (r : Refusal). r .number) passed) room)
+
+      by : Decides (fileAllowed (c .file) vol) (claim.NoSuchFile (c .file) vol) → P
+      by (fails p f) = some 10 (claim.no-file f)
+      by (passes p f) =
+          lone-first d P (λ k broken. some k (claim.bad-entry f broken))
+          (λ l. kept p f l (wrong-decides c was d) (decLt maxVolumeLength (length (amendVolume rules c d vol)))
+          (decLt (length out) (length (amendVolume rules c d vol))))
 
 module _ (rules : Code → ℕ → ℕ → ℕ) (n : ℕ) (c : Change) (d out : List ℕ) where
   amend-refuses : {r : Refusal} → claim.Refuses rules n c d out r → amendOf rules n c d out ≡ refused r out

@@ -23,7 +23,7 @@
 use mathlib.Core.Path.{_≡_}
 use mathlib.Core.Bool.{true}
 use mathlib.Core.List.{List, []}
-use Prim.Native.Nat.{ℕ, suc, _+_, _-_, _^_, _<_, _≤_, max}
+use Prim.Native.Nat.{ℕ, _+_, _-_, _^_, _<_, _≤_, max}
 use lib.ListN.{length, take, drop, getD}
 use Rattle.refusals.specs.Limits.{maxVolumeLength}
 use Rattle.refusals.specs.Tests.{bare}
@@ -33,7 +33,7 @@ use Rattle.lent_bytes.specs.declared.Writing.the-variants.{Written, Refused}
 use Rattle.codes.specs.declared.Code.{Code}
 use Rattle.entries.specs.Entry.{statusOf, fileSizeOf, nameOf, fileSizeAllowed}
 use Rattle.entries.specs.Numbering.{savedOf}
-use Rattle.par1.specs.Checking.{loneRefusal}
+use Rattle.par1.specs.Claim.{LoneBreaks}
 use Rattle.par1_read.specs.Reading.{entriesIn, readOf}
 use Rattle.par1_read.specs.declared.reading.Parts.{Parts}
 use Rattle.par1_read.specs.declared.reading.Reading.the-variants as reading
@@ -146,11 +146,12 @@ pub data WrongChange (c : Change) (e d : List ℕ) : Type 0 where
 -- of a volume that is read: each test with those before it passed
 pub data Fails (rules : Code → ℕ → ℕ → ℕ) (c : Change) (d vol out : List ℕ) : ℕ → Type 0 where
   no-file : NoSuchFile (c .file) vol → Fails rules c d vol out 10
-  bad-entry : {k : ℕ} → (NoSuchFile (c .file) vol → ⊥) → loneRefusal d ≡ suc k → Fails rules c d vol out (suc k)
-  bad-change : (NoSuchFile (c .file) vol → ⊥) → loneRefusal d ≡ 0 → WrongChange c (entryIn (c .file) (entriesIn vol)) d → Fails rules c d vol out 21
-  too-long : (NoSuchFile (c .file) vol → ⊥) → loneRefusal d ≡ 0 → (WrongChange c (entryIn (c .file) (entriesIn vol)) d → ⊥)
+  bad-entry : {k : ℕ} → (NoSuchFile (c .file) vol → ⊥) → LoneBreaks d k → Fails rules c d vol out k
+  bad-change : (NoSuchFile (c .file) vol → ⊥) → ((k : ℕ) → LoneBreaks d k → ⊥) → WrongChange c (entryIn (c .file) (entriesIn vol)) d
+      → Fails rules c d vol out 21
+  too-long : (NoSuchFile (c .file) vol → ⊥) → ((k : ℕ) → LoneBreaks d k → ⊥) → (WrongChange c (entryIn (c .file) (entriesIn vol)) d → ⊥)
       → maxVolumeLength < length (amendVolume rules c d vol) → Fails rules c d vol out 1
-  no-room : (NoSuchFile (c .file) vol → ⊥) → loneRefusal d ≡ 0 → (WrongChange c (entryIn (c .file) (entriesIn vol)) d → ⊥)
+  no-room : (NoSuchFile (c .file) vol → ⊥) → ((k : ℕ) → LoneBreaks d k → ⊥) → (WrongChange c (entryIn (c .file) (entriesIn vol)) d → ⊥)
       → length (amendVolume rules c d vol) ≤ maxVolumeLength → length out < length (amendVolume rules c d vol) → Fails rules c d vol out 14
 
 pub data Refuses (rules : Code → ℕ → ℕ → ℕ) (n : ℕ) (c : Change) (d out : List ℕ) : Refusal → Type 0 where

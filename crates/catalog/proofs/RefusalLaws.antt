@@ -3,7 +3,8 @@
 --   out-range, in-range     10, as a test
 --   has-held, held-has      11, as a test
 --   Decided c room          one of the tests fails, or the call is accepted
---   call-refused, refused-only, load-refused, load-refused-only     the claims
+--   call-refuses, load-refuses     the refusal that holds first is given
+--   call-refused, load-refused     the claims
 -- A test is passed where it does not hold.
 -- Assumes nothing.
 use mathlib.Core.Path.{_≡_, refl, sym, ap, _∙_, subst}
@@ -36,7 +37,7 @@ use Rattle.catalog.specs.Catalog.{entryCount, catalogLength, entryRows, 
 use Rattle.catalog.specs.Calls.{openRefusal, openOf, volumeInRange, addNumber, addRefusal, addedBytes, addOf, dropNumber, droppedBytes, dropOf, loadingOf, filledBy}
 use Rattle.catalog.specs.Runs.{Call, opening, adding, dropping, given}
 use Rattle.catalog.specs.Claim as claim
-use Rattle.catalog.specs.Claim.{OutOfRange, HasRow, filesIn, AddFails, Refuses, CallRefused, RefusedOnly, LoadRefuses, LoadRefused, LoadRefusedOnly}
+use Rattle.catalog.specs.Claim.{OutOfRange, HasRow, filesIn, AddFails, Refuses, CallRefused, LoadRefuses, LoadRefused}
 use Rattle.catalog.specs.declared.records.Row.{Row}
 use Rattle.catalog.proofs.CallLaws.{length-opened, open-unread, add-unread, held-within}
 use Rattle.catalog.proofs.CatalogLaws.{Catalog, is-catalog}
@@ -173,16 +174,16 @@ drop-number : (room : List ℕ) (v k : ℕ) → (k ≡ 0 → ⊥) → dropNumber
 unfolding dropOf
 drop-number room v k some e = sym (unless-refused (droppedBytes room v) room (sym (ap bare e)) some refl)
 
-pub call-refused : CallRefused
+call-refuses : (c : Call) (room : List ℕ) (r : Refusal) → Refuses c room r → given c room ≡ refused r room
 unfolding dropNumber
-call-refused c room r (claim.open-unread {f} e) = sym (open-unread f room e)
-call-refused c room r (claim.open-many {f} e h) = open-many f room e h
-call-refused c room r (claim.open-short {f} e few h) = open-short f room e few h
-call-refused c room r (claim.add-unread {vol} e) = sym (add-unread room vol e)
-call-refused c room r (claim.add-fails {vol} e fails) = add-fails room vol e fails
-call-refused c room r (claim.drop-other {v} z) = drop-number room v 30 (λ h. omega arith) (simp z)
-call-refused c room r (claim.drop-range {v} is o) = drop-number room v 10 (λ h. omega arith) (simp (is, out-range _ _ o))
-call-refused c room r (claim.drop-absent {v} is o h) =
+call-refuses c room r (claim.open-unread {f} e) = sym (open-unread f room e)
+call-refuses c room r (claim.open-many {f} e h) = open-many f room e h
+call-refuses c room r (claim.open-short {f} e few h) = open-short f room e few h
+call-refuses c room r (claim.add-unread {vol} e) = sym (add-unread room vol e)
+call-refuses c room r (claim.add-fails {vol} e fails) = add-fails room vol e fails
+call-refuses c room r (claim.drop-other {v} z) = drop-number room v 30 (λ h. omega arith) (simp z)
+call-refuses c room r (claim.drop-range {v} is o) = drop-number room v 10 (λ h. omega arith) (simp (is, out-range _ _ o))
+call-refuses c room r (claim.drop-absent {v} is o h) =
     drop-number room v 11 (λ h. omega arith) (simp (is, in-range _ _ o, not-held _ (volumeRows room) h))
 
 -- ---- one of the tests fails, or the call is accepted
@@ -246,18 +247,18 @@ drop-decided v room = by (isCatalog room) refl (volumeInRange v room) refl (hold
         accepts (unless-accepted (bare (dropNumber room v)) (droppedBytes room v) room none
         (omega (arith, c .within, length-dropped room c v has (held-within room c v has))))
 
-pub refused-only : RefusedOnly
-refused-only c room r after e = (by (decided c), refused-same c room e)
+pub call-refused : CallRefused
+call-refused c room r = (call-refuses c room r, λ after e. (by e (decided c), refused-same c room e))
   where
     decided : (c : Call) → Decided c room
     decided (opening f) = open-decided f room
     decided (adding vol) = add-decided vol room
     decided (dropping v) = drop-decided v room
 
-    by : Decided c room → Refuses c room r
-    by (refuses {r = q} h) =
-        subst (Refuses c room) (ap (λ (p : Writing × List ℕ). writingRefusal (p .0)) (sym (call-refused c room q h) ∙ e)) h
-    by (accepts {n} a) = let answer : Written n ≡ Refused r = ap (λ (p : Writing × List ℕ). p .0) (sym a ∙ e) in
+    by : {after : List ℕ} → given c room ≡ (Refused r, after) → Decided c room → Refuses c room r
+    by e (refuses {r = q} h) =
+        subst (Refuses c room) (ap (λ (p : Writing × List ℕ). writingRefusal (p .0)) (sym (call-refuses c room q h) ∙ e)) h
+    by e (accepts {n} a) = let answer : Written n ≡ Refused r = ap (λ (p : Writing × List ℕ). p .0) (sym a ∙ e) in
         absurd (let z : _≡_ {A = ℕ} 0 1 = cc in omega arith)
 
 -- ---- loading
@@ -265,20 +266,20 @@ refused-only c room r after e = (by (decided c), refused-same c room e)
 entries-count : (b : List ℕ) → length (entryRows b) ≡ entryCount b
 entries-count b = length-rows (entryCount b) (drop 16 b)
 
-pub load-refused : LoadRefused
+load-refuses : (b : List ℕ) (rows : List Row) (r : Refusal) → LoadRefuses b (length rows) r → loadOf b rows ≡ (Refused r, rows)
 unfolding loadingOf
-load-refused b rows r (claim.load-other z) = simp z
-load-refused b rows r (claim.load-short is h) =
+load-refuses b rows r (claim.load-other z) = simp z
+load-refuses b rows r (claim.load-short is h) =
     let short : leb (entryCount b) (length rows) ≡ false = lt-leb (entryCount b) (length rows) (omega (arith, entries-count b)) in simp (is, short)
 
-pub load-refused-only : LoadRefusedOnly
+pub load-refused : LoadRefused
 unfolding loadingOf
-load-refused-only b rows r after e = by (isCatalog b) refl (leb (entryCount b) (length rows)) refl e
+load-refused b rows r = (load-refuses b rows r, λ after e. by (isCatalog b) refl (leb (entryCount b) (length rows)) refl e)
   where
     answer : Bool → Bool → Writing
     answer i s = cond i (cond s (Written (entryCount b)) (Refused (bare 14))) (Refused (bare 30))
 
-    by : (i : Bool) → isCatalog b ≡ i → (s : Bool) → leb (entryCount b) (length rows) ≡ s
+    by : {after : List Row} (i : Bool) → isCatalog b ≡ i → (s : Bool) → leb (entryCount b) (length rows) ≡ s
         → _≡_ {A = Writing × List Row} (answer i s, filledBy (answer i s) b rows) (Refused r, after)
         → LoadRefuses b (length rows) r × (after ≡ rows)
     by false is s short e = (

@@ -16,9 +16,8 @@
 --   filesIn b              the number of saved files in the catalog b
 --   AddFails b vol k       k is the number of the first test that holds, of those after reading, for adding the volume vol to b
 --   Refuses c room r       r is the first refusal of the call c that holds, in the document's order
---   CallRefused            the call gives it, and no byte of the room changes
---   RefusedOnly            and nothing else is refused
---   LoadRefuses, LoadRefused, LoadRefusedOnly     the same of loading
+--   CallRefused            the call gives it, and no byte of the room changes; and nothing else is refused
+--   LoadRefuses, LoadRefused     the same of loading
 --   SameButHashes n b c    b and c begin with the same four numbers and the same n rows, but for the hashes
 --   Given b                b begins with what an opening and additions, all accepted, give, but for the hashes
 --   Exactly30              the calls take b for a catalog exactly where that is so
@@ -37,7 +36,7 @@ use Rattle.refusals.specs.Limits.{maxEntries}
 use Rattle.refusals.specs.Tests.{bare}
 use Rattle.refusals.specs.declared.Refusal.{Refusal}
 use Rattle.little_endian.specs.Bytes.{Bytes}
-use Rattle.lent_bytes.specs.Writing.{refused}
+use Rattle.lent_bytes.specs.Writing.{RefusedExactly}
 use Rattle.lent_bytes.specs.declared.Writing.{Writing}
 use Rattle.lent_bytes.specs.declared.Writing.the-variants.{Written, Refused}
 use Rattle.codes.specs.declared.Code.{Code}
@@ -204,27 +203,19 @@ pub data Refuses : Call → List ℕ → Refusal → Type 0 where
 
 -- proved: proofs/RefusalLaws.antt, `call-refused`
 abbrev pub CallRefused : Type 0
-CallRefused = (c : Call) (room : List ℕ) (r : Refusal) → Refuses c room r → given c room ≡ refused r room
-
--- proved: proofs/RefusalLaws.antt, `refused-only`
-abbrev pub RefusedOnly : Type 0
-RefusedOnly =
-    (c : Call) (room : List ℕ) (r : Refusal) (after : List ℕ) → given c room ≡ (Refused r, after) → Refuses c room r × (after ≡ room)
+CallRefused = (c : Call) (room : List ℕ) → RefusedExactly (Refuses c room) (given c room) room
 
 -- "To load it, the caller lends one row record for each listed entry"
 pub data LoadRefuses (b : List ℕ) (records : ℕ) : Refusal → Type 0 where
   load-other : isCatalog b ≡ false → LoadRefuses b records (bare 30)
   load-short : isCatalog b ≡ true → records < length (entryRows b) → LoadRefuses b records (bare 14)
 
--- proved: proofs/RefusalLaws.antt, `load-refused`
+-- the same of records; proved: proofs/RefusalLaws.antt, `load-refused`
 abbrev pub LoadRefused : Type 0
-LoadRefused = (b : List ℕ) (rows : List Row) (r : Refusal) → LoadRefuses b (length rows) r → loadOf b rows ≡ (Refused r, rows)
-
--- proved: proofs/RefusalLaws.antt, `load-refused-only`
-abbrev pub LoadRefusedOnly : Type 0
-LoadRefusedOnly =
-    (b : List ℕ) (rows : List Row) (r : Refusal) (after : List Row) → loadOf b rows ≡ (Refused r, after)
-    → LoadRefuses b (length rows) r × (after ≡ rows)
+LoadRefused =
+    (b : List ℕ) (rows : List Row) (r : Refusal)
+    → (LoadRefuses b (length rows) r → loadOf b rows ≡ (Refused r, rows))
+    × ((after : List Row) → loadOf b rows ≡ (Refused r, after) → LoadRefuses b (length rows) r × (after ≡ rows))
 
 -- ---- "30 index bytes that, hashes apart, no list and volumes give, or that end early"
 
@@ -247,7 +238,7 @@ pub record Given (b : List ℕ) : Type 0 where
   pub long : 16 + 28 * (length (entriesIn file) + length volumes) ≤ length b
   pub same : SameButHashes (length (entriesIn file) + length volumes) (roomAfter room (opening file ∷ map adding volumes)) b
 
--- both ways; that the calls refuse with 30 exactly where
--- isCatalog fails is `CallRefused`, `RefusedOnly`, `LoadRefused` and `LoadRefusedOnly`; proved: proofs/GivenLaws.antt, `exactly-30`
+-- both ways; that the calls refuse with 30 exactly where isCatalog fails is `CallRefused` and `LoadRefused`
+-- proved: proofs/GivenLaws.antt, `exactly-30`
 abbrev pub Exactly30 : Type 0
 Exactly30 = (b : List ℕ) → Bytes b → (isCatalog b ≡ true) ↔ Given b

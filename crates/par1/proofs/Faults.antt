@@ -53,7 +53,7 @@ module _ {e : List ℕ} where
   lone-number (short-of-slice h) = simp (ne-eqb (entrySize e) (length e) h)
   lone-number (breaks-rule h broken) = simp (eq-eqb (entrySize e) (length e) h) (item-broken e broken)
 
-  lone-some : {n : ℕ} → LoneBreaks e n → n ≡ 0 → ⊥
+  pub lone-some : {n : ℕ} → LoneBreaks e n → n ≡ 0 → ⊥
   lone-some (short-of-slice h) z = omega arith
   lone-some (breaks-rule h broken) z = breaks-number broken z
 
@@ -81,27 +81,28 @@ lone-first e P some none = by (ℕ-discrete (entrySize e) (length e))
         ruled h (entrySizeAllowed (entrySize e) (length e)) (fileSizeAllowed (fileSizeOf (take (entrySize e) e)))
         (nameAllowed (nameOf (take (entrySize e) e))) refl refl refl
 
+module _ (e : List ℕ) where
+  pub lone-passed : ((n : ℕ) → LoneBreaks e n → ⊥) → loneRefusal e ≡ 0
+  lone-passed none = lone-first e (loneRefusal e ≡ 0) (λ n broken. absurd (none n broken)) (λ z. z)
+
+  pub lone-kept : loneRefusal e ≡ 0 → (n : ℕ) → LoneBreaks e n → ⊥
+  lone-kept z n broken = lone-some broken (sym (lone-number broken) ∙ z)
+
 pub checked : Checked
 checked e m r = (to, from)
   where
-    passed : ((n : ℕ) → LoneBreaks e n → ⊥) → loneRefusal e ≡ 0
-    passed none = lone-first e (loneRefusal e ≡ 0) (λ n broken. absurd (none n broken)) (λ z. z)
-
     to : {q : Refusal} → Checks e m q → checkOf e m ≡ q
     to (bad-entry {n} broken) = lone-refused e m n broken
-    to (different none d) = check-lone e m (passed none) ∙ simp (fails-where (told-decides e m) d)
-    to (as-told none same) = check-lone e m (passed none) ∙ simp (passes-where (told-decides e m) same)
+    to (different none d) = check-lone e m (lone-passed e none) ∙ simp (fails-where (told-decides e m) d)
+    to (as-told none same) = check-lone e m (lone-passed e none) ∙ simp (passes-where (told-decides e m) same)
 
     -- what checking gives is what it says
     gives : {q : Refusal} → checkOf e m ≡ r → Checks e m q → Checks e m r
     gives is c = subst (Checks e m) (sym (to c) ∙ is) c
 
-    kept : loneRefusal e ≡ 0 → (n : ℕ) → LoneBreaks e n → ⊥
-    kept z n broken = lone-some broken (sym (lone-number broken) ∙ z)
-
     alone : checkOf e m ≡ r → loneRefusal e ≡ 0 → Decides (isDescribed e m) (Differs e m) → Checks e m r
-    alone is z (fails p d) = gives is (different (kept z) d)
-    alone is z (passes p same) = gives is (as-told (kept z) same)
+    alone is z (fails p d) = gives is (different (lone-kept e z) d)
+    alone is z (passes p same) = gives is (as-told (lone-kept e z) same)
 
     from : checkOf e m ≡ r → Checks e m r
     from is = lone-first e (Checks e m r) (λ n broken. gives is (bad-entry broken)) (λ z. alone is z (told-decides e m))

@@ -1,6 +1,6 @@
 pub mod CheckingLaws
 pub mod EntryWritten
-pub mod FailedTests
+mod FailedTests
 pub mod Faults
 pub mod ReadWritten
 pub mod ReadingRefusals
