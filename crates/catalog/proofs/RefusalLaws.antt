@@ -34,7 +34,7 @@ use Rattle.par1_read.specs.declared.reading.Reading.the-variants as reading
 use Rattle.par1_rules.specs.Layout.{volumeNumberOf, listOf}
 use Rattle.catalog.specs.Rows.{numberOf, rowsFor, volumeRow, catalogBytes}
 use Rattle.catalog.specs.Catalog.{entryCount, catalogLength, entryRows, volumeRows, isCatalog, holds}
-use Rattle.catalog.specs.Calls.{openRefusal, openOf, volumeInRange, addNumber, addRefusal, addedBytes, addOf, dropNumber, droppedBytes, dropOf, loadingOf, filledBy}
+use Rattle.catalog.specs.Calls.{openRefusal, openOf, volumeInRange, addNumber, addRefusal, addedBytes, addOf, dropNumber, droppedBytes, dropOf, loadingOf, filledBy, loadOf}
 use Rattle.catalog.specs.Runs.{Call, opening, adding, dropping, given}
 use Rattle.catalog.specs.Claim as claim
 use Rattle.catalog.specs.Claim.{OutOfRange, HasRow, filesIn, AddFails, Refuses, CallRefused, LoadRefuses, LoadRefused}
