@@ -150,6 +150,4 @@ same-pushes w p hw hp (c ∷ cs) buffer = let back = loaded-back w p hw hp in
     ∙ ap (λ (r : Outcome × List ℕ). pushedInto (r .0 .next) cs (r .1)) pushed
 
 pub mul-add-bytes-one-buffer : MulAddBytesOneBuffer
-mul-add-bytes-one-buffer a cs buffer h =
-    ap (λ (r : ℕ × List ℕ). mulAddPushedInto (r .1) cs buffer) (started-whole a)
-    ∙ same-pushes (a .weight) 0 (a .byte) (omega arith) cs buffer ∙ one-buffer (a .weight) cs buffer h
+mul-add-bytes-one-buffer a cs buffer h = simp (started-whole, same-pushes (a .weight) 0 (a .byte) (omega arith) cs buffer, one-buffer)

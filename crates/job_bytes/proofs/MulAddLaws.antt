@@ -77,8 +77,7 @@ length-mul-add s = length-numbers (s .weight ∷ s .position ∷ cond (s .ended)
 -- the three numbers
 numbers-of : (w p k : ℕ) → w < 2 ^ 64 → p < 2 ^ 64 → k < 2 ^ 64
     → numbersAt 3 (numbers (w ∷ p ∷ k ∷ [])) 0 ≡ w ∷ p ∷ k ∷ []
-numbers-of w p k hw hp hk =
-    ap (λ (l : List ℕ). numbersAt 3 l 0) (sym (append-nil (numbers (w ∷ p ∷ k ∷ [])))) ∙ numbers-back [] (w ∷ p ∷ k ∷ []) [] small
+numbers-of w p k hw hp hk = cc (append-nil (numbers (w ∷ p ∷ k ∷ [])), numbers-back [] (w ∷ p ∷ k ∷ []) [] small)
   where
     small : (j : ℕ) → getD (w ∷ p ∷ k ∷ []) j 0 < 2 ^ 64
     small zero = hw
@@ -106,8 +105,7 @@ module _ (w p : ℕ) (hw : w < 256) (hp : p < 2 ^ 64) where
 pub stored-back : (b : List ℕ) → Bytes b → isMulAdd b ≡ true → mulAddBytes (mulAddFrom (leAt 8 b 0) (leAt 8 b 8)) ≡ b
 unfolding mulAddBytes numbersAt
 stored-back b h is = let t = tests b is in
-    ap (λ (k : ℕ). numbers (leAt 8 b 0 ∷ leAt 8 b 8 ∷ k ∷ [])) (sym (t .unmarked))
-    ∙ numbers-read 3 b 0 h (omega (arith, t .size)) ∙ take-all 24 b (omega (arith, t .size))
+    cc (t .unmarked, numbers-read 3 b 0 h (omega (arith, t .size)), take-all 24 b (omega (arith, t .size)))
 
 -- ---- what is stored
 

@@ -33,7 +33,7 @@ use Rattle.running_read.specs.Claim.{counts}
 use Rattle.running_read.specs.declared.RunningRead.{RunningRead}
 use Rattle.running_read.specs.declared.Pushed.{Pushed}
 use Rattle.running_read.specs.declared.Ended.{Ended}
-use Rattle.running_read.specs.Running.{cap, pushOf, readingOf, overOf, countsOf, isOpen, pushAnswer, endAnswer}
+use Rattle.running_read.specs.Running.{cap, pushOf, readingOf, overOf, countsOf, isOpen, pushAnswer}
 use Rattle.running_read.proofs.AfterLaws.{jobAfter, after-start, cap-small}
 use Rattle.running_read.proofs.Chunks.{take-most, after-open, over-shut, pushed-more, ended-whole, counts-tell, open-reached}
 use Rattle.running_read.proofs.EndLaws.{end-within, after-end, read-cap}
@@ -43,7 +43,7 @@ use Rattle.job_bytes.specs.Claim.{HeldRead, ReadStart, Chunk, readByteSt
 use Rattle.job_bytes.specs.Reads.{readJobBytes, readJobOf, readStored, readStarted, readPushed, jobNumber, readEnded}
 use Rattle.job_bytes.proofs.HeldLaws.{held-after}
 use Rattle.job_bytes.proofs.ReadBack.{sized, read-loaded-back}
-use Rattle.job_bytes.proofs.ReadLaws.{length-read, endedInto, stored-accepted, stored-refused}
+use Rattle.job_bytes.proofs.ReadLaws.{length-read, stored-accepted, stored-refused}
 
 abbrev opened : List ℕ → Bool
 opened b = isOpen (countsOf (readJobOf b))
@@ -64,14 +64,11 @@ reading-within j out =
 
 module _ (b : List ℕ) (shut : opened b ≡ false) where
   pushed-shut : (bs : List ℕ) → readPushed b bs ≡ (20, b)
-  pushed-shut bs =
-      ap (λ (p : Pushed). readStored (p .number) (p .next) b) (push-refused (readJobOf b) bs shut) ∙ stored-refused (readJobOf b) b
+  pushed-shut bs = simp (push-refused, stored-refused)
 
   ended-shut : (out : List ℕ) → readEnded b out ≡ (bare 20, b, out)
   unfolding readInto
-  ended-shut out =
-      ap (λ (e : Ended). endedInto e b out) (end-refused (readJobOf b) shut)
-      ∙ ap (λ (p : ℕ × List ℕ). (bare 20, p .1, out)) (stored-refused (readJobOf b) b)
+  ended-shut out = simp (end-refused, stored-refused)
 
 -- ---- a job that goes on
 
@@ -82,14 +79,12 @@ stored-most j b = unless-within 0 (bare 0) (readJobBytes j) b (bare-within 0 0 (
 module _ (b : List ℕ) (goes : opened b ≡ true) where
   push-taken : (bs : List ℕ) → readPushed b bs .0 ≡ 20 → ⊥
   push-taken bs e =
-      let given : readStored 0 (pushOf (readJobOf b) bs) b .0 ≡ 20 =
-      sym (ap (λ (p : Pushed). readStored (p .number) (p .next) b .0) (push-open (readJobOf b) bs goes)) ∙ e in
+      let given : readStored 0 (pushOf (readJobOf b) bs) b .0 ≡ 20 = cc (push-open (readJobOf b) bs goes) in
       omega (arith, stored-most (pushOf (readJobOf b) bs) b)
 
   end-taken : (out : List ℕ) → readEnded b out .0 .number ≡ 20 → ⊥
   end-taken out e =
-      let given : readInto (readingOf (readJobOf b)) out .0 .number ≡ 20 =
-      sym (ap (λ (q : Ended). readInto (q .reading) out .0 .number) (end-open (readJobOf b) goes)) ∙ e in
+      let given : readInto (readingOf (readJobOf b)) out .0 .number ≡ 20 = cc (end-open (readJobOf b) goes) in
       omega (arith, reading-within (readJobOf b) out .number-most)
 
 -- whatever the bytes of the job are; so a number of 64 bits tells the refusal and its place
@@ -135,11 +130,7 @@ module _ (m : List ℕ) (are : Bytes m) where
       let same : readingOf j ≡ readOf m = after-end (take cap m) (take-most cap m) ∙ read-cap m in
       let most : r .number ≤ 19 = subst (λ (q : Reading). readInto q out .0 .number ≤ 19) same (reading-within j out .number-most) in
       let number : jobNumber (r .number) ≡ 0 = simp (ne-eqb (r .number) 20 (λ e. omega arith)) in
-      ap (λ (j : RunningRead). endedInto (endAnswer j) (bytesAfter m) out) loaded-after
-      ∙ ap (λ (e : Ended). endedInto e (bytesAfter m) out) (ended-whole m)
-      ∙ ap (λ (k : ℕ). (r, readStored k (overOf j) (bytesAfter m) .1, readInto (readOf m) out .1)) number
-      ∙ ap (λ (p : ℕ × List ℕ). (r, p .1, readInto (readOf m) out .1))
-      (stored-accepted (overOf j) (bytesAfter m) (sized (overOf j) over-held) length-after)
+      simp (loaded-after, ended-whole, number, stored-accepted (overOf j) (bytesAfter m) (sized (overOf j) over-held) length-after)
 
   -- and then is refused
   over-after : opened (readJobBytes (overOf (jobAfter (take cap m)))) ≡ false

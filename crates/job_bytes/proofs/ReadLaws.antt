@@ -40,8 +40,7 @@ use Rattle.job_bytes.specs.Reads.{readStored, readPushed, jobNumber, rea
 -- ---- stores
 
 sets-whole : (s p : List ℕ) → length p ≡ length s → sets s 0 p ≡ p
-sets-whole s p h =
-    sets-over s p (omega arith) ∙ ap (λ (l : List ℕ). p ++ l) (drop-of-length-le s {i = length p} (omega arith)) ∙ append-nil p
+sets-whole s p h = simp (sets-over s p (omega arith), drop-of-length-le s {i = length p} (omega arith), append-nil)
 
 pub copied : (n i : ℕ) (b : List ℕ) {p t : List ℕ} → i + n ≤ length b → p ≡ take n (drop i b) → t ≡ sets (replicate n 0) 0 p → t ≡ take n (drop i b)
 copied n i b {p} {t} h e f = let part : List ℕ = take n (drop i b) in

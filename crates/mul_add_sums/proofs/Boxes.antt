@@ -40,8 +40,7 @@ module _ (weight : ℕ → ℕ) (fragment : ℕ → List ℕ) where
   unfolding mulAddAll
   all-answer h (none e) = e
   all-answer h (more {k} {ks} {b} {c} {d} p q) =
-      all-answer (adds-short (weight k) (fragment k) b c h p) q
-      ∙ ap (mulAddAll weight fragment ks) (one-answer (weight k) (fragment k) b c h p)
+      simp (all-answer (adds-short (weight k) (fragment k) b c h p) q, one-answer (weight k) (fragment k) b c h p)
 
   pub all-given : (ks b : List ℕ) → AddsAll weight fragment ks b (mulAddAll weight fragment ks b)
   unfolding mulAddAll

@@ -24,8 +24,7 @@ use Rattle.mul_add_sums.specs.Claim.{OneAnswer, TwoFragments, TwoWeights
 pub one-answer : OneAnswer
 one-answer w xs b c h (at-once e) = e
 one-answer w xs b c h (in-chunks cs cut e) = e ∙ one-buffer w cs b h ∙ ap (λ (l : List ℕ). mulAdd w l b) cut
-one-answer w xs b c h (in-chunks-from-c start cs weight cut e) =
-    e ∙ mul-add-bytes-one-buffer start cs b h ∙ ap₂ (λ (v : ℕ) (l : List ℕ). mulAdd v l b) weight cut
+one-answer w xs b c h (in-chunks-from-c start cs weight cut e) = cc (mul-add-bytes-one-buffer start cs b h)
 
 pub adds-short : (w : ℕ) (xs b c : List ℕ) → length b < lendLimit → Adds w xs b c → length c < lendLimit
 adds-short w xs b c h p = omega (arith, ap length (one-answer w xs b c h p), length-mulAdd w xs b)
@@ -44,8 +43,7 @@ pub twice-restores : TwiceRestores
 twice-restores w xs b c d h p q = two-adds w w xs xs b c d h p q ∙ mulAdd-twice w xs b
 
 pub either-order : EitherOrder
-either-order v w xs ys b c d c′ d′ h p q p′ q′ =
-    two-adds v w xs ys b c d h p q ∙ mulAdd-order v w xs ys b ∙ sym (two-adds w v ys xs b c′ d′ h p′ q′)
+either-order v w xs ys b c d c′ d′ h p q p′ q′ = cc (two-adds v w xs ys b c d h p q, mulAdd-order v w xs ys b, two-adds w v ys xs b c′ d′ h p′ q′)
 
 -- ---- the weight 1
 

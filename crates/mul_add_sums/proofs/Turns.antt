@@ -30,8 +30,7 @@ module _ (v w : ℕ) (b : List ℕ) (h : length b < lendLimit) where
 
   -- a push of the first job, which commutes with what the second has added; and one of the second
   first-on : (m n c now : List ℕ) → now ≡ both m n → mulAddAt v (length m) c now ≡ both (m ++ c) n
-  first-on m n c now e =
-      ap (mulAddAt v (length m) c) (e ∙ mulAdd-order v w m n b) ∙ at-next v m c (mulAdd w n b) ∙ sym (mulAdd-order v w (m ++ c) n b)
+  first-on m n c now e = simp (e, mulAdd-order, at-next)
 
   second-on : (m n c now : List ℕ) → now ≡ both m n → mulAddAt w (length n) c now ≡ both m (n ++ c)
   second-on m n c now e = ap (mulAddAt w (length n) c) e ∙ at-next w n c (mulAdd v m b)
@@ -52,5 +51,4 @@ module _ (v w : ℕ) (b : List ℕ) (h : length b < lendLimit) where
 pub jobs-in-turn : JobsInTurn
 unfolding mulAdd
 jobs-in-turn v w turns b c d h p q =
-    turns-go v w b h [] [] (startMulAdd v) (startMulAdd w) turns b refl refl refl
-    ∙ sym (two-adds v w (firsts turns) (seconds turns) b c d h p q)
+    simp (turns-go v w b h [] [] (startMulAdd v) (startMulAdd w) turns b refl refl refl, two-adds v w (firsts turns) (seconds turns) b c d h p q)

@@ -1,10 +1,5 @@
 -- `job_bytes::mul_adds::start_mul_add` meets its contract.
 -- Assumes nothing.
-use mathlib.Core.Path.{ap, _∙_}
-use denote.Ref.{now}
-use Rattle.running_mul_add.specs.Running.{accepted}
-use Rattle.running_mul_add.specs.declared.RunningMulAdd.{RunningMulAdd}
-use Rattle.job_bytes.specs.MulAdds.{mulAddStored}
 use borrow.Author.Needs.{needs}
 use Rattle.job_bytes.proofs.mul_adds.start_mul_add.Statement.{statement}
 use Rattle.job_bytes.proofs.mul_adds.start_mul_add.Tie as tie
@@ -12,8 +7,7 @@ use Rattle.job_bytes.proofs.mul_adds.start_mul_add.Tie as tie
 returns : tie.Need-returns
 returns c = let stored = c .before .before in
     let begun = stored .before .before in
-    stored .store-mul-add .ensures
-    ∙ ap (λ (s : RunningMulAdd). mulAddStored (accepted s) (now (begun .before .before .args .out))) (begun .start .ensures)
+    cc
 
 pub start-mul-add-spec : {M : Type 1} → statement M
 start-mul-add-spec = tie.close (tie.spec (λ c κs. search needs) (λ c κs. search needs) (λ c. search needs) returns)
