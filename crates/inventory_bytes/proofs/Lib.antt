@@ -1,3 +1,4 @@
 pub mod BackLaws
+pub mod CountPlaces
 mod InventoryLaws
 mod CountLaws

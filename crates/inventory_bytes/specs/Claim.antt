@@ -5,6 +5,8 @@
 --   StoredBack    144 bytes whose code is one are the bytes of the inventory that they are
 --   OtherBytes    all other bytes are zeros, which no calls give: every call refuses it with 10
 --   RefusedZeros  what a refused opening hands back is 144 bytes that are 0
+--   CountAt f v q out     the numbers of a count stand in out: files at 0, volumes at 8, those in quarantine at 16 (include/par1.h: PAR1_COUNT_..)
+--   CountPlaced   so do those that an accepted count writes
 -- Assumes nothing.
 use mathlib.Core.Path.{_≡_}
 use mathlib.Core.Logic.{_⊎_, _≢_}
@@ -14,11 +16,12 @@ use Prim.Native.Nat.{ℕ, _^_, _<_}
 use lib.ListN.{length, replicate}
 use Rattle.codes.specs.Codes.{isCode}
 use Rattle.codes.specs.declared.Code.{Code}
-use Rattle.little_endian.specs.Bytes.{Bytes}
+use Rattle.little_endian.specs.Bytes.{Bytes, leAt}
 use Rattle.number_sets.specs.Sets.{Words}
+use Rattle.inventory.specs.Model.{counts}
 use Rattle.inventory.specs.Steps.{zeros, openStep}
 use Rattle.inventory.specs.declared.Inventory.{Inventory}
-use Rattle.inventory_bytes.specs.Inventories.{codeNumberIn, inventoryOf, inventoryBytes}
+use Rattle.inventory_bytes.specs.Inventories.{codeNumberIn, inventoryOf, inventoryBytes, countedInto}
 
 pub record Held (s : Inventory) : Type 0 where
   pub small : s .n < 2 ^ 64
@@ -44,3 +47,14 @@ OtherBytes = (b : List ℕ) → (length b ≢ 144) ⊎ (isCode (codeNumberIn b) 
 -- proved: proofs/BackLaws.antt, `refused-zeros`
 abbrev pub RefusedZeros : Type 0
 RefusedZeros = (c : Code) (n : ℕ) (sizes : List ℕ) → openStep c n sizes .number ≢ 0 → inventoryBytes (openStep c n sizes .next) ≡ replicate 144 0
+
+-- "how many files and how many volumes are in hand"; document 02, 2026-10: "The sheet also counts those set aside."
+pub record CountAt (files volumes quarantined : ℕ) (out : List ℕ) : Type 0 where
+  pub files-at : leAt 8 out 0 ≡ files
+  pub volumes-at : leAt 8 out 8 ≡ volumes
+  pub quarantined-at : leAt 8 out 16 ≡ quarantined
+
+-- proved: proofs/CountPlaces.antt, `count-placed`
+abbrev pub CountPlaced : Type 0
+CountPlaced =
+    (f v q : ℕ) → f < 2 ^ 64 → v < 2 ^ 64 → q < 2 ^ 64 → (out out′ : List ℕ) → countedInto (counts f v q) out ≡ (0, out′) → CountAt f v q out′
