@@ -37,6 +37,7 @@ use Rattle.par1_read.specs.declared.reading.Reading.{Reading}
 use Rattle.par1_read.specs.declared.reading.Reading.the-variants as reading
 use Rattle.par1_read.proofs.ReadingLaws.{refused-some}
 use Rattle.par1_rules.specs.Layout.{volumeNumberOf, listOf}
+use Rattle.par1_rules.proofs.RuleLaws.{number-range}
 use Rattle.catalog.specs.Rows.{numberOf, rowsFor, volumeRow, catalogHead, catalogBytes}
 use Rattle.catalog.specs.Catalog.{entryCount, volumeCount, catalogLength, entryRows, volumeRows, volumeRowsAllowed, isCatalog, holds}
 use Rattle.catalog.specs.Calls.{openRefusal, openOf, volumeInRange, addNumber, addRefusal, addedBytes, addOf, dropNumber, droppedBytes, dropOf, loadingOf}
@@ -49,7 +50,7 @@ use Rattle.catalog.proofs.CatalogLaws.{Catalog, is-catalog}
 use Rattle.catalog.proofs.ChangeLaws.{length-head, at-most, length-catalog, length-added, length-dropped, inserted-over, removed-over}
 use Rattle.catalog.proofs.ListLaws.{length-rows-after, rows-sized-for}
 use Rattle.catalog.proofs.PlaceLaws.{holds-place, first-row}
-use Rattle.catalog.proofs.ReadLaws.{Told, told, number-low, length-volume-row, volume-row-number}
+use Rattle.catalog.proofs.ReadLaws.{Told, told, length-volume-row, volume-row-number}
 use Rattle.catalog.proofs.RowLaws.{flatten-rows, length-rows}
 
 -- ---- plans
@@ -137,7 +138,7 @@ held-within b c v h = by (ltb (placeOf v vs) (length vs)) refl (sym (holds-place
 pub count-low : (n g u : ℕ) (rs : List (List ℕ)) → volumeRowsAllowed n g u rs ≡ true → u ≤ 255 → u + length rs ≤ 255
 count-low n g u [] e h = omega arith
 count-low n g u (r ∷ rs) e h = let f = first-row n g u r rs e in
-    let low = number-low (numberOf r) n (f .number-right) in
+    let low = number-range (numberOf r) n (f .number-right) .0 in
     omega (arith, count-low n g (numberOf r) rs (f .others) low, f .above)
 
 pub volumes-few : (b : List ℕ) → Catalog b → volumeCount b ≤ 255

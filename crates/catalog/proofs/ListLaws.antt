@@ -19,11 +19,10 @@ use Rattle.cut_lists.specs.All.{All, all-none, all-more}
 use Rattle.little_endian.proofs.Stores.{sets-append}
 use Rattle.lent_bytes.specs.Equal.{equal}
 use Rattle.lent_bytes.proofs.EqualLaws.{equal-true}
-use Rattle.cut_lists.proofs.CutLaws.{cut-all}
-use Rattle.entries.specs.Entry.{statusOf, md5Of, savedCount, lengthOf}
+use Rattle.entries.specs.Entry.{statusOf, md5Of, savedCount}
 use Rattle.entries.specs.Walk.{entriesOf}
-use Rattle.entries.proofs.EntryLaws.{EntryAt, length-sized}
-use Rattle.entries.proofs.WalkLaws.{entries-more}
+use Rattle.entries.proofs.EntryLaws.{EntryAt}
+use Rattle.entries.proofs.WalkLaws.{entries-long, entries-more}
 use Rattle.par1_rules.proofs.HashLaws.{hash-part}
 use Rattle.catalog.specs.Rows.{row, fileNumberAfter, rowsAfter}
 use Rattle.catalog.proofs.RowLaws.{Sized, length-row}
@@ -95,10 +94,6 @@ compare-end t at e h = ap (λ (l : List (List ℕ)). equal (flatten l) (drop at 
     by (x ∷ l) z = sym (ne-eqb at (length t) (λ k. omega (arith, ap length z, length-drop at t)))
 
 -- ---- the length of the rows
-
-entries-long : (s : List ℕ) → All (λ e. 58 ≤ length e) (entriesOf s .pieces)
-entries-long = cut-all lengthOf (λ e. 58 ≤ length e) (λ s some found. let l = length-sized s found in
-    omega (arith, length-take-le (lengthOf s) s (l .2), l .1))
 
 after-sized : (k : ℕ) {es : List (List ℕ)} → All (λ e. 58 ≤ length e) es → All Sized (rowsAfter k es)
 unfolding rowsAfter

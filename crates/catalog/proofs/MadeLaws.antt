@@ -41,13 +41,14 @@ use Rattle.par1_read.specs.Reading.{entriesIn, readOf}
 use Rattle.par1_read.specs.declared.reading.Parts.{Parts}
 use Rattle.par1_read.specs.declared.reading.Reading.the-variants as reading
 use Rattle.par1_rules.specs.Layout.{volumeNumberOf, dataSizeOf}
+use Rattle.par1_rules.proofs.RuleLaws.{number-range}
 use Rattle.par1_rules.specs.Rules.{numberAllowed, dataAllowed}
 use Rattle.catalog.specs.Rows.{row, numberOf, sizeOf, fileNumberAfter, rowsAfter, volumeRow}
 use Rattle.catalog.specs.Catalog.{rowsIn, isSavedRow, savedRows, greatestSize, inTurn, entryRowsAllowed, volumeRowsAllowed}
 use Rattle.catalog.proofs.AlikeLaws.{Alike, alike-none, alike-more}
 use Rattle.catalog.proofs.MadeBytes.{bytes-none, bytes-cons, bytes-zeros, bytes-entry, bytes-volume}
 use Rattle.catalog.proofs.PlaceLaws.{first-row}
-use Rattle.catalog.proofs.ReadLaws.{told, number-low}
+use Rattle.catalog.proofs.ReadLaws.{told}
 
 -- ---- the first 12 bytes of a row
 
@@ -284,7 +285,7 @@ module _ (rs : List (List ℕ)) (allowed : entryRowsAllowed 0 rs ≡ true) (few 
       let long : length (replicate {A = ℕ} g 0) ≡ g = length-replicate g 0 in
       let other : eqb (numberOf r) 0 ≡ false = ne-eqb (numberOf r) 0 (λ z. omega arith) in
       let data-right : dataAllowed (numberOf r) g (length (replicate {A = ℕ} g 0)) ≡ true = simp (other, eq-eqb _ _ long) in
-      let f = made-file (numberOf r) (replicate g 0) (omega (arith, number-low (numberOf r) _ right)) (bytes-zeros g) (omega (arith, size-most)) right data-right in
+      let f = made-file (numberOf r) (replicate g 0) (omega (arith, number-range (numberOf r) _ right .0)) (bytes-zeros g) (omega (arith, size-most)) right data-right in
       record { file = subst (λ (n : ℕ). MadeFile rs (numberOf r) n (madeVolume rs r)) (long ∙ sym size) f; some = some }
 
   pub volumes-made : (v : ℕ) (vs : List (List ℕ)) → volumeRowsAllowed (length (savedRows rs)) (greatestSize rs) v vs ≡ true → All (VolumeMade rs) vs

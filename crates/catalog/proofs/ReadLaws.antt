@@ -2,17 +2,13 @@
 --
 --   Told f p     what reading tells of a file f with the parts p
 -- Assumes nothing.
-use mathlib.Core.Path.{_≡_, refl, sym, ap, _∙_}
-use mathlib.Core.Bool.{Bool, true, false, _&&_, _||_}
+use mathlib.Core.Path.{_≡_, sym, ap, _∙_}
+use mathlib.Core.Bool.{true}
 use mathlib.Core.List.{List}
-use Prim.Native.Nat.{ℕ, _+_, _^_, _≤_, _<_}
+use Prim.Native.Nat.{ℕ, _^_, _≤_, _<_}
 use native.Mathlib.Omega.{arith}
-use lib.Dec.{leb, eqb}
 use lib.ListN.{length, take, drop, length-drop}
 use lib.Seq.{length-take-le}
-use borrow.Author.Tests.{leb-true, eqb-true}
-use Rattle.computed_tests.proofs.Tests.{and-both}
-use Rattle.refusals.specs.Limits.{maxFiles}
 use Rattle.entries.specs.Numbering.{savedOf}
 use Rattle.entries.specs.Walk.{greatestOf}
 use Rattle.entries.specs.declared.Totals.{Totals}
@@ -22,6 +18,7 @@ use Rattle.par1_read.specs.declared.reading.Parts.{Parts}
 use Rattle.par1_read.specs.declared.reading.Reading.the-variants.{Accepted}
 use Rattle.par1_read.proofs.ReadingLaws.{read-tells}
 use Rattle.par1_rules.specs.Layout.{volumeNumberOf, dataSizeOf, controlHashOf, listOf}
+use Rattle.par1_rules.proofs.RuleLaws.{number-range}
 use Rattle.par1_rules.specs.Rules.{numberAllowed, dataAllowed}
 use Rattle.catalog.specs.Rows.{row, numberOf, sizeOf, volumeRow}
 use Rattle.catalog.proofs.RowLaws.{length-row, number-row, size-row}
@@ -37,15 +34,6 @@ pub record Told (f : List ℕ) (p : Parts) : Type 0 where
   pub short : dataSizeOf f < 2 ^ 64
   pub low : volumeNumberOf f ≤ 255
 
--- "number + n above 255" is refused
-pub number-low : (v n : ℕ) → numberAllowed v n ≡ true → v ≤ 255
-unfolding numberAllowed
-number-low v n e = by (eqb v 0) refl (and-both (leb n maxFiles) (eqb v 0 || (leb 1 n && leb (v + n) 255)) e .1)
-  where
-    by : (t : Bool) → t ≡ eqb v 0 → (t || (leb 1 n && leb (v + n) 255)) ≡ true → v ≤ 255
-    by true z k = omega (arith, eqb-true v 0 (sym z))
-    by false z k = omega (arith, leb-true (v + n) 255 (and-both (leb 1 n) (leb (v + n) 255) k .1))
-
 pub told : (f : List ℕ) {p : Parts} → readOf f ≡ Accepted p → Told f p
 told f {p} e = let r = read-tells f p e in
     let t = r .tests in
@@ -60,7 +48,7 @@ told f {p} e = let r = read-tells f p e in
       data-right = ap (λ (u : Totals). dataAllowed (volumeNumberOf f) (u .greatest) (dataSizeOf f)) (sym are) ∙ t .totals .data-right;
       long = t .header .size .low;
       short = omega (arith, t .header .layout .data-end, t .header .size .high);
-      low = number-low (volumeNumberOf f) _ right;
+      low = number-range (volumeNumberOf f) _ right .0;
     }
 
 -- ---- the row of a volume
