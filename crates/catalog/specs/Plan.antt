@@ -5,6 +5,7 @@
 --   enteredOf rs       how many saved files the entry rows rs tell, and the greatest size of one, where the rows may stand in a catalog
 --   placeOf v rs       the place of volume v among the volume rows rs, from 0: the first with no lower number
 --   placeIn b v        where the row of volume v lies in the catalog b, or is to lie, and whether it is there
+--   planBy k p         the place p, or the refusal k where it is one
 --   planAdd b vol, planDrop b v     where the row lies, or the number of the refusal, the room apart
 --   spread at to r s   the bytes s with the row r at the byte at: those up to the byte to move up
 --   closed at to s     the bytes s without the row at the byte at: those up to the byte to move down

@@ -23,10 +23,10 @@ pub use records::row_at;
 use refusals::bare;
 
 // The four numbers before the rows.
-pub const HEAD_LENGTH: usize = 16;
+pub(crate) const HEAD_LENGTH: usize = 16;
 
 // The length of a row: a number, a size and a hash.
-pub const ROW_LENGTH: usize = 28;
+pub(crate) const ROW_LENGTH: usize = 28;
 
 // Writes the catalog of the list of `file`, with no volumes, over the first bytes of `out`.
 pub fn open(file: &[u8], out: &mut [u8]) -> Writing

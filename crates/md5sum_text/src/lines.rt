@@ -9,13 +9,13 @@ use par1_rules::layout;
 use text::line_length;
 
 // The length of a sum in digits.
-pub const SUM_LENGTH: usize = 32;
+pub(crate) const SUM_LENGTH: usize = 32;
 
 // Where the name starts in a line.
-pub const LINE_NAME_AT: usize = 34;
+const LINE_NAME_AT: usize = 34;
 
 // The shortest line: sum, two spaces, one byte of name, byte 10.
-pub const MIN_LINE_LENGTH: usize = 36;
+const MIN_LINE_LENGTH: usize = 36;
 
 // The lines of the right shape that a text begins with: how many there are, and where they end.
 pub struct Shapes {

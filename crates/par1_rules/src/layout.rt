@@ -7,7 +7,7 @@ ghost use Rattle.entries.specs.Entry.{nameOf};
 pub const SIGNATURE: u64 = 0x524150;
 
 // The versions of the two codes.
-pub const VERSION: u32 = 65536;
+pub const POWERS_VERSION: u32 = 65536;
 
 pub const CAUCHY_VERSION: u32 = 131328;
 

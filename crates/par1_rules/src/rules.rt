@@ -21,7 +21,7 @@ pub fn length_allowed(length: usize) -> bool
 pub fn version_allowed(version: u32) -> bool
     ensures { λ r. ⌜ r ≡ versionAllowed version ⌝ }
 {
-    if version == layout::VERSION {
+    if version == layout::POWERS_VERSION {
         return true;
     }
     version == layout::CAUCHY_VERSION
@@ -32,7 +32,7 @@ pub fn version_of(code: Code) -> u32
     ensures { λ r. ⌜ r ≡ versionFor code ⌝ }
 {
     match code {
-        Code::Powers => layout::VERSION,
+        Code::Powers => layout::POWERS_VERSION,
         Code::Cauchy => layout::CAUCHY_VERSION,
     }
 }
@@ -41,7 +41,7 @@ pub fn version_of(code: Code) -> u32
 pub fn code_in(version: u32) -> Code
     ensures { λ r. ⌜ r ≡ codeIn version ⌝ }
 {
-    if version == layout::VERSION {
+    if version == layout::POWERS_VERSION {
         return Code::Powers;
     }
     Code::Cauchy
