@@ -8,7 +8,7 @@
 enum { FILES = 6, SIZE = 500, VOLUMES = 3, NAME = 2, ENTRY = PAR1_NAME_AT + NAME, LIST = FILES * ENTRY, LENGTH = PAR1_LIST_AT + LIST + SIZE };
 enum { DAMAGED = 3, MISSING = 5, BAD = 2 };
 
-/* By number, from 1, as they came; the bytes of a file that is missing are not looked at, for its weight is 0. */
+/* By number, from 1, as they came; the bytes of a file that is missing count for nothing, for its weight is 0. */
 static uint8_t files[FILES + 1][SIZE], volumes[VOLUMES + 1][LENGTH], list[LIST], inventory[PAR1_INVENTORY_BYTES];
 
 static void accepted(const char *call, par1_answer answer) {

@@ -51,7 +51,7 @@
  *   par1_quarantine      10 11                  the inventory's 144                         1,000
  *   par1_release         10 11                  the inventory's 144                         1,000
  *   par1_count           10 14                  24                                            400
- *   par1_query           10 13 12 14            255                                        69,000
+ *   par1_query           10 13 12 14            255                                        68,900
  *
  *   text
  *   par1_compare         14                     the text                                    3,000

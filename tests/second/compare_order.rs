@@ -194,7 +194,7 @@ const BREAKS: [fn(&mut Vec<u8>); 7] = [
 ];
 
 /// Of four files 1 and 2 are present, 3 and 4 are not; of the volumes 1 is present, 4 in quarantine, and 2 and 3 are neither. A broken inventory is 10
-/// whatever else is wrong; else the later refusal is answered, with 14 after 13 and 12.
+/// whatever else is wrong; else each is refused as its row says, 29 before 27 and 11, 14 after 13 and 12.
 fn inventories(counts: &mut Counts) {
     for code in CODES {
         let (own, other) = (code.number(), code.other().number());
