@@ -13,7 +13,9 @@
 --   Calls, CallsAfresh     after any run of calls, refused ones too, a volume true at the start equals one written afresh
 --   NoSuchFile f vol       10: the volume vol has no file f, or is an index
 --   WrongChange c e d      21: the change c of the file with the entry e, which is then d
---   Fails, Refuses         which refusal is the first, in the document's order
+--   Fails rules c d vol out k     k is the number of the first test that holds, of those after reading, for the change c of the volume vol and the new
+--                          entry d
+--   Refuses rules n c d out r     r is the first refusal of the call that holds, in the document's order
 --   AmendRefused           the call gives it, and no byte of the room changes; and nothing else is refused: of the new entry no hash is verified
 --   RoomKept               an accepted call leaves the room past the new length
 -- What excludes an empty reading: a volume that is refused is no volume of files that keep the rules, a change that may be made is made

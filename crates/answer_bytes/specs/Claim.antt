@@ -1,6 +1,6 @@
 -- Where the numbers stand that C is handed of a file and of an entry, 64 bits each (include/par1.h: PAR1_PARTS_.., PAR1_ENTRY_..).
 --
---   PartsFit p             the numbers of the parts p are of 64 bits, as their types have it
+--   PartsFit p             the numbers of the parts p fit their types: 32 bits the program identifier, 64 the others
 --   PartsAt p out          the parts p stand in out, from the program identifier at 0 to the number of the code at 56
 --   EntryAt l st n out     the length, the status and the file size of an entry stand in out at 0, 8 and 16
 --   PartsPlaced            so do those that a file which is read gives

@@ -223,7 +223,7 @@ module _ (b vol : List ℕ) {parts : Parts} (read : readOf vol ≡ reading.Accep
       }
 
   -- the bytes that are to be written
-  added-length : Catalog b → length (addedBytes b vol) ≡ catalogLength b + 28
+  pub added-length : Catalog b → length (addedBytes b vol) ≡ catalogLength b + 28
   added-length c = length-added b c (volumeRow vol) (length-volume-row vol (told vol read))
 
   add-none : addNumber b vol ≡ 0 → addRefusal b vol (readOf vol) .number ≡ 0

@@ -32,19 +32,19 @@ use Rattle.par1_read.specs.declared.reading.Parts.{Parts}
 use Rattle.par1_read.specs.declared.reading.Reading.{Reading}
 use Rattle.par1_read.specs.declared.reading.Reading.the-variants as reading
 use Rattle.par1_rules.specs.Layout.{volumeNumberOf, listOf}
-use Rattle.catalog.specs.Rows.{numberOf, rowsFor, volumeRow, catalogBytes}
+use Rattle.catalog.specs.Rows.{numberOf, rowsFor, catalogBytes}
 use Rattle.catalog.specs.Catalog.{entryCount, catalogLength, entryRows, volumeRows, isCatalog, holds}
 use Rattle.catalog.specs.Calls.{openRefusal, openOf, volumeInRange, addNumber, addRefusal, addedBytes, addOf, dropNumber, droppedBytes, dropOf, loadingOf, filledBy, loadOf}
 use Rattle.catalog.specs.Runs.{Call, opening, adding, dropping, given}
 use Rattle.catalog.specs.Claim as claim
 use Rattle.catalog.specs.Claim.{OutOfRange, HasRow, filesIn, AddFails, Refuses, CallRefused, LoadRefuses, LoadRefused}
 use Rattle.catalog.specs.declared.records.Row.{Row}
-use Rattle.catalog.proofs.CallLaws.{length-opened, open-unread, add-unread, held-within}
+use Rattle.catalog.proofs.CallLaws.{length-opened, added-length, open-unread, add-unread, held-within}
 use Rattle.catalog.proofs.CatalogLaws.{Catalog, is-catalog}
-use Rattle.catalog.proofs.ChangeLaws.{entries-sized, length-added, length-dropped}
+use Rattle.catalog.proofs.ChangeLaws.{entries-sized, length-dropped}
 use Rattle.catalog.proofs.StepLaws.{passed-none, rows-equal, refused-same}
 use Rattle.catalog.proofs.ListLaws.{rows-sized-for}
-use Rattle.catalog.proofs.ReadLaws.{told, length-volume-row}
+use Rattle.catalog.proofs.ReadLaws.{told}
 use Rattle.catalog.proofs.RowLaws.{length-rows}
 
 -- ---- the tests
@@ -120,9 +120,6 @@ module _ (b vol : List ℕ) {p : Parts} (read : readOf vol ≡ reading.Accepted 
   unfolding addOf
   number-refused k some e = sym (unless-refused (addedBytes b vol) b (sym (gives-number e)) some refl)
 
-  added-length : Catalog b → length (addedBytes b vol) ≡ catalogLength b + 28
-  added-length c = length-added b c (volumeRow vol) (length-volume-row vol (told vol read))
-
   passed : isCatalog b ≡ true → volumeInRange (volumeNumberOf vol) b ≡ true → rowsFor (entriesIn vol) ≡ entryRows b
       → length (entriesIn vol) ≤ maxEntries → holds (volumeNumberOf vol) (volumeRows b) ≡ false → addNumber b vol ≡ 0
   passed is r same few none =
@@ -142,7 +139,7 @@ module _ (b vol : List ℕ) {p : Parts} (read : readOf vol ≡ reading.Accepted 
   add-fails (claim.no-room-to-add is o same few has short) =
       let none = passed is (in-range _ _ o) same few (not-held _ (volumeRows b) has) in
       sym (unless-none (addedBytes b vol) b (sym (gives-number none)) refl
-      (written-short (addedBytes b vol) b (omega (arith, added-length (is-catalog b is)))))
+      (written-short (addedBytes b vol) b (omega (arith, added-length b vol read (is-catalog b is)))))
 
 -- ---- the other calls
 

@@ -21,7 +21,6 @@ use Rattle.entries.specs.declared.Fault.the-variants.{FileSize, Name}
 use Rattle.entries.specs.declared.Item.{Item}
 use Rattle.entries.specs.declared.Item.the-variants as item
 use Rattle.entries.specs.declared.Totals.{Totals}
-use Rattle.entries.specs.declared.Walked.the-variants as walked
 use Rattle.entries.proofs.EntryLaws.{sized, first-some}
 use Rattle.entries.proofs.FirstFaults.{sized-right}
 use Rattle.entries.proofs.WalkLaws.{stopped}

@@ -1,7 +1,8 @@
 -- The claims on what the lines of two accepted files name.
 --
---   Read f, read-is       what holds of an accepted file's header and data
+--   long                  an accepted file has a header
 --   number-differs        a number differs exactly where its bytes do
+--   data-size, data-byte  the data of an accepted file, by its header
 --   head-named, entry-named, all-named, data-named     the claims
 -- Assumes nothing.
 use mathlib.Core.Path.{_≡_, refl, sym, ap, _∙_, subst}
@@ -37,7 +38,7 @@ use Rattle.comparing.proofs.SectionLaws.{in-head, in-list, in-data}
 
 -- a number differs exactly where its bytes do
 module _ (k i : ℕ) (f g : List ℕ) (bytes-one : Bytes f) (bytes-two : Bytes g) (fits-one : i + k ≤ length f) (fits-two : i + k ≤ length g) where
-  pub number-differs : (take k (drop i f) ≡ take k (drop i g) → ⊥) ↔ (leAt k f i ≡ leAt k g i → ⊥)
+  number-differs : (take k (drop i f) ≡ take k (drop i g) → ⊥) ↔ (leAt k f i ≡ leAt k g i → ⊥)
   unfolding leAt
   number-differs = (λ h e. h (sym (to-leAt k f i bytes-one fits-one) ∙ ap (toLe k) e ∙ to-leAt k g i bytes-two fits-two), λ h e. h (ap fromLe e))
 

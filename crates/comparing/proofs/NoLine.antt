@@ -181,7 +181,7 @@ module _ (f g : List ℕ) (c : Compared f g) (none : linesOf f g ≡ []) where
       differ : (i : ℕ) → i < dataSizeOf f → (byteAt f i ≡ byteAt g i → ⊥) → ⊥
       differ i h d = let r = data-named f g c i .1 (inr (h, omega (arith, same-size), d)) in no-member _ (r .listed)
 
-  pub none-same : f ≡ g
+  none-same : f ≡ g
   none-same = let one = read-tells f (c .accepted-one .0) (c .accepted-one .1) .tests in
       let two = read-tells g (c .accepted-two .0) (c .accepted-two .1) .tests in
       let list : listOf f ≡ listOf g = sym (list-joined f one) ∙ ap flatten same-entries ∙ list-joined g two in

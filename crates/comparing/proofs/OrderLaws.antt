@@ -136,7 +136,7 @@ apart-pairwise : {p : ℕ} {rs : List Run} → Apart p rs → Pairwise (λ r s. 
 apart-pairwise apart-none = pairwise-none
 apart-pairwise (apart-more {r = r} low right later) = pairwise-more {x = r} (all-map (λ s h. omega arith) (apart-after later)) (apart-pairwise later)
 
-pub apart-right : {p : ℕ} {rs : List Run} → Apart p rs → All (λ r. r .first ≤ r .last) rs
+apart-right : {p : ℕ} {rs : List Run} → Apart p rs → All (λ r. r .first ≤ r .last) rs
 apart-right apart-none = all-none
 apart-right (apart-more {r = r} low right later) = all-more right (apart-right later)
 

@@ -51,7 +51,7 @@ module _ {F : Type 0} (K : Field F) where
   unfolding rowTimes
   rowTimes-cong n u v D j e = S.sum-cong K n (λ i. u i ⊗ D i j) (λ i. v i ⊗ D i j) (λ i l. ap (λ (x : F). x ⊗ D i j) (e i l))
 
-  pub rowTimes-add : (n : ℕ) (u v : ℕ → F) (D : ℕ → ℕ → F) (j : ℕ)
+  rowTimes-add : (n : ℕ) (u v : ℕ → F) (D : ℕ → ℕ → F) (j : ℕ)
       → rowTimes K n (λ i. u i ⊕ v i) D j ≡ rowTimes K n u D j ⊕ rowTimes K n v D j
   unfolding rowTimes
   rowTimes-add n u v D j =

@@ -52,7 +52,7 @@ pub powers-are : (ps : List ℕ) → length ps ≡ 263 → doubles ps ≡ true �
 unfolding powersOf2
 powers-are ps e t = listBelow-is 263 (λ i. power 2 i) ps e (powers-at ps t)
 
-pub power-table-at : (i : ℕ) → i < 263 → getD powersOf2 i 0 ≡ power 2 i
+power-table-at : (i : ℕ) → i < 263 → getD powersOf2 i 0 ≡ power 2 i
 unfolding powersOf2
 power-table-at i h = listBelow-at 263 (λ i. power 2 i) i h
 

@@ -3,7 +3,7 @@
 --   ProductIsRemainder   the product is the remainder of the polynomial product by 285, and there is no other
 --   FieldLaws            with their sum and product the bytes are a field, save for inverses
 --   OneInverse           each byte other than 0 has one inverse
---   InverseAnswered      a call for the inverse of 0 is refused with 10, and any other is answered
+--   InverseAnswered      the inverse of 0 is refused with 10, and that of any other byte is answered
 --   OneTable             there is one table of exponents
 --   ByTables             products and powers by the tables are the products and powers
 -- Assumes nothing.

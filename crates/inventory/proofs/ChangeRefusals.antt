@@ -1,7 +1,9 @@
 -- Which changes are refused, and by which test (document 01, "The sheet"; document 02, 2026-10, 2026-13).
 --
 --   decides-not               a test that fails where something is found
---   range-decides, code-decides, aside-decides, done-decides     tests 10, 29, 27 and 11
+--   range-decides             test 10
+--   code-found, code-back, aside-found, aside-back, done-found, done-back     tests 29, 27 and 11, both ways
+--   chained                   the step's number is that of the tests one after another
 --   change-told               the model's number of a change is that of the first test that holds
 --   change-refused-for, change-refused     the claim over any rules, and at those of the two codes
 -- Assumes nothing.
@@ -10,6 +12,7 @@ use mathlib.Core.Bool.{Bool, true, false, not, _||_, true≢false, false≢true}
 use mathlib.Core.List.{[], _∷_}
 use Prim.Native.Nat.{ℕ}
 use native.Mathlib.Omega.{arith}
+use borrow.Author.Tests.{not-true}
 use Rattle.codes.specs.Codes.{same}
 use Rattle.codes.specs.declared.Code.{Code}
 use Rattle.codes.proofs.CodeLaws.{same-itself, same-only}
@@ -19,10 +22,10 @@ use Rattle.refusals.specs.Order.{First}
 use Rattle.refusals.specs.Tests.{test}
 use Rattle.refusals.proofs.OrderLaws.{Decides, passes, fails, decides-by, Told, none, some, told-end, told-test, told-first}
 use Rattle.inventory.specs.Model.{Change, addFile, removeFile, addVolume, removeVolume, quarantine, release, numberOf}
-use Rattle.inventory.specs.Model.{change, numbered, opened, after, Gives}
+use Rattle.inventory.specs.Model.{change, numbered, Gives}
 use Rattle.inventory.specs.Steps.{inRange, ofOtherCode, whileQuarantined, already, changeNumber}
-use Rattle.inventory.specs.Claim.{sizeIn, ChangeRefusedFor, ChangeRefused, ChangeFails, out-of-range, other-code, set-aside}
-use Rattle.inventory.specs.Claim.{file-here, file-missing, volume-here, volume-missing, not-here, not-aside}
+use Rattle.inventory.specs.Claim.{sizeIn, stateAfter, ChangeRefusedFor, ChangeRefused, ChangeFails, out-of-range, other-code, in-quarantine}
+use Rattle.inventory.specs.Claim.{file-present, file-missing, volume-present, volume-missing, not-present, not-in-quarantine}
 use Rattle.inventory.proofs.ChangeNumbers.{model-number}
 use Rattle.inventory.proofs.Representation.{meets}
 use Rattle.inventory.proofs.RangeRefusals.{range-exactly}
@@ -31,10 +34,6 @@ use Rattle.inventory.proofs.Condition.{calls-sound}
 decides-not : (b : Bool) {P : Type 0} → (b ≡ true → P) → (P → b ≡ true) → Decides (not b) P
 decides-not true to back = fails refl (to refl)
 decides-not false to back = passes refl (λ p. false≢true (back p))
-
-not-true : (b : Bool) → not b ≡ true → b ≡ false
-not-true true e = sym e
-not-true false e = refl
 
 neither : (a b : Bool) → not (a || b) ≡ true → (a ≡ false) × (b ≡ false)
 neither true b e = absurd (false≢true e)
@@ -69,32 +68,32 @@ module _ (t : State) where
   unfolding whileQuarantined
   aside-found addFile j e = absurd (false≢true e)
   aside-found removeFile j e = absurd (false≢true e)
-  aside-found (addVolume d) j e = set-aside e
+  aside-found (addVolume d) j e = in-quarantine e
   aside-found removeVolume j e = absurd (false≢true e)
   aside-found quarantine j e = absurd (false≢true e)
   aside-found release j e = absurd (false≢true e)
 
   aside-back : (c : Change) (j : ℕ) → ChangeFails t c j 27 → whileQuarantined c (t .quarantined) j ≡ true
   unfolding whileQuarantined
-  aside-back (addVolume d) j (set-aside e) = e
+  aside-back (addVolume d) j (in-quarantine e) = e
 
   done-found : (c : Change) (j : ℕ) → already c (t .files) (t .volumes) (t .quarantined) j ≡ true → ChangeFails t c j 11
   unfolding already
-  done-found addFile j e = file-here e
+  done-found addFile j e = file-present e
   done-found removeFile j e = file-missing (not-true (t .files j) e)
-  done-found (addVolume d) j e = volume-here e
+  done-found (addVolume d) j e = volume-present e
   done-found removeVolume j e = let both = neither (t .volumes j) (t .quarantined j) e in volume-missing (both .0) (both .1)
-  done-found quarantine j e = not-here (not-true (t .volumes j) e)
-  done-found release j e = not-aside (not-true (t .quarantined j) e)
+  done-found quarantine j e = not-present (not-true (t .volumes j) e)
+  done-found release j e = not-in-quarantine (not-true (t .quarantined j) e)
 
   done-back : (c : Change) (j : ℕ) → ChangeFails t c j 11 → already c (t .files) (t .volumes) (t .quarantined) j ≡ true
   unfolding already
-  done-back addFile j (file-here e) = e
+  done-back addFile j (file-present e) = e
   done-back removeFile j (file-missing e) = ap not e
-  done-back (addVolume d) j (volume-here e) = e
+  done-back (addVolume d) j (volume-present e) = e
   done-back removeVolume j (volume-missing e f) = simp (e, f)
-  done-back quarantine j (not-here e) = ap not e
-  done-back release j (not-aside e) = ap not e
+  done-back quarantine j (not-present e) = ap not e
+  done-back release j (not-in-quarantine e) = ap not e
 
 chained : (ranged other aside done : Bool)
     → changeNumber ranged other aside done ≡ test 10 ranged (test 29 (not other) (test 27 (not aside) (test 11 (not done) 0)))
@@ -127,14 +126,14 @@ change-told t c j =
 
 pub change-refused-for : (rules : Code → ℕ → ℕ → ℕ) → ChangeRefusedFor rules
 unfolding Gives
-change-refused-for rules d n sizes well cs rs s run c j k e step = (λ h. some-first (change-told t c j) h, λ m f. same ∙ told-first (change-told t c j) f .0)
+change-refused-for rules d n sizes cs s reached c j k e step = (λ h. some-first (change-told t c j) h, λ m f. same ∙ told-first (change-told t c j) f .0)
   where
     t : State
-    t = after (opened d n (sizeIn sizes)) cs
+    t = stateAfter d n sizes cs
 
     same : k ≡ numberOf t c j
     same = let g : numbered k ≡ numbered (numberOf t c j) =
-        meets rules (sizeIn sizes) t s (change c j) (numbered k) e (calls-sound rules d n sizes well cs rs s run .1) step .0 in cc
+        meets rules (sizeIn sizes) t s (change c j) (numbered k) e (calls-sound rules d n sizes (reached .accepted) cs (reached .replies) s (reached .run) .1) step .0 in cc
 
     some-first : Told (ChangeFails t c j) (10 ∷ 29 ∷ 27 ∷ 11 ∷ []) (numberOf t c j) → (k ≡ 0 → ⊥) → First (ChangeFails t c j) (10 ∷ 29 ∷ 27 ∷ 11 ∷ []) k
     some-first (none z nowhere) h = absurd (h (same ∙ z))

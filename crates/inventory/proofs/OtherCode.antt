@@ -86,9 +86,9 @@ module _ (rules : Code → ℕ → ℕ → ℕ) (t : State) where
   )
 
 pub other-code-refused-for : (rules : Code → ℕ → ℕ → ℕ) → OtherCodeRefusedFor rules
-other-code-refused-for rules d n sizes well cs rs s run c k values e step = let size : ℕ → ℕ = sizeIn sizes in
+other-code-refused-for rules d n sizes cs s reached c k values e step = let size : ℕ → ℕ = sizeIn sizes in
     let start : State = opened d n size in
-    let R = calls-sound rules d n sizes well cs rs s run .1 in
+    let R = calls-sound rules d n sizes (reached .accepted) cs (reached .replies) s (reached .run) .1 in
     subst (λ (m : ℕ). (k ≡ 29) ↔ AddsOther d m c) (after-same start cs .same-n)
     (subst (λ (x : Code). (k ≡ 29) ↔ AddsOther x (after start cs .n) c) (after-same start cs .same-code)
     (gives-29 rules (after start cs) c k values (meets rules size (after start cs) s c (reply k values) e R step .0)))

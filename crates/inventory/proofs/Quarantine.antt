@@ -216,9 +216,9 @@ module _ (rules : Code → ℕ → ℕ → ℕ) (t : State) (v : ℕ) (r r′ : 
 module _ (rules : Code → ℕ → ℕ → ℕ) (s : Inventory) (given : Given rules s) where
   -- the state that the inventory stands for, of files of some sizes
   stands : (size : ℕ → ℕ) × Represents size (stateOf s size) s
-  stands = let (d, n, sizes, cs, rs, well, run) = given in
+  stands = let (d, n, sizes, cs, reached) = given in
       let size : ℕ → ℕ = sizeIn sizes in
-      let R = calls-sound rules d n sizes well cs rs s run .1 in
+      let R = calls-sound rules d n sizes (reached .accepted) cs (reached .replies) s (reached .run) .1 in
       (size, subst (λ (t : State). Represents size t s) (R .state) R)
 
 pub quarantine-as-removal-for : (rules : Code → ℕ → ℕ → ℕ) → ((c : Code) (f v : ℕ) → f < 256 → rules c f v < 256) → QuarantineAsRemovalFor rules

@@ -112,9 +112,9 @@ module _ (rules : Code → ℕ → ℕ → ℕ) (t : State) (v : ℕ) (r r′ : 
 -- ---- the claim
 
 pub quarantine-counted-for : (rules : Code → ℕ → ℕ → ℕ) → QuarantineCountedFor rules
-quarantine-counted-for rules d n sizes well cs rs s run v r r′ e = let size : ℕ → ℕ = sizeIn sizes in
+quarantine-counted-for rules d n sizes cs s reached v r r′ e = let size : ℕ → ℕ = sizeIn sizes in
     let t : State = after (opened d n size) cs in
-    let R = calls-sound rules d n sizes well cs rs s run .1 in
+    let R = calls-sound rules d n sizes (reached .accepted) cs (reached .replies) s (reached .run) .1 in
     let h = after-ranged (opened d n size) cs (opened-ranged d n size) in (
       λ told. quarantine-counts rules t v r r′ h (sound rules size t s _ _ e R told .0),
       λ told. release-counts rules t v r r′ h (sound rules size t s _ _ e R told .0),

@@ -79,8 +79,8 @@ gives-10 rules t (query f room) k values g = let ten = query-10 (rules (t .code)
     (λ e. out .0 (ten .0 e), λ o. ten .1 (out .1 o))
 
 pub range-refused-for : (rules : Code → ℕ → ℕ → ℕ) → RangeRefusedFor rules
-range-refused-for rules d n sizes well cs rs s run c k values e step = let start : State = opened d n (sizeIn sizes) in
-    let R = calls-sound rules d n sizes well cs rs s run .1 in
+range-refused-for rules d n sizes cs s reached c k values e step = let start : State = opened d n (sizeIn sizes) in
+    let R = calls-sound rules d n sizes (reached .accepted) cs (reached .replies) s (reached .run) .1 in
     subst (λ (m : ℕ). (k ≡ 10) ↔ OutOfRange m c) (after-same start cs .same-n)
     (gives-10 rules (after start cs) c k values (meets rules (sizeIn sizes) (after start cs) s c (reply k values) e R step .0))
 

@@ -198,10 +198,12 @@ module _ (s : Inventory) (valid : isInventory s ≡ true) (w : Sets s) (ew : Wor
       s .n,
       sizes,
       calls .0,
-      rs,
-      opened-well,
-      subst (λ (o : Inventory). Run rules o (calls .0) rs s) (ap (λ (o : Outcome). o .next) opens)
-          (subst (λ (x : Inventory). Run rules start (calls .0) rs x) same run),
+      record {
+        accepted = opened-well;
+        replies = rs;
+        run = subst (λ (o : Inventory). Run rules o (calls .0) rs s) (ap (λ (o : Outcome). o .next) opens)
+            (subst (λ (x : Inventory). Run rules start (calls .0) rs x) same run);
+      },
     )
       where
         opened-well : openStep (s .code) (s .n) sizes .number ≡ 0
@@ -236,7 +238,8 @@ module _ (s : Inventory) (valid : isInventory s ≡ true) (w : Sets s) (ew : Wor
 pub exactly-given-for : (rules : Code → ℕ → ℕ → ℕ) → ((c : Code) (f v : ℕ) → f < 256 → rules c f v < 256) → ExactlyGivenFor rules
 exactly-given-for rules small s fw vw ew qw = (
   λ valid. valid-given s valid record { files = fw; volumes = vw; quarantined = qw } ew rules small,
-  λ given. let (d, n, sizes, cs, rs, well, run) = given in given-valid rules d n sizes well cs rs s run,
+  λ given. let (d, n, sizes, cs, reached) = given in
+      given-valid rules d n sizes (reached .accepted) cs (reached .replies) s (reached .run),
 )
 
 pub exactly-given : ExactlyGiven

@@ -1,6 +1,5 @@
 -- What is promised of the set of the recoverable files: it determines the set, and is what the model and a query say.
 --
---   same-test               tests that hold alike are the same
 --   one-set                 two sets that meet the promise are the same
 --   represented-set         the set of an inventory that stands for a state of the model
 --   recoverable-after       the set after any list of calls
@@ -28,6 +27,7 @@ use Rattle.inventory.specs.Claim.{OneSet, RecoverableAfter, RecoverableA
 use Rattle.inventory.specs.declared.Inventory.{Inventory}
 use Rattle.recovery.specs.declared.Answer.{Answer}
 use Rattle.inventory.specs.declared.recoverable.RecoverableFiles.{RecoverableFiles}
+use Rattle.inventory.proofs.ModelSets.{tests-same}
 use Rattle.inventory.proofs.Representation.{Represents}
 use Rattle.inventory.proofs.Determined.{someSize, some-matches}
 use Rattle.inventory.proofs.Calls.{after-same}
@@ -35,12 +35,7 @@ use Rattle.inventory.proofs.Condition.{missing-exactly, calls-sound}
 
 -- ---- the set is determined
 
-pub same-test : (a b : Bool) → (a ≡ true → b ≡ true) → (b ≡ true → a ≡ true) → a ≡ b
-same-test true b f g = sym (f refl)
-same-test false true f g = g refl
-same-test false false f g = refl
-
-pub set-one : (rules : Code → ℕ → ℕ → ℕ) (s : Inventory) (r r′ : RecoverableFiles) → RecoverableSet rules s r → RecoverableSet rules s r′ → r ≡ r′
+set-one : (rules : Code → ℕ → ℕ → ℕ) (s : Inventory) (r r′ : RecoverableFiles) → RecoverableSet rules s r → RecoverableSet rules s r′ → r ≡ r′
 set-one rules s r r′ R R′ = go (isInventory s) refl
   where
     go : (v : Bool) → isInventory s ≡ v → r ≡ r′
@@ -49,7 +44,7 @@ set-one rules s r r′ R R′ = go (isInventory s) refl
         let exactly′ = R′ .exactly e m (some-matches s) in
         ap₂ (λ (ws : List ℕ) (k : ℕ). record { files = ws; number = k })
         (words-same (r .files) (r′ .files) (R .words) (R′ .words)
-        (λ k l. same-test _ _ (λ h. exactly′ k .1 (exactly k .0 h)) (λ h. exactly k .1 (exactly′ k .0 h))))
+        (λ k l. tests-same _ _ (λ h. exactly′ k .1 (exactly k .0 h)) (λ h. exactly k .1 (exactly′ k .0 h))))
         (R .accepted e ∙ sym (R′ .accepted e))
     go false e = R .first e ∙ sym (R′ .first e)
 
@@ -64,9 +59,9 @@ represented-set rules size t s P r R f =
     subst (λ (t : State). (member (r .files) f ≡ true) ↔ RecoverableNow (rules (t .code)) t f) (sym (P .state)) (R .exactly (P .valid) size (P .matches) f)
 
 pub recoverable-after : RecoverableAfter
-recoverable-after d n sizes o cs rs s run r R f = let t : State = after (opened d n (sizeIn sizes)) cs in
+recoverable-after d n sizes cs s reached r R f = let t : State = after (opened d n (sizeIn sizes)) cs in
     subst (λ (k : Code). (member (r .files) f ≡ true) ↔ RecoverableNow (ruleOf k) t f) (after-same (opened d n (sizeIn sizes)) cs .same-code)
-    (represented-set ruleOf (sizeIn sizes) t s (calls-sound ruleOf d n sizes o cs rs s run .1) r R f)
+    (represented-set ruleOf (sizeIn sizes) t s (calls-sound ruleOf d n sizes (reached .accepted) cs (reached .replies) s (reached .run) .1) r R f)
 
 -- ---- what a query says
 

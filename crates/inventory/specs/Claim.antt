@@ -1,18 +1,19 @@
 -- Condition 3 of the tender, as document 02 (2026-10, 2026-13) has it: one claim about a whole list of calls on an inventory newly opened,
 -- shown once over any rule of bytes for the coefficients of each code, and then at the rules of the two codes; what quarantine and release count as;
--- the number of each opening, which numbers are out of range, and which volumes are of the other code.
+-- the number of each opening, which numbers are out of range, which volumes are of the other code, every refusal of a change; and the
+-- recoverable files at once.
 --
 --   Step rules s c r s₁       the reply to the call c on the inventory s is r, and s₁ is what it hands back: by the very definitions that
 --                             the contracts of the calls cite
 --   Run rules s cs rs e       the calls cs, each on the inventory last handed back, give the replies rs and leave e
---   Given rules s             an accepted opening and calls give the inventory s
 --   Tells t c                 the call c adds a file or a volume that is present in t, or adds or sets aside a volume that is quarantined in t;
 --                             a volume by the code of t
 --   Before c d cs             the call c stands in cs, and the call d after it
 --   TellsExactly t cs         the calls cs tell what is present and what is quarantined in t and nothing else, in whatever order
 --   sizeIn sizes f            the size of file f in the sizes of an opening
 --   stateAfter d n sizes cs   the model's state after the calls cs on an inventory opened for the code d and n files of these sizes
---   Reached rules d n sizes cs s     the calls cs on an inventory so opened, which is accepted, lead to the inventory s; refused ones are among them
+--   Reached rules d n sizes cs s     such an opening is accepted, and the calls cs on it, refused ones too, lead to the inventory s
+--   Given rules s             an accepted opening and calls give the inventory s
 --   roomOf c                  the room lent to the call c
 --   Elsewhere v c             the call c changes nothing of volume v
 --   OneAside r r′             the replies r and r′ to counts: in the second a volume less is present, and one more quarantined
@@ -188,13 +189,13 @@ AddsOther d n (query f room) = ⊥
 pub data ChangeFails (t : State) : Change → ℕ → ℕ → Type 0 where
   out-of-range : {c : Change} {j : ℕ} → OutOfRange (t .n) (change c j) → ChangeFails t c j 10
   other-code : {c : Code} {v : ℕ} → c ≢ t .code → ChangeFails t (addVolume c) v 29
-  set-aside : {c : Code} {v : ℕ} → t .quarantined v ≡ true → ChangeFails t (addVolume c) v 27
-  file-here : {f : ℕ} → t .files f ≡ true → ChangeFails t addFile f 11
+  in-quarantine : {c : Code} {v : ℕ} → t .quarantined v ≡ true → ChangeFails t (addVolume c) v 27
+  file-present : {f : ℕ} → t .files f ≡ true → ChangeFails t addFile f 11
   file-missing : {f : ℕ} → t .files f ≡ false → ChangeFails t removeFile f 11
-  volume-here : {c : Code} {v : ℕ} → t .volumes v ≡ true → ChangeFails t (addVolume c) v 11
+  volume-present : {c : Code} {v : ℕ} → t .volumes v ≡ true → ChangeFails t (addVolume c) v 11
   volume-missing : {v : ℕ} → t .volumes v ≡ false → t .quarantined v ≡ false → ChangeFails t removeVolume v 11
-  not-here : {v : ℕ} → t .volumes v ≡ false → ChangeFails t quarantine v 11
-  not-aside : {v : ℕ} → t .quarantined v ≡ false → ChangeFails t release v 11
+  not-present : {v : ℕ} → t .volumes v ≡ false → ChangeFails t quarantine v 11
+  not-in-quarantine : {v : ℕ} → t .quarantined v ≡ false → ChangeFails t release v 11
 
 module _ (rules : Code → ℕ → ℕ → ℕ) where
   -- ---- what the calls do
@@ -212,17 +213,15 @@ module _ (rules : Code → ℕ → ℕ → ℕ) where
   Run s (c ∷ cs) [] e = ⊥
   Run s (c ∷ cs) (r ∷ rs) e = (s₁ : Inventory) × Step s c r s₁ × Run s₁ cs rs e
 
-  -- what "opening and accepted calls" could have given
-  abbrev pub Given : Inventory → Type 0
-  Given s =
-      (d : Code) × (n : ℕ) × (sizes : List ℕ) × (cs : List Call) × (rs : List Reply)
-      × (openStep d n sizes .number ≡ 0) × Run (openStep d n sizes .next) cs rs s
-
   -- "The list starts from the sheet of an accepted opening."
   pub record Reached (d : Code) (n : ℕ) (sizes : List ℕ) (cs : List Call) (s : Inventory) : Type 0 where
     pub accepted : openStep d n sizes .number ≡ 0
     pub replies : List Reply
     pub run : Run (openStep d n sizes .next) cs replies s
+
+  -- what "opening and accepted calls" could have given
+  abbrev pub Given : Inventory → Type 0
+  Given s = (d : Code) × (n : ℕ) × (sizes : List ℕ) × (cs : List Call) × Reached d n sizes cs s
 
   abbrev pub AnsweredFor : Type 0
   AnsweredFor = (s : Inventory) (cs : List Call) → (rs : List Reply) × (e : Inventory) × Run s cs rs e
@@ -286,8 +285,7 @@ module _ (rules : Code → ℕ → ℕ → ℕ) where
   -- counts before and after an accepted quarantine, an accepted release, and removal of what is quarantined by the model
   abbrev pub QuarantineCountedFor : Type 0
   QuarantineCountedFor =
-      (d : Code) (n : ℕ) (sizes : List ℕ) → openStep d n sizes .number ≡ 0
-      → (cs : List Call) (rs : List Reply) (s : Inventory) → Run (openStep d n sizes .next) cs rs s
+      (d : Code) (n : ℕ) (sizes : List ℕ) (cs : List Call) (s : Inventory) → Reached d n sizes cs s
       → (v : ℕ) (r r′ : Reply) (e : Inventory)
       → (Run s (count ∷ change quarantine v ∷ count ∷ []) (r ∷ numbered 0 ∷ r′ ∷ []) e → OneAside r r′)
       × (Run s (count ∷ change release v ∷ count ∷ []) (r ∷ numbered 0 ∷ r′ ∷ []) e → OneAside r′ r)
@@ -314,8 +312,7 @@ module _ (rules : Code → ℕ → ℕ → ℕ) where
   -- by the number of files of the opening; whatever is in hand or set aside
   abbrev pub RangeRefusedFor : Type 0
   RangeRefusedFor =
-      (d : Code) (n : ℕ) (sizes : List ℕ) → openStep d n sizes .number ≡ 0
-      → (cs : List Call) (rs : List Reply) (s : Inventory) → Run (openStep d n sizes .next) cs rs s
+      (d : Code) (n : ℕ) (sizes : List ℕ) (cs : List Call) (s : Inventory) → Reached d n sizes cs s
       → (c : Call) (k : ℕ) (values : List ℕ) (e : Inventory) → Step s c (reply k values) e → (k ≡ 10) ↔ OutOfRange n c
 
   -- ---- the other code
@@ -323,8 +320,7 @@ module _ (rules : Code → ℕ → ℕ → ℕ) where
   -- by the code and the number of files of the opening; whatever is in hand or set aside
   abbrev pub OtherCodeRefusedFor : Type 0
   OtherCodeRefusedFor =
-      (d : Code) (n : ℕ) (sizes : List ℕ) → openStep d n sizes .number ≡ 0
-      → (cs : List Call) (rs : List Reply) (s : Inventory) → Run (openStep d n sizes .next) cs rs s
+      (d : Code) (n : ℕ) (sizes : List ℕ) (cs : List Call) (s : Inventory) → Reached d n sizes cs s
       → (c : Call) (k : ℕ) (values : List ℕ) (e : Inventory) → Step s c (reply k values) e → (k ≡ 29) ↔ AddsOther d n c
 
   -- ---- every refusal of a change
@@ -332,8 +328,7 @@ module _ (rules : Code → ℕ → ℕ → ℕ) where
   -- by the model's state after the list; and a change of which none of the tests holds is accepted
   abbrev pub ChangeRefusedFor : Type 0
   ChangeRefusedFor =
-      (d : Code) (n : ℕ) (sizes : List ℕ) → openStep d n sizes .number ≡ 0
-      → (cs : List Call) (rs : List Reply) (s : Inventory) → Run (openStep d n sizes .next) cs rs s
+      (d : Code) (n : ℕ) (sizes : List ℕ) (cs : List Call) (s : Inventory) → Reached d n sizes cs s
       → (c : Change) (j k : ℕ) (e : Inventory) → Step s (change c j) (numbered k) e
       → (k ≢ 0 → First (ChangeFails (stateAfter d n sizes cs) c j) (10 ∷ 29 ∷ 27 ∷ 11 ∷ []) k)
       × ((m : ℕ) → First (ChangeFails (stateAfter d n sizes cs) c j) (10 ∷ 29 ∷ 27 ∷ 11 ∷ []) m → k ≡ m)
@@ -451,8 +446,7 @@ OneSet = (s : Inventory) (r r′ : RecoverableFiles) → RecoverableSet ruleOf s
 -- proved: proofs/RecoverableAnswers.antt, `recoverable-after`
 abbrev pub RecoverableAfter : Type 0
 RecoverableAfter =
-    (d : Code) (n : ℕ) (sizes : List ℕ) → openStep d n sizes .number ≡ 0
-    → (cs : List Call) (rs : List Reply) (s : Inventory) → Run ruleOf (openStep d n sizes .next) cs rs s
+    (d : Code) (n : ℕ) (sizes : List ℕ) (cs : List Call) (s : Inventory) → Reached ruleOf d n sizes cs s
     → (r : RecoverableFiles) → RecoverableSet ruleOf s r
     → (f : ℕ) → (member (r .files) f ≡ true) ↔ RecoverableNow (ruleOf d) (stateAfter d n sizes cs) f
 

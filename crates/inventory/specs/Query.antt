@@ -9,11 +9,10 @@ use mathlib.Core.Logic.{_⊎_}
 use mathlib.Core.Bool.{true, false}
 use mathlib.Core.List.{List}
 use Prim.Native.Nat.{ℕ}
-use lib.Dec.{leb}
-use Rattle.parity.specs.Parity.{isFile}
 use Rattle.number_sets.specs.Sets.{member}
 use Rattle.codes.specs.declared.Code.{Code}
 use Rattle.recovery.specs.Recoverable.{State}
+use Rattle.recovery.specs.Answers as sets
 use Rattle.inventory.specs.Model.{query, queried, Gives}
 use Rattle.inventory.specs.Steps.{isInventory, answerNumber}
 use Rattle.inventory.specs.declared.Inventory.{Inventory}
@@ -21,17 +20,10 @@ use Rattle.recovery.specs.declared.Answer.{Answer}
 use Rattle.recovery.specs.declared.Answer.the-variants as answer
 
 abbrev pub stateOf : Inventory → (ℕ → ℕ) → State
-stateOf s size = record {
-  n = s .n;
-  size = size;
-  files = member (s .files);
-  volumes = member (s .volumes);
-  quarantined = member (s .quarantined);
-  code = s .code;
-}
+stateOf s size = sets.stateOf (s .n) (s .files) (s .volumes) (member (s .quarantined)) (s .code) size
 
 abbrev pub Matches : Inventory → (ℕ → ℕ) → Type 0
-Matches s size = (f : ℕ) → isFile (s .n) f ≡ true → member (s .nonempty) f ≡ leb 1 (size f)
+Matches s size = sets.Matches (s .n) (s .nonempty) size
 
 -- the number of the answer and the room, as document 01 has them
 pub record Queried (rules : Code → ℕ → ℕ → ℕ) (s : Inventory) (f : ℕ) (room : List ℕ) (r : Answer) (room′ : List ℕ) : Type 0 where

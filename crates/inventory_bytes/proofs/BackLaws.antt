@@ -3,6 +3,7 @@
 --   inventory-of     144 bytes whose code is one are the inventory in their numbers
 --   other-length, other-number, other-bytes     others are zeros
 --   length-inventory     the bytes of an inventory are 144
+--   inventory-placed     where the parts of an inventory stand in its bytes
 --   loaded-back    the bytes of an inventory are that inventory
 --   stored-back    144 bytes whose code is one are the bytes of the inventory that they are
 --   zeros-bytes, refused-zeros     the inventory of a refused opening is 144 zeros
@@ -27,7 +28,7 @@ use Rattle.inventory.proofs.Openings.{refused-next}
 use Rattle.little_endian.specs.Bytes.{toLe, leAt, numbers, numbersAt}
 use Rattle.little_endian.proofs.NumberLists.{length-numbers, numbers-append, numbers-back, numbers-read}
 use Rattle.inventory_bytes.specs.Inventories.{codeNumberIn, inventoryIn, inventoryOf, inventoryBytes}
-use Rattle.inventory_bytes.specs.Claim.{Held, LoadedBack, StoredBack, OtherBytes, RefusedZeros}
+use Rattle.inventory_bytes.specs.Claim.{Held, InventoryPlaced, LoadedBack, StoredBack, OtherBytes, RefusedZeros}
 
 -- ---- the length and the code
 
@@ -85,9 +86,9 @@ same-parts : {n m : ℕ} {a b c d e f g h : List ℕ} {i j : Code} → n ≡ m �
     (record { n = m; files = b; volumes = d; nonempty = f; quarantined = h; code = j })
 same-parts p q r t u v = cc
 
-pub loaded-back : LoadedBack
+pub inventory-placed : InventoryPlaced
 unfolding inventoryBytes numbersAt
-loaded-back s h = let n : List ℕ = s .n ∷ [] in
+inventory-placed s h = let n : List ℕ = s .n ∷ [] in
     let k : List ℕ = codeNumber (s .code) ∷ [] in
     let ns = part-back 0 1 [] n (s .files ++ s .volumes ++ s .nonempty ++ s .quarantined ++ k) refl refl refl (one-number (s .n) (h .small)) in
     let fs =
@@ -110,9 +111,19 @@ loaded-back s h = let n : List ℕ = s .n ∷ [] in
     (sym (append-nil (all s)))
     (simp (length-append, h .files .four, h .volumes .four, h .nonempty .four, h .quarantined .four)) refl
     (one-number (codeNumber (s .code)) (omega (arith, number-small (s .code)))) in
-    let number : codeNumberIn (inventoryBytes s) ≡ codeNumber (s .code) = ap (λ (l : List ℕ). getD l 0 0) ks in
-    inventory-of (inventoryBytes s) (length-inventory s h) (ap isCode number ∙ number-code (s .code))
-    ∙ same-parts (ap (λ (l : List ℕ). getD l 0 0) ns) fs vs es qs (ap codeOf number ∙ back (s .code))
+    record {
+      n-in = ap (λ (l : List ℕ). getD l 0 0) ns;
+      files-in = fs;
+      volumes-in = vs;
+      nonempty-in = es;
+      quarantined-in = qs;
+      code-in = ap (λ (l : List ℕ). getD l 0 0) ks;
+    }
+
+pub loaded-back : LoadedBack
+loaded-back s h = let p = inventory-placed s h in
+    inventory-of (inventoryBytes s) (length-inventory s h) (ap isCode (p .code-in) ∙ number-code (s .code))
+    ∙ same-parts (p .n-in) (p .files-in) (p .volumes-in) (p .nonempty-in) (p .quarantined-in) (ap codeOf (p .code-in) ∙ back (s .code))
 
 -- the 18 numbers of an inventory are those of all its bytes
 pub stored-back : StoredBack

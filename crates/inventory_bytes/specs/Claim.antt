@@ -1,6 +1,8 @@
 -- Inventories in lent bytes, there and back: from C a call goes on from what the last one handed back.
 --
 --   Held s        bytes can hold the inventory s: n is a u64, and each set is four words
+--   InventoryAt s b     the parts of the inventory s stand in the bytes b where include/par1.h has them
+--   InventoryPlaced     so they do in its own bytes
 --   LoadedBack    the bytes of an inventory are that inventory
 --   StoredBack    144 bytes whose code is one are the bytes of the inventory that they are
 --   OtherBytes    all other bytes are zeros, which no calls give: every call refuses it with 10
@@ -14,9 +16,9 @@ use mathlib.Core.Bool.{true, false}
 use mathlib.Core.List.{List}
 use Prim.Native.Nat.{ℕ, _^_, _<_}
 use lib.ListN.{length, replicate}
-use Rattle.codes.specs.Codes.{isCode}
+use Rattle.codes.specs.Codes.{isCode, codeNumber}
 use Rattle.codes.specs.declared.Code.{Code}
-use Rattle.little_endian.specs.Bytes.{Bytes, leAt}
+use Rattle.little_endian.specs.Bytes.{Bytes, leAt, numbersAt}
 use Rattle.number_sets.specs.Sets.{Words}
 use Rattle.inventory.specs.Model.{counts}
 use Rattle.inventory.specs.Steps.{zeros, openStep}
@@ -29,6 +31,19 @@ pub record Held (s : Inventory) : Type 0 where
   pub volumes : Words (s .volumes)
   pub nonempty : Words (s .nonempty)
   pub quarantined : Words (s .quarantined)
+
+-- 18 numbers: n; four words each of the files and the volumes present, the files of size 1 or more, the volumes in quarantine; the code
+pub record InventoryAt (s : Inventory) (b : List ℕ) : Type 0 where
+  pub n-in : leAt 8 b 0 ≡ s .n
+  pub files-in : numbersAt 4 b 8 ≡ s .files
+  pub volumes-in : numbersAt 4 b 40 ≡ s .volumes
+  pub nonempty-in : numbersAt 4 b 72 ≡ s .nonempty
+  pub quarantined-in : numbersAt 4 b 104 ≡ s .quarantined
+  pub code-in : leAt 8 b 136 ≡ codeNumber (s .code)
+
+-- proved: proofs/BackLaws.antt, `inventory-placed`
+abbrev pub InventoryPlaced : Type 0
+InventoryPlaced = (s : Inventory) → Held s → InventoryAt s (inventoryBytes s)
 
 -- proved: proofs/BackLaws.antt, `loaded-back`
 abbrev pub LoadedBack : Type 0

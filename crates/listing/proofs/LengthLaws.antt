@@ -112,7 +112,7 @@ accepted-shorter f tests = let es : List (List ℕ) = entriesIn f in
 
 -- ---- listings
 
-pub listing-shorter : (f : List ℕ) (p : Parts) → readOf f ≡ Accepted p → length (listingOf f) < length f
+listing-shorter : (f : List ℕ) (p : Parts) → readOf f ≡ Accepted p → length (listingOf f) < length f
 unfolding listingOf
 listing-shorter f p e = let told = read-tells f p e in
     subst (λ (r : Reading). length (listingBy r f) < length f) (sym (e ∙ ap Accepted (told .parts-are))) (accepted-shorter f (told .tests))
@@ -124,7 +124,7 @@ by-refusal s h (suc n) e = let few = refusal-within s in
     rw (read-refused s refl (λ z. omega arith))
     (omega (arith, refused-most (refusalOf s) (omega (arith, few .number-most)) (omega (arith, few .place-most))))
 
-pub input-most : (s : List ℕ) → length (inputListing s) ≤ maxListedLength
+input-most : (s : List ℕ) → length (inputListing s) ≤ maxListedLength
 unfolding inputListing
 input-most s = by (leb (length s) maxListedLength) refl
   where

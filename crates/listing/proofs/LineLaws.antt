@@ -45,7 +45,7 @@ saved-suc k e es = by (isSaved (statusOf e))
     by true = omega arith
     by false = omega arith
 
-pub lines-append : (k : ℕ) (es fs : List (List ℕ)) → entryLines k (es ++ fs) ≡ entryLines k es ++ entryLines (k + length (savedOf es)) fs
+lines-append : (k : ℕ) (es fs : List (List ℕ)) → entryLines k (es ++ fs) ≡ entryLines k es ++ entryLines (k + length (savedOf es)) fs
 unfolding entryLines
 lines-append k [] fs = ap (λ (n : ℕ). entryLines n fs) (sym (add-zero k))
 lines-append k (e ∷ es) fs = let n : ℕ = k + savedCount (statusOf e) in

@@ -3,12 +3,13 @@
 --   nameUnits s       the bytes of a name with the characters of s as its units
 --   entryWith st n a b name     the entry with the status st, the file size n, the hashes a and b, and the name
 --   exampleList a b c d         the list of document 01's example, with these hashes
---   exampleIndex code program a b c d     its index, with no comment, as the program writes it for the code
+--   exampleIndex code program a b c d     its index, with no comment, of this code and this program
 --   ListedAsShown f   the file f has the sizes and the listing of document 01's example
 -- The claims:
 --   LineNumbered      the line of each entry has its file number
 --   InputFits         the listing of any input is written whole into room for the longest input
---   RefusedListed     a file that is refused is listed as one line, with its place where it has one; so is a longer input
+--   RefusedListed     a refused file is listed as one line, with its place where the number is 16 to 19; an input above 65,536 bytes as refused 1, any
+--                     other as its file
 --   ExampleLists      document 01's example
 -- The contracts of list and list_input cite listingOf and inputListing.
 -- Assumes nothing.

@@ -80,7 +80,7 @@ module _ {sum name l : List ℕ} (z : LineOf sum name l) where
 -- ---- good lines
 
 module _ (es ls : List (List ℕ)) where
-  pub good-again : Good es ls → (k : ℕ) → k < length ls → isAgain es ls k ≡ false
+  good-again : Good es ls → (k : ℕ) → k < length ls → isAgain es ls k ≡ false
   unfolding isAgain
   good-again good k h = by (isListed es (getD ls k [])) refl
     where

@@ -1,7 +1,7 @@
 -- The shape of a line, in the document's words.
 --
 --   lower, lower-all     a character, or each of some, is a lower-case digit where the test says so, and the other way round
---   in-line              the sum and the name in a line
+--   in-sum, in-name      the sum and the name in a line
 --   shape                the claim
 --   each-line            each line of a text is one
 --   lines-joined         the lines of lines, joined, and of what follows them
@@ -110,7 +110,7 @@ module _ {sum name l : List ℕ} (z : LineOf sum name l) where
       regroup : (a b c : List ℕ) → (a ++ (32 ∷ 32 ∷ (b ++ (10 ∷ [])))) ++ c ≡ (a ++ (32 ∷ 32 ∷ b)) ++ 10 ∷ c
       regroup a b c = simp append-assoc
 
-  pub shaped-first : (s : List ℕ) → shapedLength (l ++ s) ≡ length l
+  shaped-first : (s : List ℕ) → shapedLength (l ++ s) ≡ length l
   unfolding shapedLength
   shaped-first s = simp (first-line s, take-append-seam l s, shaped-is)
 

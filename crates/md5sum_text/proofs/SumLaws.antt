@@ -74,7 +74,7 @@ other s t e = simp (e, or-true)
 neither : (s t : Bool) → s ≡ false → t ≡ false → (s || t) ≡ false
 neither s t e f = simp (e, f)
 
-pub first-or : (m : ℕ) (s t u : ℕ → Bool) → ((k : ℕ) → u k ≡ (s k || t k)) → firstBelow (firstBelow m s) t ≡ firstBelow m u
+first-or : (m : ℕ) (s t u : ℕ → Bool) → ((k : ℕ) → u k ≡ (s k || t k)) → firstBelow (firstBelow m s) t ≡ firstBelow m u
 first-or m s t u is = let n : ℕ = firstBelow m s in
     let r : ℕ = firstBelow n t in
     let S = first-is m s in
@@ -114,7 +114,7 @@ again-more m e es ls =
 
 -- ---- the lines of a text
 
-pub line-shaped : (s : List ℕ) (k : ℕ) → k < length (linesOf s .pieces) → Shaped (getD (linesOf s .pieces) k [])
+line-shaped : (s : List ℕ) (k : ℕ) → k < length (linesOf s .pieces) → Shaped (getD (linesOf s .pieces) k [])
 line-shaped s k h = all-at [] (cut-all shapedLength Shaped (λ t some found. has-line t found .shape) s) k h
 
 sum-length : {l : List ℕ} → Shaped l → length (sumIn l) ≡ 32

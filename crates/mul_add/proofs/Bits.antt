@@ -28,7 +28,7 @@ high-set x c l h = let e : x / 128 % 2 ≡ 1 = omega arith in
 shifted-down : (x d i : ℕ) → x * 2 ^ d / 2 ^ (d + i) ≡ x / 2 ^ i
 shifted-down x d i = sym (shr-shr (x * 2 ^ d) d i) ∙ ap (λ (y : ℕ). y / 2 ^ i) (shl-shr x d)
 
-pub coeff-shifted : (x i : ℕ) → i < 8 → coeff (x * 2 ^ (7 - i) % 2 ^ 8) 7 ≡ coeff x i
+coeff-shifted : (x i : ℕ) → i < 8 → coeff (x * 2 ^ (7 - i) % 2 ^ 8) 7 ≡ coeff x i
 unfolding coeff
 coeff-shifted x i h = let d = 7 - i in
     let e : 7 ≡ d + i = omega arith in

@@ -1,6 +1,5 @@
 -- Which refusal writing gives, and that it leaves the room.
 --
---   refused-as                       what an answer that is a refusal tells
 --   volume-refuses, volume-first     what a test that fails gives; one fails, or the volume is written
 --   entry-refuses, entry-first       the same of an entry
 --   volume-refused, entry-refused    the claims

@@ -1,4 +1,5 @@
--- Condition 2 of the tender: a volume is written as the format defines, is read back, and is written again with the same bytes.
+-- Condition 2 of the tender: a volume is written as the format defines, is read back, and is written again with the same bytes; and condition 1 of
+-- these calls: which refusal is given, by the first test that holds, and that nothing else is refused.
 --
 --   VolumeAccepted               what keeps the rules is written as the format defines, where there is room for it
 --   BadNumber v n, BadData v g d   what tests 7 and 9 find: of volume v, n saved files of at most g bytes and d bytes of data

@@ -74,10 +74,10 @@ read-within f out = by (refusalOf f .number) refl
     by zero e = rw (read-accepted f (sym e)) (unless-within k (bare 0) (partsBytes (partsOf f)) out (bare-within k 0 (omega arith)))
     by (suc n) e = rw (read-refused f refl (λ z. omega arith)) (refusal-within f)
 
-pub read-answerable : (f out : List ℕ) → length f < 2 ^ 64 → Answerable (readInto (readOf f) out .0)
+read-answerable : (f out : List ℕ) → length f < 2 ^ 64 → Answerable (readInto (readOf f) out .0)
 read-answerable f out h = answerable (length f) _ h (read-within f out)
 
-pub volume-answerable : (c : Code) (program number : ℕ) (list area out : List ℕ) → length list < 2 ^ 64
+volume-answerable : (c : Code) (program number : ℕ) (list area out : List ℕ) → length list < 2 ^ 64
     → Answerable (withRefusal (writeVolumeOf c program number list area out) .0)
 volume-answerable c program number list area out h = answerable (length list) _ h (volume-within c program number list area out)
 

@@ -228,6 +228,7 @@ abbrev pub OthersRefused : Type 0
 OthersRefused =
     (b : List ℕ) → (length b ≢ 144) ⊎ (isCode (codeNumberIn b) ≡ false)
     → ((c : Change) (k : ℕ) → changedBy (changeStep c) k b ≡ (10, b))
+    × ((k v : ℕ) → addedBy k v b ≡ (10, b))
     × ((out : List ℕ) → countInto b out ≡ (10, out))
     × ((f : ℕ) (out : List ℕ) (r : ℕ) (out′ : List ℕ) → QueryInto b f out r out′ → (r ≡ 10) × (out′ ≡ out))
 

@@ -68,7 +68,7 @@ module _ (head : List ℕ) (n : ℕ) where
         layout = laid head n (four .0);
       }
 
-  pub header-none : HeaderPassed head n → headerRefusal head n ≡ 0
+  header-none : HeaderPassed head n → headerRefusal head n ≡ 0
   unfolding headerRefusal
   header-none p = let size = long-enough n (p .size .low) (p .size .high) in
       let version : versionAllowed (versionOf head) ≡ true =
@@ -78,11 +78,11 @@ module _ (head : List ℕ) (n : ℕ) where
 -- ---- the control hash
 
 module _ (head digest : List ℕ) where
-  pub control-passed : controlRefusal head digest ≡ 0 → controlHashOf head ≡ digest
+  control-passed : controlRefusal head digest ≡ 0 → controlHashOf head ≡ digest
   unfolding controlRefusal
   control-passed e = equal-true _ _ (test-passed 5 (equal (controlHashOf head) digest) 0 (omega arith) e .0)
 
-  pub control-none : controlHashOf head ≡ digest → controlRefusal head digest ≡ 0
+  control-none : controlHashOf head ≡ digest → controlRefusal head digest ≡ 0
   unfolding controlRefusal
   control-none e = simp (equal-same e)
 
@@ -95,7 +95,7 @@ pub record TotalsPassed (head set : List ℕ) (t : Totals) : Type 0 where
   pub data-right : dataAllowed (volumeNumberOf head) (t .greatest) (dataSizeOf head) ≡ true
 
 module _ (head set : List ℕ) (t : Totals) where
-  pub totals-passed : totalsRefusal head set t ≡ 0 → TotalsPassed head set t
+  totals-passed : totalsRefusal head set t ≡ 0 → TotalsPassed head set t
   unfolding totalsRefusal
   totals-passed e = let nineteen = test-passed 19 (eqb (t .entries) (countOf head)) _ (omega arith) e in
       let seven = test-passed 7 (numberAllowed (volumeNumberOf head) (t .saved)) _ (omega arith) (nineteen .1) in
@@ -103,7 +103,7 @@ module _ (head set : List ℕ) (t : Totals) where
       let nine = test-passed 9 (dataAllowed (volumeNumberOf head) (t .greatest) (dataSizeOf head)) _ (omega arith) (eight .1) in
       record { count-is = eqb-true _ _ (nineteen .0); number-right = seven .0; set-is = equal-true _ _ (eight .0); data-right = nine .0 }
 
-  pub totals-none : TotalsPassed head set t → totalsRefusal head set t ≡ 0
+  totals-none : TotalsPassed head set t → totalsRefusal head set t ≡ 0
   unfolding totalsRefusal
   totals-none p = simp (eq-eqb _ _ (p .count-is), p .number-right, equal-same (p .set-is), p .data-right)
 

@@ -71,7 +71,7 @@ module _ (x : File) (fs : List File) (at : ℕ) (room : List ℕ) {n : ℕ} {aft
         fits = omega (arith, rest .fits, one .written, length-append (entryFor x) (listFor fs));
       }
 
-pub entries-tell : (fs : List File) (at : ℕ) (room : List ℕ) {n : ℕ} {after : List ℕ} → at ≤ length room
+entries-tell : (fs : List File) (at : ℕ) (room : List ℕ) {n : ℕ} {after : List ℕ} → at ≤ length room
     → writeEntries fs at room ≡ (Written n, after) → EntriesTold fs at room
 unfolding writeEntries flatten
 entries-tell [] at room h e = record { files-right = all-none; writable = all-none; fits = omega arith }

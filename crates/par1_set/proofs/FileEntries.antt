@@ -56,7 +56,7 @@ sizes-are : {fs : List File} → All FileBack fs
 sizes-are all-none = refl
 sizes-are (all-more b bs) = ap₂ max (b .size-is) (sizes-are bs)
 
-pub greatest-is : {fs : List File} → All FileBack fs → greatestOf (entriesFor fs) ≡ dataSizeFor fs
+greatest-is : {fs : List File} → All FileBack fs → greatestOf (entriesFor fs) ≡ dataSizeFor fs
 greatest-is bs =
     ap (λ (es : List (List ℕ)). foldr max 0 (map (λ e. fileSizeOf e) es)) (keep-entries isCounted bs)
     ∙ sizes-are (all-keep (λ x. isCounted (x .status)) bs)
@@ -92,7 +92,7 @@ module _ {fs : List File} (bs : All FileBack fs) (k : ℕ) (h : k < length fs) (
       number-saved (entriesFor fs) k (ap isSaved (status-at bs k h) ∙ t)
       ∙ ap (λ (n : ℕ). n + 1) (ap (λ (es : List (List ℕ)). length (savedOf es)) (take-entries k fs) ∙ saved-count (all-take k bs))
 
-  pub number-contents : contentsOf fs (fileNumber (entriesFor fs) k) ≡ getD fs k noFile .contents
+  number-contents : contentsOf fs (fileNumber (entriesFor fs) k) ≡ getD fs k noFile .contents
   number-contents = let n : fileNumber (entriesFor fs) k - 1 ≡ fileCount (take k fs) = omega (arith, number-is) in
       ap (λ (j : ℕ). getD (savedFiles fs) j noFile .contents) n
       ∙ ap (λ (x : File). x .contents) (keep-at (λ x. isSaved (x .status)) noFile fs k h t .element-is)

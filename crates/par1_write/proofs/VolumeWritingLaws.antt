@@ -38,7 +38,7 @@ use Rattle.par1_rules.proofs.RuleLaws.{Between, between, long-enough}
 
 -- ---- lengths
 
-pub length-body : (n number : ℕ) (list «data» : List ℕ) → length (bodyBytes n number list «data») ≡ 64 + length list + length «data»
+length-body : (n number : ℕ) (list «data» : List ℕ) → length (bodyBytes n number list «data») ≡ 64 + length list + length «data»
 unfolding bodyBytes flatten
 length-body n number list «data» = simp (length-append, length-set-hash, length-numbers) (omega arith)
 

@@ -32,12 +32,12 @@ use Rattle.number_sets.specs.Sets.{member}
 use Rattle.volume_weights.specs.Weights.{tableOf, weightAt, solved, unsolved, fileWeight}
 use Rattle.volume_weights.proofs.Steps.{weight-below}
 use Rattle.recovery.specs.Recoverable.{State, column, place, weighted, Recoverable, IsWeights}
-use Rattle.recovery.specs.Answers.{Found, empty, notEmpty, Written, Answers, present, undetermined, noRoom, recoverable}
+use Rattle.recovery.specs.Answers.{stateOf, InRange, Matches, Found, empty, notEmpty, Written, Answers, present, undetermined, noRoom, recoverable}
 use Rattle.recovery.specs.declared.Answer.{Answer}
 use Rattle.recovery.proofs.Rows as R
 use Rattle.recovery.proofs.Recovery.{solution-recoverable, kernel-unrecoverable, empty-recoverable}
 use Rattle.recovery.proofs.Weights.{Weighs, solution-weighs, zero-weighs, is-weights}
-use Rattle.recovery.proofs.CoefficientRows.{stateOf, InRange, Matches, table-matrix}
+use Rattle.recovery.proofs.CoefficientRows.{table-matrix}
 use Rattle.recovery.proofs.Written.{weights-written, written-byte}
 
 -- ---- the weights that are found

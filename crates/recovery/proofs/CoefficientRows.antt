@@ -1,9 +1,5 @@
 -- The rows that are solved are those of the state that the sets stand for, over any rule for the coefficients that gives bytes.
 --
---   stateOf n files volumes aside d size     the state that the sets stand for, of files of these sizes; volumes of `aside` are quarantined, and
---                    the code is d
---   InRange n nonempty         the files of the set are files of n
---   Matches n nonempty size    a size is 0 exactly where the file is not in the set
 --   table-matrix     the table of the sets is the matrix of their state
 -- Assumes nothing.
 use mathlib.Core.Path.{_≡_, refl, sym, ap, _∙_, fun-ext}
@@ -21,17 +17,9 @@ use Rattle.elimination.proofs.ByteField.{toByte-of-value}
 use Rattle.number_sets.specs.Sets.{member}
 use Rattle.volume_weights.specs.Weights.{columnIn, tableOf}
 use Rattle.recovery.specs.Recoverable.{State}
+use Rattle.recovery.specs.Answers.{stateOf, InRange, Matches}
 use Rattle.recovery.proofs.Rows as R
 use Rattle.recovery.proofs.Rows.{mask}
-
-abbrev pub stateOf : ℕ → List ℕ → List ℕ → (ℕ → Bool) → Code → (ℕ → ℕ) → State
-stateOf n files volumes aside d size = record { n = n; size = size; files = member files; volumes = member volumes; quarantined = aside; code = d }
-
-abbrev pub InRange : ℕ → List ℕ → Type 0
-InRange n nonempty = (g : ℕ) → g < 256 → member nonempty g ≡ true → isFile n g ≡ true
-
-abbrev pub Matches : ℕ → List ℕ → (ℕ → ℕ) → Type 0
-Matches n nonempty size = (f : ℕ) → isFile n f ≡ true → member nonempty f ≡ leb 1 (size f)
 
 -- a file that is not empty and not present is a column
 column-bits : (n : ℕ) (files nonempty : List ℕ) → InRange n nonempty → (g : ℕ) → g < 256

@@ -3,6 +3,7 @@
 --   gathered-exactly     the set has exactly these, whatever the sizes are
 --   set-words            it is four words of 64 bits
 --   gathered-there       there is such a set
+--   as-recoverable       the claim on both calls
 -- Assumes nothing.
 use mathlib.Core.Path.{_≡_, refl, sym, ap, ap₂, _∙_, subst}
 use mathlib.Core.Logic.{_↔_, _⊎_, inl, inr}
@@ -11,19 +12,22 @@ use mathlib.Core.List.{List}
 use Prim.Native.Nat.{ℕ, suc, _<_, _≤_, _-_}
 use native.Mathlib.Omega.{arith}
 use lib.Dec.{leb}
-use lib.ListN.{replicate}
+use lib.ListN.{replicate, take}
 use borrow.Author.Tests.{leb-true, not-true}
 use Rattle.computed_tests.proofs.Tests.{and-both, oneTo-in, oneTo-inside}
 use Rattle.codes.specs.declared.Code.{Code}
+use Rattle.parity.specs.Coefficient.{ruleOf}
+use Rattle.parity.proofs.Coefficients.{rule-byte}
 use Rattle.elimination.proofs.Reductions.{zeros-at}
 use Rattle.number_sets.specs.Sets.{member, Words}
 use Rattle.number_sets.proofs.Gathering.{gathered-words, gathered-from, gathered-in}
 use Rattle.volume_weights.specs.Weights.{Solved}
 use Rattle.volume_weights.proofs.Determined.{columns-there}
-use Rattle.recovery.specs.Recoverable.{RecoverableNow}
-use Rattle.recovery.specs.Answers.{Found, empty, notEmpty, isEmpty, Gathered}
-use Rattle.recovery.proofs.CoefficientRows.{stateOf, InRange, Matches}
-use Rattle.recovery.proofs.AnswerLaws.{recovered, unrecovered}
+use Rattle.recovery.specs.Recoverable.{State, Recoverable, RecoverableNow, IsWeights}
+use Rattle.recovery.specs.Answers.{stateOf, InRange, Matches, Found, empty, notEmpty, Answers, undetermined, recoverable, isEmpty, Gathered}
+use Rattle.recovery.specs.Claim.{AsRecoverable}
+use Rattle.recovery.specs.declared.Answer.the-variants as answer
+use Rattle.recovery.proofs.AnswerLaws.{recovered, unrecovered, written-weights}
 
 module _ (rule : ℕ → ℕ → ℕ) (small : (f v : ℕ) → f < 256 → rule f v < 256) (n : ℕ) (few : n ≤ 254) (files volumes nonempty r : List ℕ)
     (G : Gathered rule n files volumes nonempty r) where
@@ -102,3 +106,24 @@ module _ (rule : ℕ → ℕ → ℕ) (n : ℕ) (files volumes nonempty : List �
   pub gathered-there : (r : List ℕ) × Gathered rule n files volumes nonempty r
   gathered-there = let (solved, S) = columns-there rule nonempty files volumes (255 - n) in
       (_, record { solved = solved; columns = S; with-empty = refl })
+
+pub as-recoverable : AsRecoverable
+as-recoverable c n files volumes nonempty aside size few inRange matches = (
+  λ i below room room′. (by i below room room′, not-by i below room room′),
+  λ r G f. gathered-exactly (ruleOf c) (rule-byte c) n few files volumes nonempty r G inRange aside c size matches f,
+)
+  where
+    t : State
+    t = stateOf n files volumes aside c size
+
+    by : (i : ℕ) → i < n → (room room′ : List ℕ) → Answers (ruleOf c) n files volumes nonempty i room answer.Recoverable room′
+        → Recoverable (ruleOf c) t (suc i) × IsWeights (ruleOf c) t (suc i) (take 255 room′)
+    by i below room room′ (recoverable missing ws F long _ W) = (
+      recovered (ruleOf c) (rule-byte c) n few files volumes nonempty inRange aside c size matches i below missing ws F,
+      written-weights (ruleOf c) (rule-byte c) n few files volumes nonempty inRange aside c size matches i below missing room ws room′ long W F,
+    )
+
+    not-by : (i : ℕ) → i < n → (room room′ : List ℕ) → Answers (ruleOf c) n files volumes nonempty i room answer.Undetermined room′
+        → ¬ Recoverable (ruleOf c) t (suc i)
+    not-by i below room room′ (undetermined missing ws F) =
+        unrecovered (ruleOf c) (rule-byte c) n few files volumes nonempty inRange aside c size matches i below missing ws F

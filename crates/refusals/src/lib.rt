@@ -15,7 +15,7 @@ pub const MAX_FILES: u64 = 254;
 // The greatest number of entries in a catalog.
 pub const MAX_ENTRIES: u64 = 1024;
 
-// The greatest length of what the listing program takes, in bytes.
+// The greatest length of what the programs take, in bytes: a file to be listed, a log to be replayed.
 pub const MAX_LISTED_LENGTH: usize = 65536;
 
 // The length of a volume or index file, or the size of a listed file, is outside its limits.

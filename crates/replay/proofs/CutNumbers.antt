@@ -36,7 +36,7 @@ far removeVolume n k l h = oneTo-outside (255 - n) k (λ a b. omega arith)
 far quarantine n k l h = oneTo-outside (255 - n) k (λ a b. omega arith)
 far release n k l h = oneTo-outside (255 - n) k (λ a b. omega arith)
 
-pub change-far : (c : Change) (s : Inventory) (k : ℕ) → 255 < k → changeStep c s k ≡ outcome s 10
+change-far : (c : Change) (s : Inventory) (k : ℕ) → 255 < k → changeStep c s k ≡ outcome s 10
 unfolding changeStep ifInventory changeNumber
 change-far c s k h = go (isInventory s) refl
   where

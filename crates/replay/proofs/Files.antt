@@ -52,7 +52,7 @@ module _ (test : ℕ → Bool) where
       at (no q) h r = let z : i ≡ length (filesOf n test) = omega (arith, length-append (filesOf n test) (suc n ∷ [])) in
           let g = ap (λ (k : ℕ). getD (filesOf n test ++ (suc n ∷ [])) k 0) z ∙ getD-append-seam (filesOf n test) (suc n) [] 0 in omega arith
 
-  pub files-ascending : (n : ℕ) → Ascending (filesOf n test)
+  files-ascending : (n : ℕ) → Ascending (filesOf n test)
   unfolding filesOf
   files-ascending zero i j l h = absurd (not-suc-le-zero h)
   files-ascending (suc n) i j l h =
@@ -98,7 +98,7 @@ module _ (test : ℕ → Bool) where
         | no q ↦ files-has n f a (omega arith) t
       ])
 
-  pub files-member : (n f : ℕ) → List·Memᴰ f (filesOf n test) ↔ ((oneTo n f ≡ true) × (test f ≡ true))
+  files-member : (n f : ℕ) → List·Memᴰ f (filesOf n test) ↔ ((oneTo n f ≡ true) × (test f ≡ true))
   files-member n f = (
     λ m. let (a, b, t) = files-in n f m in (oneTo-in n f a b, t),
     λ h. let l = oneTo-inside n f (h .0) in files-has n f (l .0) (l .1) (h .1),

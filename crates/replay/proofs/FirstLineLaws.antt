@@ -35,15 +35,15 @@ module _ (s : List ℕ) where
   abbrev rest : List ℕ
   rest = drop (suc (wordLength s)) s
 
-  pub first-last : wordLength s ≡ length s → (isFirstLine s ≡ isDecimal word) × (numbersOf s ≡ valueOf word ∷ [])
+  first-last : wordLength s ≡ length s → (isFirstLine s ≡ isDecimal word) × (numbersOf s ≡ valueOf word ∷ [])
   unfolding allDecimal
   first-last e = (ap allDecimal (words-last s e) ∙ and-true (isDecimal word), ap (map valueOf) (words-last s e))
 
-  pub first-more : wordLength s < length s → (isFirstLine s ≡ (isDecimal word && isFirstLine rest)) × (numbersOf s ≡ valueOf word ∷ numbersOf rest)
+  first-more : wordLength s < length s → (isFirstLine s ≡ (isDecimal word && isFirstLine rest)) × (numbersOf s ≡ valueOf word ∷ numbersOf rest)
   unfolding allDecimal
   first-more l = (ap allDecimal (words-more s l), ap (map valueOf) (words-more s l))
 
-  pub first-stop : isDecimal word ≡ false → isFirstLine s ≡ false
+  first-stop : isDecimal word ≡ false → isFirstLine s ≡ false
   first-stop e =
       elim (ℕ-discrete (wordLength s) (length s)) [
         | yes z ↦ first-last z .0 ∙ e

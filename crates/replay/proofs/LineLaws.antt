@@ -29,10 +29,10 @@ module _ (test : ℕ → Bool) (k : ℕ) where
       ∙ ap (λ (n : ℕ). filesOf k test ++ cond (test n) (n ∷ []) []) (sym (add-one k))
       ∙ ap (λ (b : Bool). filesOf k test ++ cond b ((k + 1) ∷ []) []) e
 
-  pub files-more : test (k + 1) ≡ true → filesOf (k + 1) test ≡ filesOf k test ++ ((k + 1) ∷ [])
+  files-more : test (k + 1) ≡ true → filesOf (k + 1) test ≡ filesOf k test ++ ((k + 1) ∷ [])
   files-more e = files-next true e
 
-  pub files-same : test (k + 1) ≡ false → filesOf (k + 1) test ≡ filesOf k test
+  files-same : test (k + 1) ≡ false → filesOf (k + 1) test ≡ filesOf k test
   files-same e = files-next false e ∙ append-nil (filesOf k test)
 
 -- ---- the numbers
@@ -41,7 +41,7 @@ abbrev pub isAny : List ℕ → Bool
 isAny [] = false
 isAny (k ∷ ks) = true
 
-pub any-more : (ks : List ℕ) (k : ℕ) → true ≡ isAny (ks ++ (k ∷ []))
+any-more : (ks : List ℕ) (k : ℕ) → true ≡ isAny (ks ++ (k ∷ []))
 any-more [] k = refl
 any-more (j ∷ ks) k = refl
 
@@ -49,7 +49,7 @@ map-append : (ks js : List ℕ) → map (field (ascii " ")) (ks ++ js) ≡ map (
 map-append [] js = refl
 map-append (k ∷ ks) js = ap (λ (l : List (List ℕ)). field (ascii " ") k ∷ l) (map-append ks js)
 
-pub spaced-more : (ks : List ℕ) (k : ℕ) → spaced ks ++ cond (isAny ks) (field (ascii " ") k) (decimal k) ≡ spaced (ks ++ (k ∷ []))
+spaced-more : (ks : List ℕ) (k : ℕ) → spaced ks ++ cond (isAny ks) (field (ascii " ") k) (decimal k) ≡ spaced (ks ++ (k ∷ []))
 unfolding flatten
 spaced-more [] k = sym (append-nil (decimal k))
 spaced-more (j ∷ ks) k =

@@ -37,7 +37,8 @@ use Rattle.inventory.proofs.ValidInventories.{few-files}
 use Rattle.inventory.proofs.Representation.{Represents, meets}
 use Rattle.inventory.proofs.Openings.{opened-represents}
 use Rattle.inventory.proofs.Calls.{next-same}
-use Rattle.inventory.proofs.RecoverableAnswers.{same-test, represented-set}
+use Rattle.inventory.proofs.ModelSets.{tests-same}
+use Rattle.inventory.proofs.RecoverableAnswers.{represented-set}
 use Rattle.text.specs.TextLines.{lineLength}
 use Rattle.text.proofs.ScanLaws.{line-most}
 use Rattle.replay.specs.Log.{bodyOf, isFirstLine, numbersOf, changeOf, isEventLine, numberIn}
@@ -66,7 +67,7 @@ pub record Stands (size : ℕ → ℕ) (t : State) (s : Inventory) : Type 0 wher
 few-in : (size : ℕ → ℕ) (t : State) (s : Inventory) → Represents size t s → t .n ≤ 254
 few-in size t s R = let l = few-files s (R .valid) in subst (λ (t : State). t .n ≤ 254) (sym (R .state)) l
 
-pub files-line : (d : Test) → Decides coefficient d → (size : ℕ → ℕ) (t : State) (s : Inventory) → Stands size t s
+files-line : (d : Test) → Decides coefficient d → (size : ℕ → ℕ) (t : State) (s : Inventory) → Stands size t s
     → (r : RecoverableFiles) → RecoverableSet ruleOf s r → numbersLine (filesOf (s .n) (member (r .files))) ≡ numbersLine (filesOf (t .n) (d t))
 files-line d D size t s S r F =
     ap₂ (λ (n : ℕ) (test : ℕ → Bool). numbersLine (filesOf n test)) (sym (ap (λ (t : State). t .n) (S .represents .state)))
@@ -76,7 +77,7 @@ files-line d D size t s S r F =
     subst (λ (c : Code). (member (r .files) f ≡ true) ↔ RecoverableNow (ruleOf c) t f) (S .powers)
     (represented-set ruleOf size t s (S .represents) r F f) in
     let decided = D t (few-in size t s (S .represents)) f in
-    same-test (member (r .files) f) (d t f) (λ h. decided .1 (in-set .0 h)) (λ h. in-set .1 (decided .0 h))))
+    tests-same (member (r .files) f) (d t f) (λ h. decided .1 (in-set .0 h)) (λ h. in-set .1 (decided .0 h))))
 
 -- ---- the first line
 

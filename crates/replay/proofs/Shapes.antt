@@ -2,7 +2,7 @@
 --
 --   Without b l                 the byte b is not in l
 --   decimal-without             a number has digits alone
---   words-spread, spread-words  words with single spaces between, and back
+--   words-decimal, spread-words words with single spaces between, and back
 --   first-shaped, event-shaped  the claims
 -- Assumes nothing.
 use mathlib.Core.Path.{_≡_, refl, sym, ap, ap₂, _∙_}

@@ -17,7 +17,7 @@
 --   LogPrints rules log lines    the lines that a program prints that goes by `open`, `next` and `put_line`
 -- The claims:
 --   EachReplayed             each log is replayed with the text that it prints, in the request's words
--- and its parts:
+-- and what it rests on, and more:
 --   Decided                  there is a test that decides which files are recoverable, as Replayed asks for
 --   OneText                  what is promised of a replay determines its answer and the room
 --   OneLine                  so it is with the line after an event

@@ -29,7 +29,7 @@ pub put-length : (b : Buffer) (t : List ℕ) → length (put b t .bytes) ≡ len
 unfolding put
 put-length b t = length-sets (b .bytes) _ t
 
-pub put-within : (l : List ℕ) (at : ℕ) (t : List ℕ) → at + length t ≤ length l → length l ≤ usizeMax
+put-within : (l : List ℕ) (at : ℕ) (t : List ℕ) → at + length t ≤ length l → length l ≤ usizeMax
     → put (buffer l at) t ≡ buffer (take at l ++ t ++ drop (at + length t) l) (at + length t)
 unfolding put
 put-within l at t h k = ap₂ buffer (sets-eq t l at h) (omega arith)
@@ -47,7 +47,7 @@ put-whole l t h k = put-within l 0 t (omega arith) k ∙ ap (λ (n : ℕ). buffe
 
 -- ---- puts in a row
 
-pub put-append : (b : Buffer) (s t : List ℕ) → length (b .bytes) ≤ usizeMax → put (put b s) t ≡ put b (s ++ t)
+put-append : (b : Buffer) (s t : List ℕ) → length (b .bytes) ≤ usizeMax → put (put b s) t ≡ put b (s ++ t)
 unfolding put
 put-append b s t h =
     ap₂ buffer

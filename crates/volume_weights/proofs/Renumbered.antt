@@ -55,7 +55,7 @@ numbers-member (suc n) i l = simp (member-inserted (numbersTo n) (suc n) (length
           ]
     ]
 
-pub numbers-column : (n i : ℕ) → n < 256 → columnIn (numbersTo n) (replicate 4 0) (suc i) ≡ ltb i n
+numbers-column : (n i : ℕ) → n < 256 → columnIn (numbersTo n) (replicate 4 0) (suc i) ≡ ltb i n
 numbers-column n i l =
     ap₂ (λ (a b : Bool). leb (suc i) 255 && (a && not b)) (numbers-member n i l) (member-none (suc i))
     ∙ ap (λ (b : Bool). leb (suc i) 255 && b) (and-true (ltb i n))
@@ -71,7 +71,7 @@ module _ (rule : ℕ → ℕ → ℕ) (files : List ℕ) where
   unfolding renumbered
   renumbered-at p v = ap (λ (k : ℕ). rule (getD files k 0) v) (suc-sub-suc p zero ∙ sub-zero p)
 
-  pub renumbered-entry : (width v p : ℕ) → width < 256
+  renumbered-entry : (width v p : ℕ) → width < 256
       → cond (columnIn (numbersTo width) (replicate 4 0) (suc p)) (renumbered rule files (suc p) v) 0 ≡ cond (ltb p width) (rule (getD files p 0) v) 0
   renumbered-entry width v p l = ap₂ (λ (b : Bool) (x : ℕ). cond b x 0) (numbers-column width p l) (renumbered-at p v)
 

@@ -33,7 +33,7 @@ module _ (column : ℕ → Bool) where
   unfolding sizeBelow
   before-at m b e = ap (λ (t : Bool). before m + cond t 1 0) e
 
-  pub before-column : (m : ℕ) → column m ≡ true → before (suc m) ≡ suc (before m)
+  before-column : (m : ℕ) → column m ≡ true → before (suc m) ≡ suc (before m)
   before-column m e = before-at m true e ∙ add-one (before m)
 
   pub before-other : (m : ℕ) → column m ≡ false → before (suc m) ≡ before m

@@ -68,7 +68,7 @@ module _ (rule : ℕ → ℕ → ℕ) (small : (f v : ℕ) → f < 256 → rule 
   from-start zero s R = R
   from-start (suc k) s R = volume-reduced k (volumesAdded rule nonempty present volumes k s) (from-start k s R)
 
-  pub volumes-reduced : (rows : ℕ) (identity m owners : List ℕ) → identity ≡ withDiagonal 256 (replicate 65536 0)
+  volumes-reduced : (rows : ℕ) (identity m owners : List ℕ) → identity ≡ withDiagonal 256 (replicate 65536 0)
       → (m, owners) ≡ volumesAdded rule nonempty present volumes rows (identity, replicate 256 0) → ReducedBytes table m owners rows
   volumes-reduced rows identity m owners d e =
       subst (λ (s : List ℕ × List ℕ). ReducedPair table s rows) (sym e)
