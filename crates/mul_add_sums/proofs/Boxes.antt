@@ -31,7 +31,7 @@ use Rattle.parity.proofs.Volumes.{volume-shares}
 use Rattle.mul_add_sums.specs.Adding.{AddsAll, at-once, none, more}
 use Rattle.mul_add_sums.specs.Claim.{Box, SomeBuffer, TwoBoxes, MergedWritten}
 use Rattle.mul_add_sums.proofs.ByteLaws.{mulAddAll-bytes, zeros-bytes}
-use Rattle.mul_add_sums.proofs.SumLaws.{one-answer, adds-short, mulAdd-one}
+use Rattle.mul_add_sums.proofs.SumLaws.{adds-alike, adds-short, mulAdd-one}
 
 -- ---- many fragments
 
@@ -40,7 +40,7 @@ module _ (weight : ℕ → ℕ) (fragment : ℕ → List ℕ) where
   unfolding mulAddAll
   all-answer h (none e) = e
   all-answer h (more {k} {ks} {b} {c} {d} p q) =
-      simp (all-answer (adds-short (weight k) (fragment k) b c h p) q, one-answer (weight k) (fragment k) b c h p)
+      simp (all-answer (adds-short (weight k) (fragment k) b c h p) q, adds-alike (weight k) (fragment k) b c h p)
 
   pub all-given : (ks b : List ℕ) → AddsAll weight fragment ks b (mulAddAll weight fragment ks b)
   unfolding mulAddAll
@@ -93,7 +93,7 @@ merged-written code program v fs ks ls one two merged room out small right writa
     let l₁ : length one ≡ dataSizeFor fs = box-length code v fs short ks p in
     let l₂ : length two ≡ dataSizeFor fs = box-length code v fs short ls q in
     let parity-is : merged ≡ dataFor (ruleOf code) v fs =
-    one-answer 1 two one merged (omega arith) sum ∙ mulAdd-one one two (l₂ ∙ sym l₁) (box-bytes code v fs short ks ls few once q)
+    adds-alike 1 two one merged (omega arith) sum ∙ mulAdd-one one two (l₂ ∙ sym l₁) (box-bytes code v fs short ks ls few once q)
     ∙ two-boxes code v fs ks ls one two short once p q in
     let made = set-written code program v fs (ks ++ ls) room out small right writable once list-fits fits in
     record {

@@ -1,7 +1,7 @@
 -- "Folding obeys the sums" (document 02, 2026-12), for our calls: mul_add, and start, push and end of a running mul_add; and for those from C. Each
 -- fragment of each law goes to one call, or in chunks, cut in any way, to a job of its own: `Adds` is any of these.
 --
---   OneAnswer        at once and for every way of cutting a fragment, the buffer is the one that mul_add promises
+--   AddsAlike        at once and for every way of cutting a fragment, the buffer is the one that mul_add promises
 --   TwoFragments     two equally long fragments with one weight: their sum, once
 --   TwoWeights       one fragment with two weights: once, with the sum of the weights
 --   TwiceRestores    twice restores the buffer
@@ -14,7 +14,7 @@
 --   VolumeMerged code program v fs merged room out    what write_volume makes of the merged buffer
 --   MergedWritten    the two buffers summed by a call, and handed to write_volume, give the volume
 -- What excludes an empty reading: for every weight, fragment, buffer and way of cutting there is a buffer after it of which `Adds` holds, from C for
--- every weight that is a byte, and there are no two (`OneAnswer`); a share may be any list of files, none too, and has its buffer (`SomeBuffer`); n
+-- every weight that is a byte, and there are no two (`AddsAlike`); a share may be any list of files, none too, and has its buffer (`SomeBuffer`); n
 -- files have an order to be taken in (parity specs/Claim, `SomeOrder`), which may be cut in two anywhere; and a set of files with a file that is not
 -- saved meets all that `TwoBoxes` and `MergedWritten` ask for (proofs/Examples.antt, `their-sum`, `their-volume`).
 -- A buffer is shorter than `lendLimit`, as is every one that can be lent. That no push and no end of such a job is refused is claimed with the jobs
@@ -46,9 +46,9 @@ use Rattle.mul_add_sums.specs.Adding.{Adds, AddsAll, Turn, inTurn, first
 
 -- ---- the laws
 
--- proved: proofs/SumLaws.antt, `one-answer`
-abbrev pub OneAnswer : Type 0
-OneAnswer = (w : ℕ) (xs b c : List ℕ) → length b < lendLimit → Adds w xs b c → c ≡ mulAdd w xs b
+-- proved: proofs/SumLaws.antt, `adds-alike`
+abbrev pub AddsAlike : Type 0
+AddsAlike = (w : ℕ) (xs b c : List ℕ) → length b < lendLimit → Adds w xs b c → c ≡ mulAdd w xs b
 
 -- "folding two equally long pieces with one weight equals folding their byte-by-byte sum"; proved: proofs/SumLaws.antt, `two-fragments`
 abbrev pub TwoFragments : Type 0

@@ -3,15 +3,15 @@
 --   ascending-one    two ascending lists of the same numbers are the same
 --   line-after, line-is      the line after an event, and that it is the only one
 --   lines-after, lines-are   those after events, one after another
---   text-for, text-is        the text of a log
+--   text-is, text-for        the text of a log, and that each has one
 --   each-replayed    the claim
 -- Assumes nothing.
 use mathlib.Core.Path.{_≡_, refl, sym, ap, ap₂, _∙_, subst}
-use mathlib.Core.Logic.{_↔_}
+use mathlib.Core.Logic.{_↔_, _⊎_, inl, inr}
 use mathlib.Core.Bool.{Bool}
-use mathlib.Core.List.{List, [], _∷_, _++_, flatten, List·Memᴰ, List·Memᴰ·head, List·Memᴰ·tail, List·Memᴰ·not-nil}
+use mathlib.Core.List.{List, [], _∷_, _++_, map, flatten, append-assoc, List·Memᴰ, List·Memᴰ·head, List·Memᴰ·tail, List·Memᴰ·not-nil}
 use Prim.Native.Nat.{ℕ, suc, _<_, _≤_}
-use native.Mathlib.Decide.{ℕ-discrete}
+use native.Mathlib.Decide.{ℕ-discrete, decLe}
 use native.Mathlib.Omega.{arith}
 use lib.ListN.{length, getD}
 use Rattle.codes.specs.declared.Code.the-variants.{Powers}
@@ -19,18 +19,19 @@ use Rattle.lent_bytes.specs.Writing.{written}
 use Rattle.parity.specs.Coefficient.{coefficient}
 use Rattle.recovery.specs.Recoverable.{State}
 use Rattle.inventory.specs.Model.{change, opened, numberOf, next}
+use Rattle.inventory.specs.Steps.{openStep}
 use Rattle.inventory.specs.Claim.{sizeIn}
 use Rattle.inventory.proofs.Calls.{next-same}
 use Rattle.inventory.proofs.Openings.{opened-represents}
 use Rattle.replay.specs.Replay.{Decides, eventLine, replayOf}
-use Rattle.replay.specs.Claim.{Arrival, changeBy, filesText, linesOf, endLine, LogKind, accepted, not-opened, no-first, too-long, Ascending}
+use Rattle.replay.specs.Claim.{Arrival, changeBy, firstText, eventText, logText, filesText, linesOf, NoFirst, endLine, Ascending}
 use Rattle.replay.specs.Claim.{LineAfter, files, refused, LinesAfter, no-more, one-more}
 use Rattle.replay.specs.Claim.{TextFor, of-events, of-opening, of-no-first, of-too-long, EachReplayed}
+use Rattle.replay.proofs.Beginnings.{HasFirst, first-decided, Events, events-there}
 use Rattle.replay.proofs.Determined.{decided}
-use Rattle.replay.proofs.Files.{listed, event-refused}
+use Rattle.replay.proofs.Files.{files-listed, event-refused}
 use Rattle.replay.proofs.Joined.{lines-joined}
-use Rattle.replay.proofs.LogKinds.{each-log}
-use Rattle.replay.proofs.Logs.{log-replayed, opening-refused, first-refused, long-refused}
+use Rattle.replay.proofs.Logs.{log-replayed, opening-refused, first-line-refused, long-refused}
 
 -- ---- ascending lists
 
@@ -75,13 +76,13 @@ module _ (d : State → ℕ → Bool) (D : Decides coefficient d) where
   line-after : (t : State) → t .n ≤ 254 → (a : Arrival) (k : ℕ) → LineAfter t a k (eventLine d t (changeBy a) k)
   line-after t few a k = elim (ℕ-discrete (numberOf t (changeBy a) k) 0) [
     | yes z ↦
-        let (ks, up, members, line) = listed d D t few (changeBy a) k z in
+        let (ks, up, members, line) = files-listed d D t few (changeBy a) k z in
         subst (LineAfter t a k) (sym line) (files z ks up members)
     | no q ↦ subst (LineAfter t a k) (sym (event-refused d t (changeBy a) k q)) (refused q)
   ]
 
   line-is : (t : State) → t .n ≤ 254 → (a : Arrival) (k : ℕ) {l : List ℕ} → LineAfter t a k l → l ≡ eventLine d t (changeBy a) k
-  line-is t few a k (files z ks up members) = let (js, vp, members′, line) = listed d D t few (changeBy a) k z in
+  line-is t few a k (files z ks up members) = let (js, vp, members′, line) = files-listed d D t few (changeBy a) k z in
       ap filesText
       (ascending-one ks js up vp (λ f. (λ m. members′ f .1 (members f .0 m), λ m. members f .1 (members′ f .0 m))))
       ∙ sym line
@@ -106,20 +107,41 @@ module _ (d : State → ℕ → Bool) (D : Decides coefficient d) where
       ap (λ (x : List ℕ). x ++ endLine s) (lines-are (opened Powers n (sizeIn sizes)) (opened-represents Powers n sizes opens .0) after)
       ∙ sym (log-replayed d n sizes es s opens none short)
   text-is (of-opening n sizes s closed short) = sym (opening-refused d n sizes s closed short)
-  text-is (of-no-first log none short) = sym (first-refused d log none short)
+  text-is (of-no-first log none short) = sym (first-line-refused d log none short)
   text-is (of-too-long log long) = sym (long-refused d log long)
 
-  text-for : {log : List ℕ} → LogKind log → (text : List ℕ) × TextFor log text
-  text-for (accepted n sizes es s opens none short) =
+  abbrev HasText : List ℕ → Type 0
+  HasText log = (text : List ℕ) × TextFor log text
+
+  -- of a log that is opened, by the events after its first line
+  text-opened : (n : ℕ) (sizes s : List ℕ) → openStep Powers n sizes .number ≡ 0 → length (firstText n sizes ++ s) ≤ 65536 → Events s
+      → HasText (firstText n sizes ++ s)
+  text-opened n sizes s opens short (es, r, z, none) =
       let (ls, after) = lines-after (opened Powers n (sizeIn sizes)) (opened-represents Powers n sizes opens .0) es in
-      (_, of-events n sizes es s ls opens none short after)
-  text-for (not-opened n sizes s closed short) = (_, of-opening n sizes s closed short)
-  text-for (no-first log none short) = (_, of-no-first log none short)
-  text-for (too-long log long) = (_, of-too-long log long)
+      let e : firstText n sizes ++ s ≡ logText n sizes es ++ r =
+      ap (λ (x : List ℕ). firstText n sizes ++ x) z ∙ sym (append-assoc (firstText n sizes) (flatten (map eventText es)) r) in
+      subst HasText (sym e) (_, of-events n sizes es r ls opens none (subst (λ (x : List ℕ). length x ≤ 65536) e short) after)
+
+  -- of one with a first line
+  text-first : (n : ℕ) (sizes s : List ℕ) → length (firstText n sizes ++ s) ≤ 65536 → HasText (firstText n sizes ++ s)
+  text-first n sizes s short = elim (ℕ-discrete (openStep Powers n sizes .number) 0) [
+    | yes opens ↦ text-opened n sizes s opens short (events-there (suc (length s)) s (omega arith))
+    | no closed ↦ (_, of-opening n sizes s closed short)
+  ]
+
+  text-for : (log : List ℕ) → HasText log
+  text-for log = elim (decLe (length log) 65536) [
+    | yes short ↦ by short (first-decided log)
+    | no q ↦ (_, of-too-long log (omega arith))
+  ]
+    where
+      by : length log ≤ 65536 → HasFirst log ⊎ NoFirst log → HasText log
+      by short (inr none) = (_, of-no-first log none short)
+      by short (inl (n, sizes, s, z)) = subst HasText (sym z) (text-first n sizes s (subst (λ (x : List ℕ). length x ≤ 65536) z short))
 
 pub each-replayed : EachReplayed
 each-replayed = let (d, D) = decided in record {
-  there = λ log. text-for d D (each-log log);
+  there = text-for d D;
   one = λ log text text′ T T′. text-is d D T ∙ sym (text-is d D T′);
   called = λ log text T out r R. R d D ∙ ap (λ (x : List ℕ). written x out) (sym (text-is d D T));
   printed = λ log text T lines P. lines-joined log lines P d D ∙ sym (text-is d D T);

@@ -13,7 +13,7 @@ pub mod Lengths
 pub mod LineLengths
 pub mod Shapes
 pub mod Logs
-pub mod LogKinds
+pub mod Beginnings
 pub mod EachReplayed
 pub mod Refusals
 pub mod Examples

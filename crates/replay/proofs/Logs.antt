@@ -4,7 +4,7 @@
 --   line-some, body-joined, cut-line     a text that begins with a line: its length, its bytes, and the lines after it
 --   begins                      any text that does
 --   spaced-without, event-without     no byte 10 in them
---   long-refused, first-refused, opening-refused     logs that are refused at their first line
+--   long-refused, first-line-refused, opening-refused     logs that are refused at their first line
 --   log-replayed                a log that is accepted
 -- Assumes nothing.
 use mathlib.Core.Path.{_≡_, refl, sym, ap, ap₂, _∙_, subst}
@@ -33,7 +33,7 @@ use Rattle.replay.specs.Log.{bodyOf, isFirstLine, numbersOf, changeOf, i
 use Rattle.replay.specs.Lines.{refusedLine, spaced}
 use Rattle.replay.specs.Replay.{eventLine, eventLines, openedLines, logLines, replayOf}
 use Rattle.replay.specs.Claim.{Arrival, fileAdded, volumeAdded, fileRemoved, volumeRemoved, letterOf, changeBy, firstText, eventText, logText, linesOf}
-use Rattle.replay.specs.Claim.{NoEvent, endLine, LogReplayed, OpeningRefused, FirstRefused, LongRefused}
+use Rattle.replay.specs.Claim.{NoEvent, endLine, LogReplayed, OpeningRefused, FirstLineRefused, LongRefused}
 use Rattle.replay.proofs.Shapes.{Without, without-none, without-more, without-append, decimal-without, first-shaped, event-shaped}
 
 abbrev Test : Type 0
@@ -115,9 +115,9 @@ opening-refused d n sizes s q h =
     ∙ ap (λ (b : Bool). cond b (eventLines d (opened Powers n (sizeIn sizes)) (cut lineLength s .pieces) (cut lineLength s .rest)) (refusedLine (openStep Powers n sizes .number)))
     (ne-eqb (openStep Powers n sizes .number) 0 q)
 
-pub first-refused : FirstRefused
+pub first-line-refused : FirstLineRefused
 unfolding logLines
-first-refused d log none h =
+first-line-refused d log none h =
     elim (ℕ-discrete (lineLength log) 0) [
       | yes z ↦ short d log h ∙ ap (λ (c : Cut). logLines d (c .pieces) (c .rest)) (cut-stop lineLength log z)
       | no q ↦

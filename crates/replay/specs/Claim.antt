@@ -9,7 +9,6 @@
 --   linesOf d t es           the lines after the events es from the state t on, one after another
 --   NoEvent s, NoFirst s     s does not begin with the line of an event; with a first line
 --   endLine s                what ends a replay before s: nothing where s is empty, else the refusal of a line
---   LogKind log              the four kinds of a log, with the premises of the claims on its text
 --   Ascending ks             each number is less than those after it
 --   LineAfter t a k l        l is the line after the event a of number k in the state t: the files that are recoverable then, or the refusal
 --   LinesAfter t es ls       ls are the lines after the events es from the state t on
@@ -23,18 +22,17 @@
 --   OneLine                  so it is with the line after an event
 --   FirstShaped, EventShaped     which lines have the shape, exactly, and what they say
 --   LogReplayed              a log that is accepted, up to its end or the first line of another shape
---   OpeningRefused, FirstRefused, LongRefused     the other logs
---   EachLog                  each log is of one of these four kinds
+--   OpeningRefused, FirstLineRefused, LongRefused     the other logs; each log is one of these four (EachReplayed)
 --   LargeNumbers             a number that 64 bits do not hold is 1 as a size and 10 elsewhere
---   Listed                   after an accepted event the line has exactly the files that are missing and recoverable, ascending, in the shape
+--   FilesListed              after an accepted event the line has exactly the files that are missing and recoverable, ascending, in the shape
 --                            of a first line, which FirstShaped gives
 --   EventRefused             after one that is refused it has the refusal
 --   LinesThere               for each log there are lines that a program prints
 --   LinesJoined, LinesFit    they are the text of the replay, and each line fits its room
 --   TextFits                 the text of any log is less than 2^59 bytes long
 --   ExamplePrints            the request's example
--- No claim is empty: each log has its text (EachReplayed), the test is there (Decided), every log falls under one of four claims (EachLog), every log
--- has lines (LinesThere), and the example has an accepted log, events that are accepted and one that is refused.
+-- No claim is empty: each log has its text (EachReplayed), the test is there (Decided), every log has lines (LinesThere), and the example has an
+-- accepted log, events that are accepted and one that is refused.
 -- Assumes nothing.
 use Prim.Native.Nat.{ℕ, _^_, _<_, _≤_}
 use Prim.Native.Char.{code}
@@ -107,14 +105,6 @@ NoFirst s = (n : ℕ) (sizes r : List ℕ) → s ≢ firstText n sizes ++ r
 abbrev pub endLine : List ℕ → List ℕ
 endLine [] = []
 endLine (b ∷ s) = refusedLine 28
-
--- what LogReplayed, OpeningRefused, FirstRefused and LongRefused ask, in this order
-pub data LogKind : List ℕ → Type 0 where
-  accepted : (n : ℕ) (sizes : List ℕ) (es : List (Arrival × ℕ)) (s : List ℕ)
-      → openStep Powers n sizes .number ≡ 0 → NoEvent s → length (logText n sizes es ++ s) ≤ 65536 → LogKind (logText n sizes es ++ s)
-  not-opened : (n : ℕ) (sizes s : List ℕ) → openStep Powers n sizes .number ≢ 0 → length (firstText n sizes ++ s) ≤ 65536 → LogKind (firstText n sizes ++ s)
-  no-first : (log : List ℕ) → NoFirst log → length log ≤ 65536 → LogKind log
-  too-long : (log : List ℕ) → 65536 < length log → LogKind log
 
 abbrev pub Ascending : List ℕ → Type 0
 Ascending ks = (i j : ℕ) → i < j → j < length ks → getD ks i 0 < getD ks j 0
@@ -203,18 +193,14 @@ OpeningRefused =
     → replayOf d (firstText n sizes ++ s) ≡ refusedLine (openStep Powers n sizes .number)
 
 -- "28 for a line of another shape, the first (or none)"
--- proved: proofs/Logs.antt, `first-refused`
-abbrev pub FirstRefused : Type 0
-FirstRefused = (d : State → ℕ → Bool) (log : List ℕ) → NoFirst log → length log ≤ 65536 → replayOf d log ≡ refusedLine 28
+-- proved: proofs/Logs.antt, `first-line-refused`
+abbrev pub FirstLineRefused : Type 0
+FirstLineRefused = (d : State → ℕ → Bool) (log : List ℕ) → NoFirst log → length log ≤ 65536 → replayOf d log ≡ refusedLine 28
 
 -- "A log above 65,536 bytes gives only `refused 1`"
 -- proved: proofs/Logs.antt, `long-refused`
 abbrev pub LongRefused : Type 0
 LongRefused = (d : State → ℕ → Bool) (log : List ℕ) → 65536 < length log → replayOf d log ≡ refusedLine 1
-
--- proved: proofs/LogKinds.antt, `each-log`
-abbrev pub EachLog : Type 0
-EachLog = (log : List ℕ) → LogKind log
 
 -- "A number too large to hold is 1 as a size and 10 elsewhere."; which OpeningRefused and EventRefused print; of openings by OpeningNumbers of
 -- `inventory` specs/Claim
@@ -226,9 +212,9 @@ pub record LargeNumbers : Type 0 where
   pub in-event : (t : State) → t .n ≤ 254 → (a : Arrival) (k : ℕ) → 2 ^ 64 ≤ k → numberOf t (changeBy a) k ≡ 10
 
 -- "the file numbers that are rebuildable now, ascending, or `none`, .. in lines of the same shape"
--- proved: proofs/Files.antt, `listed`
-abbrev pub Listed : Type 0
-Listed =
+-- proved: proofs/Files.antt, `files-listed`
+abbrev pub FilesListed : Type 0
+FilesListed =
     (d : State → ℕ → Bool) → Decides coefficient d → (t : State) → t .n ≤ 254 → (c : Change) (k : ℕ) → numberOf t c k ≡ 0
     → (ks : List ℕ) × Ascending ks × ((f : ℕ) → List·Memᴰ f ks ↔ RecoverableNow coefficient (next t (change c k)) f)
     × (eventLine d t c k ≡ filesText ks)

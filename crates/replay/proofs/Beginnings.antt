@@ -1,9 +1,9 @@
--- Each log is of one of the four kinds.
+-- What a log begins with.
 --
---   begins-decided                    whether a text begins with a line that passes a test
---   first-decided, event-decided      so with a first line, and with the line of an event
---   events-there                      the events that a text begins with, and what is left
---   each-log                          the claim
+--   begins-decided                 whether a text begins with a line that passes a test
+--   HasFirst log, first-decided    so with a first line
+--   event-decided                  and with the line of an event
+--   Events s, events-there         the events that a text begins with, and what is left
 -- Assumes nothing.
 use mathlib.Core.Path.{_≡_, refl, sym, ap, _∙_, subst}
 use mathlib.Core.Logic.{_⊎_, inl, inr, _≢_}
@@ -12,14 +12,12 @@ use mathlib.Core.List.{List, [], _∷_, _++_, map, flatten, append-assoc}
 use Prim.Native.Nat.{ℕ, zero, suc, _<_, _≤_}
 use native.Mathlib.Nat.{not-suc-le-zero}
 use native.Mathlib.Omega.{arith}
-use native.Mathlib.Decide.{ℕ-discrete, decLe}
+use native.Mathlib.Decide.{ℕ-discrete}
 use lib.ListN.{length, take, drop, length-append}
-use Rattle.codes.specs.declared.Code.the-variants.{Powers}
-use Rattle.inventory.specs.Steps.{openStep}
 use Rattle.text.specs.TextLines.{lineLength}
 use Rattle.replay.specs.Log.{bodyOf, isFirstLine, isEventLine}
 use Rattle.replay.specs.Lines.{spaced}
-use Rattle.replay.specs.Claim.{Arrival, firstText, eventText, logText, NoEvent, NoFirst, LogKind, accepted, not-opened, no-first, too-long, EachLog}
+use Rattle.replay.specs.Claim.{Arrival, firstText, eventText, NoEvent, NoFirst}
 use Rattle.replay.proofs.Shapes.{Without, first-shaped, event-shaped}
 use Rattle.replay.proofs.Logs.{line-some, body-joined, begins, spaced-without, event-without}
 
@@ -44,10 +42,13 @@ module _ (test : List ℕ → Bool) (s : List ℕ) where
           (λ l r h t′ e.
           true≢false (sym t′ ∙ ap test (sym (ap (λ (x : List ℕ). bodyOf (take (lineLength x) x)) e ∙ body-joined l r h)) ∙ t))
 
-first-decided : (log : List ℕ) → ((n : ℕ) × (sizes s : List ℕ) × (log ≡ firstText n sizes ++ s)) ⊎ NoFirst log
+abbrev pub HasFirst : List ℕ → Type 0
+HasFirst log = (n : ℕ) × (sizes s : List ℕ) × (log ≡ firstText n sizes ++ s)
+
+pub first-decided : (log : List ℕ) → HasFirst log ⊎ NoFirst log
 first-decided log = by (begins-decided isFirstLine log)
   where
-    by : Begins isFirstLine log ⊎ BeginsNot isFirstLine log → ((n : ℕ) × (sizes s : List ℕ) × (log ≡ firstText n sizes ++ s)) ⊎ NoFirst log
+    by : Begins isFirstLine log ⊎ BeginsNot isFirstLine log → HasFirst log ⊎ NoFirst log
     by (inl (l, r, t, e)) = let (n, sizes, z) = first-shaped .exactly l .0 t in
         inl (n, sizes, r, e ∙ ap (λ (x : List ℕ). (x ++ (10 ∷ [])) ++ r) z)
     by (inr none) =
@@ -61,7 +62,7 @@ event-decided s = by (begins-decided isEventLine s)
         inl ((a, k), r, e ∙ ap (λ (x : List ℕ). (x ++ (10 ∷ [])) ++ r) z)
     by (inr none) = inr (λ (a, k) r. none _ r (event-without a k) (event-shaped .exactly _ .1 (a, k, refl)))
 
-abbrev Events : List ℕ → Type 0
+abbrev pub Events : List ℕ → Type 0
 Events s = (es : List (Arrival × ℕ)) × (r : List ℕ) × (s ≡ flatten (map eventText es) ++ r) × NoEvent r
 
 event-more : (e : Arrival × ℕ) (r s : List ℕ) → s ≡ eventText e ++ r → Events r → Events s
@@ -69,7 +70,7 @@ unfolding flatten
 event-more e r s z (es, r′, z′, none) =
     (e ∷ es, r′, z ∙ ap (λ (x : List ℕ). eventText e ++ x) z′ ∙ sym (append-assoc (eventText e) (flatten (map eventText es)) r′), none)
 
-events-there : (m : ℕ) (s : List ℕ) → length s < m → Events s
+pub events-there : (m : ℕ) (s : List ℕ) → length s < m → Events s
 unfolding flatten
 events-there zero s h = absurd (not-suc-le-zero h)
 events-there (suc m) s h = by (event-decided s) (events-there m)
@@ -77,26 +78,3 @@ events-there (suc m) s h = by (event-decided s) (events-there m)
     by : ((e : Arrival × ℕ) × (r : List ℕ) × (s ≡ eventText e ++ r)) ⊎ NoEvent s → ((r : List ℕ) → length r < m → Events r) → Events s
     by (inr none) more = ([], s, refl, none)
     by (inl (e, r, z)) more = event-more e r s z (more r (omega (arith, ap length z, length-append (eventText e) r)))
-
-pub each-log : EachLog
-each-log log =
-    elim (decLe (length log) 65536) [
-      | yes l ↦ short l (first-decided log)
-      | no q ↦ too-long log (omega arith)
-    ]
-  where
-    opened : (n : ℕ) (sizes s : List ℕ) → openStep Powers n sizes .number ≡ 0 → length (firstText n sizes ++ s) ≤ 65536 → Events s
-        → LogKind (firstText n sizes ++ s)
-    opened n sizes s o l (es, r, z, none) =
-        let e : firstText n sizes ++ s ≡ logText n sizes es ++ r =
-        ap (λ (x : List ℕ). firstText n sizes ++ x) z ∙ sym (append-assoc (firstText n sizes) (flatten (map eventText es)) r) in
-        subst LogKind (sym e) (accepted n sizes es r o none (subst (λ (x : List ℕ). length x ≤ 65536) e l))
-
-    short : length log ≤ 65536 → ((n : ℕ) × (sizes s : List ℕ) × (log ≡ firstText n sizes ++ s)) ⊎ NoFirst log → LogKind log
-    short l (inr none) = no-first log none l
-    short l (inl (n, sizes, s, z)) = let h = subst (λ (x : List ℕ). length x ≤ 65536) z l in
-        subst LogKind (sym z)
-        (elim (ℕ-discrete (openStep Powers n sizes .number) 0) [
-          | yes o ↦ opened n sizes s o h (events-there (suc (length s)) s (omega arith))
-          | no q ↦ not-opened n sizes s q h
-        ])
