@@ -29,7 +29,7 @@ use Rattle.replay.specs.Claim.{LineAfter, files, refused, LinesAfter, no
 use Rattle.replay.specs.Claim.{TextFor, of-events, of-opening, of-no-first, of-too-long, EachReplayed}
 use Rattle.replay.proofs.Beginnings.{HasFirst, first-decided, Events, events-there}
 use Rattle.replay.proofs.Determined.{decided}
-use Rattle.replay.proofs.Files.{files-listed, event-refused}
+use Rattle.replay.proofs.Files.{recoverable-listed, event-refused}
 use Rattle.replay.proofs.Joined.{lines-joined}
 use Rattle.replay.proofs.Logs.{log-replayed, opening-refused, first-line-refused, long-refused}
 
@@ -76,13 +76,13 @@ module _ (d : State → ℕ → Bool) (D : Decides coefficient d) where
   line-after : (t : State) → t .n ≤ 254 → (a : Arrival) (k : ℕ) → LineAfter t a k (eventLine d t (changeBy a) k)
   line-after t few a k = elim (ℕ-discrete (numberOf t (changeBy a) k) 0) [
     | yes z ↦
-        let (ks, up, members, line) = files-listed d D t few (changeBy a) k z in
+        let (ks, up, members, line) = recoverable-listed d D t few (changeBy a) k z in
         subst (LineAfter t a k) (sym line) (files z ks up members)
     | no q ↦ subst (LineAfter t a k) (sym (event-refused d t (changeBy a) k q)) (refused q)
   ]
 
   line-is : (t : State) → t .n ≤ 254 → (a : Arrival) (k : ℕ) {l : List ℕ} → LineAfter t a k l → l ≡ eventLine d t (changeBy a) k
-  line-is t few a k (files z ks up members) = let (js, vp, members′, line) = files-listed d D t few (changeBy a) k z in
+  line-is t few a k (files z ks up members) = let (js, vp, members′, line) = recoverable-listed d D t few (changeBy a) k z in
       ap filesText
       (ascending-one ks js up vp (λ f. (λ m. members′ f .1 (members f .0 m), λ m. members f .1 (members′ f .0 m))))
       ∙ sym line

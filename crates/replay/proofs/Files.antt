@@ -2,7 +2,7 @@
 --
 --   files-most, files-ascending     they are at most n, and ascend
 --   files-member                    they are those of 1 to n that pass
---   files-listed                    after an accepted event they are those that are missing and recoverable
+--   recoverable-listed              after an accepted event they are those that are missing and recoverable
 --   event-refused                   after a refused one it is the refusal
 -- Assumes nothing.
 use mathlib.Core.Path.{_≡_, refl, sym, ap, _∙_, subst}
@@ -25,7 +25,7 @@ use Rattle.text.specs.Ascii.{ascii}
 use Rattle.text.specs.Decimal.{decimal}
 use Rattle.replay.specs.Lines.{refusedLine, filesOf, numbersLine}
 use Rattle.replay.specs.Replay.{eventLine}
-use Rattle.replay.specs.Claim.{filesText, Ascending, FilesListed, EventRefused}
+use Rattle.replay.specs.Claim.{filesText, Ascending, RecoverableListed, EventRefused}
 
 module _ (test : ℕ → Bool) where
   -- the files of n + 1 numbers
@@ -109,9 +109,9 @@ same-shape : (ks : List ℕ) → numbersLine ks ≡ filesText ks
 same-shape [] = refl
 same-shape (k ∷ ks) = refl
 
-pub files-listed : FilesListed
+pub recoverable-listed : RecoverableListed
 unfolding eventLine
-files-listed d D t few c k e = let t′ : State = next t (change c k) in
+recoverable-listed d D t few c k e = let t′ : State = next t (change c k) in
     let few′ : t′ .n ≤ 254 = subst (λ (n : ℕ). n ≤ 254) (sym (next-same t (change c k) .same-n)) few in
     let member = files-member (d t′) (t′ .n) in (
       filesOf (t′ .n) (d t′),

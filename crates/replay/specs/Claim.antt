@@ -22,9 +22,9 @@
 --   OneLine                  so it is with the line after an event
 --   FirstShaped, EventShaped     which lines have the shape, exactly, and what they say
 --   LogReplayed              a log that is accepted, up to its end or the first line of another shape
---   OpeningRefused, FirstLineRefused, LongRefused     the other logs; each log is one of these four (EachReplayed)
+--   OpeningRefused, FirstLineRefused, LongRefused     the other logs; each log is one of these four (EachReplayed, by the cases of TextFor)
 --   LargeNumbers             a number that 64 bits do not hold is 1 as a size and 10 elsewhere
---   FilesListed              after an accepted event the line has exactly the files that are missing and recoverable, ascending, in the shape
+--   RecoverableListed        after an accepted event the line has exactly the files that are missing and recoverable, ascending, in the shape
 --                            of a first line, which FirstShaped gives
 --   EventRefused             after one that is refused it has the refusal
 --   LinesThere               for each log there are lines that a program prints
@@ -212,9 +212,9 @@ pub record LargeNumbers : Type 0 where
   pub in-event : (t : State) → t .n ≤ 254 → (a : Arrival) (k : ℕ) → 2 ^ 64 ≤ k → numberOf t (changeBy a) k ≡ 10
 
 -- "the file numbers that are rebuildable now, ascending, or `none`, .. in lines of the same shape"
--- proved: proofs/Files.antt, `files-listed`
-abbrev pub FilesListed : Type 0
-FilesListed =
+-- proved: proofs/Files.antt, `recoverable-listed`
+abbrev pub RecoverableListed : Type 0
+RecoverableListed =
     (d : State → ℕ → Bool) → Decides coefficient d → (t : State) → t .n ≤ 254 → (c : Change) (k : ℕ) → numberOf t c k ≡ 0
     → (ks : List ℕ) × Ascending ks × ((f : ℕ) → List·Memᴰ f ks ↔ RecoverableNow coefficient (next t (change c k)) f)
     × (eventLine d t c k ≡ filesText ks)
