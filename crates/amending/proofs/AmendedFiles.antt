@@ -15,7 +15,7 @@ use mathlib.Core.List.{List, [], ◌∷◌, ◌++◌, map, foldr, flatten}
 use Prim.Native.Nat.{ℕ, zero, suc, ◌+◌, ◌-◌, ◌≤◌, ◌<◌, max}
 use native.Mathlib.Omega.{arith}
 use lib.ListN.{length, take, drop, get_or, set, length-append, length-drop, length-set}
-use lib.Seq.{length-take-le, get_or_set_same, get_or_set_other}
+use lib.Seq.{length-take-le, get_or-set_same, get_or-set_other}
 use Rattle.cut_lists.specs.All.{All, all_none, all_more}
 use Rattle.entries.specs.Entry.{is_saved, is_counted}
 use Rattle.par1_write.proofs.EntryWritingLaws.{length-entry}
@@ -92,12 +92,12 @@ module _ (c : Change) (fs : List File) (low : 1 ≤ c.file) (high : c.file ≤ f
   pub amended_new : contents_of (amended c fs) c.file ≡ spliced c (contents_of fs c.file)
   amended_new =
       ap (λ (l : List File). (get_or l (c.file - 1) no_file).contents) amended_saved
-      ∙ ap (λ (x : File). x.contents) (get_or_set_same (saved_files fs) (c.file - 1) _ no_file (omega arith))
+      ∙ ap (λ (x : File). x.contents) (get_or-set_same (saved_files fs) (c.file - 1) _ no_file (omega arith))
 
   pub amended_other : (g : ℕ) → 1 ≤ g → (g ≡ c.file → ⊥) → contents_of (amended c fs) g ≡ contents_of fs g
   amended_other g h q =
       ap (λ (l : List File). (get_or l (g - 1) no_file).contents) amended_saved
-      ∙ ap (λ (x : File). x.contents) (get_or_set_other (saved_files fs) (c.file - 1) (g - 1) _ no_file (λ e. q (omega arith)))
+      ∙ ap (λ (x : File). x.contents) (get_or-set_other (saved_files fs) (c.file - 1) (g - 1) _ no_file (λ e. q (omega arith)))
 
 -- ---- the data size
 

@@ -13,7 +13,7 @@ use mathlib.Core.List.{List, [], ◌∷◌, flatten}
 use Prim.Native.Nat.{ℕ, ◌+◌, ◌^◌, ◌≤◌, ◌<◌, max}
 use native.Mathlib.Omega.{arith}
 use lib.ListN.{length, get_or, take, drop, length-set, length-map}
-use lib.Seq.{get_or_set_same}
+use lib.Seq.{get_or-set_same}
 use Rattle.codes.specs.declared.Code.{Code}
 use Rattle.cut_lists.specs.All.{All}
 use Rattle.cut_lists.proofs.AllLaws.{all_at, all_set}
@@ -136,7 +136,7 @@ module _ (v : ℕ) (c : Change) (fs : List File) (low : 1 ≤ c.file) (high : c.
     back_after = let k : ℕ = place_of fs c.file in
         let y : File = changed c (get_or fs k no_file) in
         let few = (change_placed c fs low high).within in
-        subst FileBack (get_or_set_same fs k y no_file few) (all_at no_file after k (omega (arith, length-set fs k y)))
+        subst FileBack (get_or-set_same fs k y no_file few) (all_at no_file after k (omega (arith, length-set fs k y)))
 
     pub size_after : file_size_of (entry_after c fs) ≡ length (spliced c (contents_of fs c.file))
     size_after = back_after.size_is ∙ ap (λ (m : List ℕ). length (spliced c m)) (own_contents c fs low high)

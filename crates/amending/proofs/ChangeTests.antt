@@ -8,7 +8,7 @@
 --   change_length                    the new entry is as long as the old one
 -- Assumes nothing.
 use mathlib.Core.Path.{◌≡◌, refl, sym, ap, ◌∙◌}
-use mathlib.Core.Bool.{Bool, true, false, ◌&&◌, ◌||◌, or_true, false≢true}
+use mathlib.Core.Bool.{Bool, true, false, ◌&&◌, ◌||◌, or-true, false≢true}
 use mathlib.Core.List.{List, [], ◌∷◌}
 use Prim.Native.Nat.{ℕ, ◌+◌, ◌-◌, ◌≤◌}
 use native.Mathlib.Omega.{arith}
@@ -35,7 +35,7 @@ nil_of (x ∷ l) e = absurd (omega arith)
 module _ (m : List ℕ) (c : Change) where
   pub stretch_passes : Stretch m c → stretch_allowed (length m) c.place (length c.old) (length c.new) ≡ true
   stretch_passes (inside e h) = simp (eq-eqb _ _ e, le-leb _ _ h)
-  stretch_passes (on_end e h) = simp (eq-eqb (length c.old) 0 (ap length e), eq-eqb _ _ h, or_true)
+  stretch_passes (on_end e h) = simp (eq-eqb (length c.old) 0 (ap length e), eq-eqb _ _ h, or-true)
 
   pub stretch_tells : stretch_allowed (length m) c.place (length c.old) (length c.new) ≡ true → Stretch m c
   stretch_tells e =
@@ -53,7 +53,7 @@ module _ (size place old new : ℕ) where
   pub no_kind : stretch_allowed size place old new ≡ false → (old ≡ new → place + old ≤ size → ⊥) × (old ≡ 0 → place ≡ size → ⊥)
   no_kind f = (
     λ e h. let t : stretch_allowed size place old new ≡ true = simp (eq-eqb old new e, le-leb (place + old) size h) in false≢true (sym f ∙ t),
-    λ e h. let t : stretch_allowed size place old new ≡ true = simp (eq-eqb old 0 e, eq-eqb place size h, or_true) in false≢true (sym f ∙ t),
+    λ e h. let t : stretch_allowed size place old new ≡ true = simp (eq-eqb old 0 e, eq-eqb place size h, or-true) in false≢true (sym f ∙ t),
   )
 
 pub stretch_place : (size place old new : ℕ) → stretch_allowed size place old new ≡ true → place ≤ size + (new - old)

@@ -11,7 +11,7 @@ use native.Mathlib.Decide.{dec_lt}
 use native.Mathlib.Omega.{arith}
 use lib.Bits.{bit_xor, xor_zero_r}
 use lib.ListN.{length, take, drop, get_or, replicate, length-append, length-set, get_or-append, get_or-eq_default}
-use lib.Seq.{take_at, get_or_set_same, get_or_set_other}
+use lib.Seq.{take_at, get_or-set_same, get_or-set_other}
 use Rattle.codes.specs.declared.Code.{Code}
 use Rattle.cut_lists.proofs.AllLaws.{all_at}
 use Rattle.gf256.specs.Field.{product}
@@ -86,7 +86,7 @@ module _ (code : Code) (program v : ℕ) (c : Change) (fs : List File) (p : prog
       let count : length gs ≡ length fs = length-set fs k y in
       let list : length (list_for gs) ≡ length (list_for fs) = amended_list_length c fs in
       let few : k < length gs = omega (arith, placed.within) in
-      let same : get_or gs k no_file ≡ y = get_or_set_same fs k y no_file placed.within in
+      let same : get_or gs k no_file ≡ y = get_or-set_same fs k y no_file placed.within in
       let old_entry : get_or (entries_in (volume_for (version_for code) (rule_of code) program v fs)) k [] ≡ entry_for x =
       ap (λ (es : List (List ℕ)). get_or es k []) was.entries_are ∙ entries_at fs k placed.within in
       let new_entry : get_or (entries_in (volume_for (version_for code) (rule_of code) program v gs)) k [] ≡ entry_for y =
@@ -101,7 +101,7 @@ module _ (code : Code) (program v : ℕ) (c : Change) (fs : List File) (p : prog
         list_kept = ap length is.list_is ∙ list ∙ sym (ap length was.list_is);
         entries_kept =
             λ i q. ap (λ (es : List (List ℕ)). get_or es i []) (is.entries_are ∙ entries_set fs k y)
-            ∙ get_or_set_other (entries_for fs) k i (entry_for y) [] q ∙ sym (ap (λ (es : List (List ℕ)). get_or es i []) was.entries_are);
+            ∙ get_or-set_other (entries_for fs) k i (entry_for y) [] q ∙ sym (ap (λ (es : List (List ℕ)). get_or es i []) was.entries_are);
         status_kept = ap (take 16) new_entry ∙ entry_first y ∙ sym (entry_first x) ∙ sym (ap (take 16) old_entry);
         name_kept = ap (drop 56) new_entry ∙ new_name ∙ sym old-back.name_is ∙ sym (ap (drop 56) old_entry);
         size_field =

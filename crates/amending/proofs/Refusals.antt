@@ -19,7 +19,7 @@ use native.Mathlib.Decide.{dec_lt}
 use native.Mathlib.Omega.{arith}
 use lib.Dec.{leb}
 use lib.ListN.{length, take, drop, length-append, length-drop}
-use lib.Seq.{drop_append_seam}
+use lib.Seq.{drop-append_seam}
 use borrow.Author.Tests.{le-leb, lt-leb}
 use Rattle.codes.specs.declared.Code.{Code}
 use Rattle.lent_bytes.specs.Writing.{refused, accepted, written_unless}
@@ -185,7 +185,7 @@ module _ (rules : Code → ℕ → ℕ → ℕ) (n : ℕ) (c : Change) (d out : 
           let told = unless_tells m s out e in
           let size = told.length_is in (
             omega (arith, ap length told.room_is, length-append s (drop (length s) out), length-drop (length s) out, told.fits),
-            ap₂ (λ (j : ℕ) (l : List ℕ). drop j l) size told.room_is ∙ drop_append_seam s (drop (length s) out)
+            ap₂ (λ (j : ℕ) (l : List ℕ). drop j l) size told.room_is ∙ drop-append_seam s (drop (length s) out)
                 ∙ ap (λ (j : ℕ). drop j out) (sym size),
           )
       by false e = never e

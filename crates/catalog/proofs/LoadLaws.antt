@@ -6,7 +6,7 @@ use mathlib.Core.Path.{◌≡◌, refl, sym, ap, ap₂, ◌∙◌, subst}
 use mathlib.Core.Bool.{Bool, true, false, cond}
 use mathlib.Core.List.{List, [], ◌∷◌, ◌++◌, map}
 use Prim.Native.Nat.{ℕ, zero, suc, ◌+◌, ◌≤◌, ◌<◌}
-use native.Mathlib.Nat.{zero_add}
+use native.Mathlib.Nat.{zero-add}
 use native.Mathlib.Omega.{arith}
 use lib.ListN.{length, take, drop, get_or, length-append, length-drop, length-map, get_or-append}
 use lib.Seq.{length-take-le, drop_at}
@@ -77,7 +77,7 @@ module _ (f : List ℕ) (r : FileRows f) where
       let size : file_size_of e ≤ max_file_size = leb-true _ _ keeps.file_size_right in
       let hash : length (md5_of e) ≡ 16 = length-take-le 16 (drop 24 e) (omega (arith, length-drop 24 e)) in
       let number : number_after 0 es k ≡ n =
-      ap (λ (m : ℕ). cond (is_saved (status_of e)) (m + 1) 0) (zero_add (length (saved_of (take k es)))) in
+      ap (λ (m : ℕ). cond (is_saved (status_of e)) (m + 1) 0) (zero-add (length (saved_of (take k es)))) in
       ap (λ (x : List ℕ). record_of x) (row_at 0 es k h ∙ ap (λ (m : ℕ). entry_row m e) number)
       ∙ fields (number_row n (file_size_of e) (md5_of e) (omega (arith, number_low k h))) (size_row n (file_size_of e) (md5_of e) (omega arith))
       (hash_row n (file_size_of e) (md5_of e) hash)

@@ -10,7 +10,7 @@ use Prim.Native.Nat.{ℕ, suc, ◌+◌, ◌-◌, ◌≤◌, ◌<◌}
 use native.Mathlib.Omega.{arith}
 use native.Mathlib.Numerals.{add-one}
 use lib.ListN.{length, take, drop, get_or, set, length-drop}
-use lib.Seq.{sets, sets_eq, length-sets, set_comm, get_or_set_other, get_or-drop, drop-cons, take-take, take-append-le, drop_at, length-take-le}
+use lib.Seq.{sets, sets-eq, length-sets, set_comm, get_or-set_other, get_or-drop, drop-cons, take-take, take-append-le, drop_at, length-take-le}
 use Rattle.lent_bytes.proofs.StoreLaws.{sets_more}
 use Rattle.catalog.specs.Plan.{spread, closed}
 
@@ -22,11 +22,11 @@ set_below s (b ∷ v) m k a h = simp (set_below (set s m b) v (suc m) k a (omega
 
 get_d_below : (s v : List ℕ) (m j : ℕ) → j < m → get_or (sets s m v) j 0 ≡ get_or s j 0
 get_d_below s [] m j h = refl
-get_d_below s (b ∷ v) m j h = get_d_below (set s m b) v (suc m) j (omega arith) ∙ get_or_set_other s m j b 0 (λ e. omega arith)
+get_d_below s (b ∷ v) m j h = get_d_below (set s m b) v (suc m) j (omega arith) ∙ get_or-set_other s m j b 0 (λ e. omega arith)
 
 get_d_past : (s v : List ℕ) (m j : ℕ) → m + length v ≤ j → get_or (sets s m v) j 0 ≡ get_or s j 0
 get_d_past s [] m j h = refl
-get_d_past s (b ∷ v) m j h = get_d_past (set s m b) v (suc m) j (omega arith) ∙ get_or_set_other s m j b 0 (λ e. omega arith)
+get_d_past s (b ∷ v) m j h = get_d_past (set s m b) v (suc m) j (omega arith) ∙ get_or-set_other s m j b 0 (λ e. omega arith)
 
 -- ---- up
 
@@ -49,12 +49,12 @@ module _ (s : List ℕ) (to : ℕ) where
       let front : List ℕ = take (at + 28) s in
       let end : at + 28 + length v ≡ to + 28 = omega arith in
       let sized : length front ≡ at + 28 = length-take-le (at + 28) s (omega arith) in
-      let t_is : t ≡ front ++ (v ++ drop (to + 28) s) = simp (up, sets_eq v s (at + 28) (omega arith), append_assoc, end) in
+      let t_is : t ≡ front ++ (v ++ drop (to + 28) s) = simp (up, sets-eq v s (at + 28) (omega arith), append_assoc, end) in
       let t_size : length t ≡ length s = ap length up ∙ length-sets s (at + 28) v in
       let before : take at t ≡ take at s =
       ap (take at) t_is ∙ take-append-le at front (v ++ drop (to + 28) s) (omega arith) ∙ take-take at (at + 28) s (omega arith) in
       let after : drop (at + length row) t ≡ v ++ drop (to + 28) s = simp (size, t_is, drop_at) in
-      simp (put, sets_eq row t at (omega arith), append_assoc, before, after)
+      simp (put, sets-eq row t at (omega arith), append_assoc, before, after)
 
 -- ---- down
 
@@ -76,4 +76,4 @@ module _ (s : List ℕ) (at : ℕ) where
       let v : List ℕ = take (to - (at + 28)) (drop (at + 28) s) in
       let n : length v ≡ to - (at + 28) = length-take-le (to - (at + 28)) (drop (at + 28) s) (omega (arith, length-drop (at + 28) s)) in
       let end : at + length v ≡ to - 28 = omega arith in
-      simp (e, same, sets_eq v s at (omega arith), append_assoc, end)
+      simp (e, same, sets-eq v s at (omega arith), append_assoc, end)

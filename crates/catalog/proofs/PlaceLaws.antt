@@ -82,9 +82,9 @@ module _ (n g : ℕ) where
   holds-place u (r ∷ rs) v e = let f = first_row u r rs e in
       by (ltb (number_of r) v) refl (holds-place (number_of r) rs v f.others) (λ h. none_below (number_of r) rs v f.others h)
     where
-      or_false : (a b : Bool) → b ≡ false → (a || b) ≡ a
-      or_false true b z = refl
-      or_false false b z = z
+      or-false : (a b : Bool) → b ≡ false → (a || b) ≡ a
+      or-false true b z = refl
+      or-false false b z = z
 
       by : (t : Bool) → t ≡ ltb (number_of r) v → holds v rs ≡ (ltb (place_of v rs) (length rs) && eqb (number_of (get_or rs (place_of v rs) [])) v)
           → (v ≤ number_of r → holds v rs ≡ false)
@@ -95,7 +95,7 @@ module _ (n g : ℕ) where
           simp (ne_eqb _ _ other)
           (h ∙ ap (λ (t : Bool). t && eqb (number_of (get_or rs (place_of v rs) [])) v) (sym (leb-suc-suc (suc (place_of v rs)) (length rs))))
       by false z h g =
-          simp (or_false (eqb (number_of r) v) (holds v rs) (g (ltb-false (number_of r) v (sym z))), lt-ltb 0 (suc (length rs)) (omega arith))
+          simp (or-false (eqb (number_of r) v) (holds v rs) (g (ltb-false (number_of r) v (sym z))), lt-ltb 0 (suc (length rs)) (omega arith))
 
   pub remove_at : (u : ℕ) (rs : List (List ℕ)) (v : ℕ) → volume_rows_allowed n g u rs ≡ true → holds v rs ≡ true
       → remove_row v rs ≡ take (place_of v rs) rs ++ drop (place_of v rs + 1) rs

@@ -10,7 +10,7 @@
 use mathlib.Core.Path.{◌≡◌, refl, sym, ap, ap₂, ◌∙◌}
 use mathlib.Core.List.{List, [], ◌∷◌, ◌++◌, flatten, append_assoc, append-nil}
 use Prim.Native.Nat.{ℕ, zero, suc, ◌+◌, ◌-◌, ◌*◌, ◌%◌, ◌^◌, ◌≤◌, ◌<◌}
-use native.Mathlib.Nat.{add_zero}
+use native.Mathlib.Nat.{add-zero}
 use native.Mathlib.Omega.{arith}
 use lib.ListN.{length, take, drop, length-append, length-drop, drop_of_length-le}
 use lib.Seq.{length-take-le, take_at, drop_at, take-add, drop-drop}
@@ -28,7 +28,7 @@ use Rattle.catalog.specs.Catalog.{rows_in}
 
 module _ (s : List ℕ) (at : ℕ) where
   pub number_at : le_at 4 s at ≡ number_of (take 28 (drop at s))
-  number_at = sym (number_take 4 0 28 (drop at s) (omega arith) ∙ le_at-drop 4 s at 0 ∙ ap (le_at 4 s) (add_zero at))
+  number_at = sym (number_take 4 0 28 (drop at s) (omega arith) ∙ le_at-drop 4 s at 0 ∙ ap (le_at 4 s) (add-zero at))
 
   pub size_at : le_at 8 s (at + 4) ≡ size_of (take 28 (drop at s))
   size_at = sym (number_take 8 4 28 (drop at s) (omega arith) ∙ le_at-drop 8 s at 4)

@@ -24,7 +24,7 @@ use Rattle.inventory.proofs.ModelSets.{remove_inside}
 use Rattle.inventory.proofs.Sizes.{counts_one, counts-none, size_remove}
 
 module _ {F : Type 0} (K : Field F) where
-  open K use {𝟘, 𝟙, add as ◌⊕◌, mul as ◌⊗◌, inv, add_comm, add_assoc, zero_add, add_self, mul_comm, mul_assoc, one_mul, mul_add_lem, inv_mul}
+  open K use {𝟘, 𝟙, add as ◌⊕◌, mul as ◌⊗◌, inv, add_comm, add_assoc, zero-add, add_self, mul_comm, mul_assoc, one-mul, mul_add_lem, inv_mul}
 
   infixl 60 ◌⊕◌
   infixl 70 ◌⊗◌
@@ -49,7 +49,7 @@ module _ {F : Type 0} (K : Field F) where
   add_left_comm a b c = sym (add_assoc a b c) ∙ ap (λ (x : F). x ⊕ c) (add_comm a b) ∙ add_assoc b a c
 
   cross : (a b p q : F) → (a ⊕ b) ⊗ (p ⊕ q) ≡ (a ⊕ q) ⊗ (b ⊕ p) ⊕ (a ⊕ p) ⊗ (b ⊕ q)
-  cross a b p q = simp (mul_add_lem, S.add_mul K, add_assoc, add_comm, add_left_comm, add_self, S.add_twice K, zero_add, mul_comm)
+  cross a b p q = simp (mul_add_lem, S.add_mul K, add_assoc, add_comm, add_left_comm, add_self, S.add_twice K, zero-add, mul_comm)
 
   ne_zero : (a b : F) → a ≢ b → a ⊕ b ≢ 𝟘
   ne_zero a b h e = h (S.eq_of_sum K a b e)
@@ -60,7 +60,7 @@ module _ {F : Type 0} (K : Field F) where
   -- u and z are the entries of rows p and q, G and H their inverses
   term : (x C E A B G H u z : F) → C ⊗ E ≡ A ⊗ G ⊕ B ⊗ H → u ⊗ G ≡ 𝟙 → z ⊗ H ≡ 𝟙
       → E ⊗ (x ⊗ (C ⊗ u) ⊗ z) ≡ A ⊗ (x ⊗ z) ⊕ B ⊗ (x ⊗ u)
-  term x C E A B G H u z e hu hz = simp (grouped, e, mul_add_lem, first, hu, one_mul, second, hz)
+  term x C E A B G H u z e hu hz = simp (grouped, e, mul_add_lem, first, hu, one-mul, second, hz)
     where
       grouped : E ⊗ (x ⊗ (C ⊗ u) ⊗ z) ≡ x ⊗ (u ⊗ z) ⊗ (C ⊗ E)
       grouped = simp (mul_assoc, mul_comm, S.mul_left_comm K)
@@ -73,7 +73,7 @@ module _ {F : Type 0} (K : Field F) where
 
   -- where x is 0, nothing is left of it
   no_term : (x C E A B u z : F) → x ≡ 𝟘 → E ⊗ (x ⊗ (C ⊗ u) ⊗ z) ≡ A ⊗ (x ⊗ z) ⊕ B ⊗ (x ⊗ u)
-  no_term x C E A B u z e = rw e (simp (S.zero_mul K, S.mul_zero K, zero_add))
+  no_term x C E A B u z e = rw e (simp (S.zero-mul K, S.mul-zero K, zero-add))
 
   module _ (X Y : ℕ → F) where
     -- the entry of row s in column i
@@ -96,11 +96,11 @@ module _ {F : Type 0} (K : Field F) where
         without_off i e = elim (ℕ_discrete i a) [
           | yes q ↦
               ap (λ (y : F). x i ⊗ (y ⊗ entry p i)) (S.sum_of_eq K (X a) (X i) (ap X (sym q)))
-              ∙ simp (S.zero_mul K, S.mul_zero K)
+              ∙ simp (S.zero-mul K, S.mul-zero K)
           | no q ↦
               ap (λ (y : F). y ⊗ ((X a ⊕ X i) ⊗ entry p i))
               (off i (sym (ap (λ (c : Bool). not c && b i) (ne_eqb i a q)) ∙ e))
-              ∙ S.zero_mul K ((X a ⊕ X i) ⊗ entry p i)
+              ∙ S.zero-mul K ((X a ⊕ X i) ⊗ entry p i)
         ]
 
         each : (q : ℕ) → r q ≡ true → (i : ℕ)
@@ -123,10 +123,10 @@ module _ {F : Type 0} (K : Field F) where
             ∙ S.sum_cong K n (λ i. (Y p ⊕ Y q) ⊗ (without i ⊗ entry q i))
             (λ i. (X a ⊕ Y q) ⊗ (x i ⊗ entry q i) ⊕ (X a ⊕ Y p) ⊗ (x i ⊗ entry p i)) (λ i l. each q in-q i)
             ∙ S.sum_add K n (λ i. (X a ⊕ Y q) ⊗ (x i ⊗ entry q i)) (λ i. (X a ⊕ Y p) ⊗ (x i ⊗ entry p i))
-            ∙ ap₂ ◌⊕◌ (part (X a ⊕ Y q) q zero-q) (part (X a ⊕ Y p) p zero-p) ∙ zero_add 𝟘)
+            ∙ ap₂ ◌⊕◌ (part (X a ⊕ Y q) q zero-q) (part (X a ⊕ Y p) p zero-p) ∙ zero-add 𝟘)
           where
             part : (c : F) (s : ℕ) → RowZero x s → sum K n (λ i. c ⊗ (x i ⊗ entry s i)) ≡ 𝟘
-            part c s z = S.sum_mul K n c (λ i. x i ⊗ entry s i) ∙ ap (λ (y : F). c ⊗ y) z ∙ S.mul_zero K c
+            part c s z = S.sum_mul K n c (λ i. x i ⊗ entry s i) ∙ ap (λ (y : F). c ⊗ y) z ∙ S.mul-zero K c
 
         -- the vector is 0 where what is left of it is
         others : ((i : ℕ) → i < n → without i ≡ 𝟘) → (i : ℕ) → i < n → i ≢ a → x i ≡ 𝟘
@@ -146,7 +146,7 @@ module _ {F : Type 0} (K : Field F) where
             S.zero_of_mul K (entry p a) (x a) (S.inv_ne_zero K (X a ⊕ Y p) (ne_zero (X a) (Y p) (h.both a p in-a in_p)))
             (mul_comm (entry p a) (x a)
             ∙ sym (S.sum_one K n a (λ i. x i ⊗ entry p i) l
-            (λ i m q. ap (λ (y : F). y ⊗ entry p i) (others z i m q) ∙ S.zero_mul K (entry p i)))
+            (λ i m q. ap (λ (y : F). y ⊗ entry p i) (others z i m q) ∙ S.zero-mul K (entry p i)))
             ∙ zero-p)
 
         all : ((i : ℕ) → i < n → without i ≡ 𝟘) → (i : ℕ) → i < n → x i ≡ 𝟘

@@ -133,7 +133,7 @@ module _ (t : State) (fits : t.n ≤ 254) where
 
         each : (s i : ℕ) → is_row s ≡ true → (b : Bool) → in_column i ≡ b → mask b (x i) ⊗ entry s i ≡ matrix s i ⊗ x i
         each s i p true q = ap (λ (y : Byte). x i ⊗ y) (entry_matrix s i p q) ∙ K.mul_comm (x i) (matrix s i)
-        each s i p false q = simp (S.zero_mul K (entry s i), S.zero_mul K (x i), R.matrix_off cauchy cauchy_byte t fits s i q)
+        each s i p false q = simp (S.zero-mul K (entry s i), S.zero-mul K (x i), R.matrix_off cauchy cauchy_byte t fits s i q)
 
         row : (s : ℕ) → is_row s ≡ true → sum K 256 (λ i. mask (in_column i) (x i) ⊗ entry s i) ≡ 𝟘
         row s e =
@@ -158,7 +158,7 @@ module _ (t : State) (fits : t.n ≤ 254) where
         K.one_ne_zero
         (sym (S.δ-same K f f refl) ∙ sym (at_column f in_f)
         ∙ S.sum-none K 256 (λ s. masked s ⊗ turned f s)
-        (λ s l. ap (λ (y : Byte). y ⊗ turned f s) (none s l) ∙ S.zero_mul K (turned f s)))
+        (λ s l. ap (λ (y : Byte). y ⊗ turned f s) (none s l) ∙ S.zero-mul K (turned f s)))
       where
         masked : ℕ → Byte
         masked s = mask (is_row s) (w s)
@@ -170,7 +170,7 @@ module _ (t : State) (fits : t.n ≤ 254) where
             → mask b (w s) ⊗ turned g s ≡ w s ⊗ matrix s g
         each g q s l true e = ap (λ (y : Byte). w s ⊗ y) (ap inv (K.add_comm (row_byte s) (column_byte g)) ∙ entry_matrix s g e q)
         each g q s l false e =
-            S.zero_mul K (turned g s) ∙ sym (S.mul_zero K (w s))
+            S.zero-mul K (turned g s) ∙ sym (S.mul-zero K (w s))
             ∙ ap (λ (y : Byte). w s ⊗ y)
             (sym (R.matrix_absent cauchy cauchy_byte t fits s g
             (sym (ap (λ (b : Bool). b && t.volumes (suc s)) (one_to_in (255 - t.n) (suc s) (omega arith) l)) ∙ e)))
@@ -181,7 +181,7 @@ module _ (t : State) (fits : t.n ≤ 254) where
             (λ s m _.
             ap (λ (y : Byte). y ⊗ turned g s)
             (off s (ap (λ (b : Bool). b && t.volumes (suc s)) (one_to_outside (255 - t.n) (suc s) (λ a b. omega arith))))
-            ∙ S.zero_mul K (turned g s))
+            ∙ S.zero-mul K (turned g s))
             ∙ S.sum_cong K (255 - t.n) (λ s. masked s ⊗ turned g s) (λ s. w s ⊗ matrix s g)
             (λ s m. each g q s m (is_row s) refl)
             ∙ W.sums g (omega arith)

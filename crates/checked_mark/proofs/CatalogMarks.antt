@@ -12,7 +12,7 @@ use Prim.Native.Nat.{ℕ, suc, ◌+◌, ◌-◌, min}
 use native.Mathlib.Omega.{arith}
 use lib.Dec.{leb}
 use lib.ListN.{length, take, drop, length-append, length-take, length-drop}
-use lib.Seq.{take_at, drop_at, take-append_seam, drop_append_seam, drop-drop}
+use lib.Seq.{take_at, drop_at, take-append_seam, drop-append_seam, drop-drop}
 use Rattle.catalog.specs.Catalog.{entry_rows, volume_rows, insert_row}
 use Rattle.catalog.specs.Calls.{open_refusal, open_of, add_number, add_refusal, added_bytes, add_of}
 use Rattle.catalog.specs.Plan.{place_of}
@@ -108,13 +108,13 @@ but_hash : (x h k y : List ℕ) → length h ≡ 16 → length k ≡ 16 → ButH
 but_hash x h k y e f = record {
   at = length x;
   before_same = take-append_seam x (h ++ y) ∙ sym (take-append_seam x (k ++ y));
-  one_has = ap (take 16) (drop_append_seam x (h ++ y)) ∙ take_at h y 16 e;
-  other_has = ap (take 16) (drop_append_seam x (k ++ y)) ∙ take_at k y 16 f;
+  one_has = ap (take 16) (drop-append_seam x (h ++ y)) ∙ take_at h y 16 e;
+  other_has = ap (take 16) (drop-append_seam x (k ++ y)) ∙ take_at k y 16 f;
   after_same =
       sym (drop-drop 16 (length x) (x ++ (h ++ y)))
-      ∙ ap (drop 16) (drop_append_seam x (h ++ y))
+      ∙ ap (drop 16) (drop-append_seam x (h ++ y))
       ∙ drop_at h y 16 e
-      ∙ sym (sym (drop-drop 16 (length x) (x ++ (k ++ y))) ∙ ap (drop 16) (drop_append_seam x (k ++ y)) ∙ drop_at k y 16 f);
+      ∙ sym (sym (drop-drop 16 (length x) (x ++ (k ++ y))) ∙ ap (drop 16) (drop-append_seam x (k ++ y)) ∙ drop_at k y 16 f);
 }
 
 -- the same bytes after both

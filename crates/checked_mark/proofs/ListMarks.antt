@@ -11,7 +11,7 @@ use mathlib.Core.List.{List, ◌++◌}
 use Prim.Native.Nat.{ℕ, ◌+◌, ◌≤◌, ◌<◌}
 use native.Mathlib.Omega.{arith}
 use lib.ListN.{length, length-append}
-use lib.Seq.{take-append_seam, drop_append_seam}
+use lib.Seq.{take-append_seam, drop-append_seam}
 use Rattle.cut_lists.specs.Pieces.{none, before}
 use Rattle.cut_lists.proofs.CutLaws.{cut_stop, cut_more}
 use Rattle.entries.specs.Entry.{entry_size, file_size_of, file_size_allowed, entry_size_allowed, body_allowed, entry_allowed, length_of}
@@ -60,7 +60,7 @@ module _ {e : List ℕ} (z : SizeRight e) (s : List ℕ) where
 
   front_taken : body_allowed e ≡ true → entries_of (e ++ s) ≡ before e (entries_of s)
   front_taken right = let n : length_of (e ++ s) ≡ length e = front_length ∙ simp right in
-      simp (cut_more length_of (e ++ s) front_some (omega (arith, low)), n, take-append_seam, drop_append_seam)
+      simp (cut_more length_of (e ++ s) front_some (omega (arith, low)), n, take-append_seam, drop-append_seam)
 
   front_left : body_allowed e ≡ false → entries_of (e ++ s) ≡ none (e ++ s)
   front_left wrong = cut_stop length_of (e ++ s) (front_length ∙ simp wrong)

@@ -10,13 +10,13 @@ use mathlib.Core.Path.{◌≡◌, refl, sym, ap, ap₂, ◌∙◌, subst}
 use mathlib.Core.Bool.{Bool, cond, ◌&&◌, and-false}
 use mathlib.Core.List.{List}
 use Prim.Native.Nat.{ℕ, ◌<◌, ◌≤◌, ◌+◌, ◌/◌, ◌%◌}
-use native.Mathlib.Nat.{zero_add}
+use native.Mathlib.Nat.{zero-add}
 use native.Mathlib.Omega.{arith}
 use native.Mathlib.Decide.{ℕ_discrete, dec_lt}
 use lib.Bits.{bit_xor, xor_zero_r}
 use lib.Dec.{eqb, ltb}
 use lib.ListN.{length, get_or, set}
-use lib.Seq.{get_or_set_same, get_or_set_other}
+use lib.Seq.{get_or-set_same, get_or-set_other}
 use borrow.Author.Tests.{eq-eqb, ne_eqb, lt-ltb, le-ltb}
 use Rattle.computed_tests.proofs.Lists.{list_below-same}
 use Rattle.gf256.specs.Answer.{inverse_answer}
@@ -101,7 +101,7 @@ module _ (w : ℕ) (u m owners y : List ℕ) (k : ℕ) (hw : w ≤ 256) (long : 
   -- y is the row's product with the matrix
   same_pivot : k ≡ pivot_within w (row_product_within w u m) owners
   same_pivot =
-      hk ∙ pivot_same w (λ j. get_or y (0 + j) 0) (row_product_within w u m) owners (λ j l. ap (λ (i : ℕ). get_or y i 0) (zero_add j) ∙ at j l)
+      hk ∙ pivot_same w (λ j. get_or y (0 + j) 0) (row_product_within w u m) owners (λ j l. ap (λ (i : ℕ). get_or y i 0) (zero-add j) ∙ at j l)
 
   pub row_dependent : (number : ℕ) → w ≤ k → (m, owners) ≡ row_added_within w u number m owners
   row_dependent number h = sym (left_within w u number m owners (subst (λ (i : ℕ). w ≤ i) same_pivot h))
@@ -127,9 +127,9 @@ module _ (w : ℕ) (u m owners y : List ℕ) (k : ℕ) (hw : w ≤ 256) (long : 
       changed j l = elim (ℕ_discrete j k) [
         | yes p ↦
             ap (λ (i : ℕ). get_or (set y k (bit_xor (get_or y k 0) 1)) i 0) p
-            ∙ get_or_set_same y k (bit_xor (get_or y k 0) 1) 0 (omega (arith, long))
+            ∙ get_or-set_same y k (bit_xor (get_or y k 0) 1) 0 (omega (arith, long))
             ∙ ap₂ bit_xor (ap (λ (i : ℕ). get_or y i 0) (sym p) ∙ at j l) (ap (λ (b : Bool). cond b 1 0) (sym (eq-eqb k j (sym p))))
         | no q ↦
-            get_or_set_other y k j (bit_xor (get_or y k 0) 1) 0 q ∙ at j l ∙ sym (xor_zero_r (row_product_within w u m j))
+            get_or-set_other y k j (bit_xor (get_or y k 0) 1) 0 q ∙ at j l ∙ sym (xor_zero_r (row_product_within w u m j))
             ∙ ap (λ (b : Bool). bit_xor (row_product_within w u m j) (cond b 1 0)) (sym (ne_eqb k j (λ z. q (sym z))))
       ]

@@ -25,7 +25,7 @@ module _ {F : Type 0} (K : Field F) where
   row_times n u D j = sum K n (λ i. K.mul (u i) (D i j))
 
 module _ {F : Type 0} (K : Field F) where
-  open K use {𝟘, 𝟙, add as ◌⊕◌, mul as ◌⊗◌, inv, add_self, zero_add, mul_assoc, mul_add_lem, inv_mul, one_mul}
+  open K use {𝟘, 𝟙, add as ◌⊕◌, mul as ◌⊗◌, inv, add_self, zero-add, mul_assoc, mul_add_lem, inv_mul, one-mul}
 
   infixl 60 ◌⊕◌
   infixl 70 ◌⊗◌
@@ -105,17 +105,17 @@ module _ {F : Type 0} (K : Field F) where
       (λ k l. one (y k) (owner k) (λ s e. early k s l e))
     where
       miss : (a x b : F) → a ≡ 𝟘 → a ⊗ x ⊗ b ≡ 𝟘
-      miss a x b e = ap (λ (z : F). z ⊗ x ⊗ b) e ∙ ap (λ (z : F). z ⊗ b) (S.zero_mul K x) ∙ S.zero_mul K b
+      miss a x b e = ap (λ (z : F). z ⊗ x ⊗ b) e ∙ ap (λ (z : F). z ⊗ b) (S.zero-mul K x) ∙ S.zero-mul K b
 
       one : (x : F) (o : ℕ) → ((s : ℕ) → o ≡ suc s → s < t) → sum K t (λ s. δ K o (suc s) ⊗ x ⊗ g s) ≡ x ⊗ of_owner g o
       one x zero h =
           S.sum-none K t (λ s. δ K zero (suc s) ⊗ x ⊗ g s)
           (λ s l. miss (δ K zero (suc s)) x (g s) (S.δ-other K zero (suc s) (λ e. omega arith)))
-          ∙ sym (S.mul_zero K x)
+          ∙ sym (S.mul-zero K x)
       one x (suc r) h =
           S.sum_one K t r (λ s. δ K (suc r) (suc s) ⊗ x ⊗ g s) (h r refl)
           (λ s l q. miss (δ K (suc r) (suc s)) x (g s) (S.δ-other K (suc r) (suc s) (λ e. q (sym (suc_inj e)))))
-          ∙ ap (λ (z : F). z ⊗ x ⊗ g r) (S.δ-same K (suc r) (suc r) refl) ∙ ap (λ (z : F). z ⊗ g r) (one_mul x)
+          ∙ ap (λ (z : F). z ⊗ x ⊗ g r) (S.δ-same K (suc r) (suc r) refl) ∙ ap (λ (z : F). z ⊗ g r) (one-mul x)
 
   module _ (A : ℕ → ℕ → F) (n : ℕ) (D : ℕ → ℕ → F) (owner : ℕ → ℕ) (t : ℕ) (R : Reduced A n D owner t) where
     abbrev times_d : (ℕ → F) → ℕ → F
@@ -133,11 +133,11 @@ module _ {F : Type 0} (K : Field F) where
         worth o = of_owner (λ s. times_d (A s) j) o
 
         off : (k o : ℕ) → k < n → k ≢ j → owner k ≡ o → y k ⊗ worth o ≡ 𝟘
-        off k zero m q e = S.mul_zero K (y k)
-        off k (suc s) m q e = ap (λ (z : F). y k ⊗ z) (R.owned k s m e j l ∙ S.δ-other K k j q) ∙ S.mul_zero K (y k)
+        off k zero m q e = S.mul-zero K (y k)
+        off k (suc s) m q e = ap (λ (z : F). y k ⊗ z) (R.owned k s m e j l ∙ S.δ-other K k j q) ∙ S.mul-zero K (y k)
 
         here : (o : ℕ) → owner j ≡ o → y j ⊗ worth o ≡ y j
-        here zero e = S.mul_zero K (y j) ∙ sym (h j l e)
+        here zero e = S.mul-zero K (y j) ∙ sym (h j l e)
         here (suc s) e = ap (λ (z : F). y j ⊗ z) (R.owned j s l e j l ∙ S.δ-same K j j refl) ∙ S.mul_one K (y j)
 
     pub solve : (u : ℕ → F) → ((j : ℕ) → j < n → owner j ≡ zero → times_d u j ≡ 𝟘)
@@ -205,11 +205,11 @@ module _ {F : Type 0} (K : Field F) where
       -- the new row is 1 in its column and 0 in the others
       new_row : (j : ℕ) → j < n → times_d' (A t) j ≡ δ K k j
       unfolding q p
-      new_row j l = simp (times_swept, inv_mul, one_mul, S.add_twice)
+      new_row j l = simp (times_swept, inv_mul, one-mul, S.add_twice)
 
       -- a row that is 0 in column k stays as it was
       old_row : (u : ℕ → F) → times_d u k ≡ 𝟘 → (j : ℕ) → j < n → times_d' u j ≡ times_d u j
-      old_row u e j l = simp (times_swept, e, S.mul_zero, S.zero_mul, S.add_zero)
+      old_row u e j l = simp (times_swept, e, S.mul-zero, S.zero-mul, S.add-zero)
 
       -- a row that is 0 everywhere now was 0 in column k
       zero_before : (u : ℕ → F) → ((j : ℕ) → j < n → times_d' u j ≡ 𝟘) → times_d u k ≡ 𝟘
@@ -234,7 +234,7 @@ module _ {F : Type 0} (K : Field F) where
       fresh (c, e) =
           yk (row_times_cong n (A t) (λ f. sum K t (λ r. c r ⊗ A r f)) D k e ∙ row_times_sum n t c A D k
           ∙ S.sum-none K t (λ r. c r ⊗ times_d (A r) k)
-          (λ r l. ap (λ (x : F). c r ⊗ x) (R.free r k l lk ok) ∙ S.mul_zero K (c r)))
+          (λ r l. ap (λ (x : F). c r ⊗ x) (R.free r k l lk ok) ∙ S.mul-zero K (c r)))
 
       -- who owns column k now, and the others
       is_new : (i s : ℕ) → owner' i ≡ suc s → i ≡ k → s ≡ t

@@ -25,7 +25,7 @@ use native.Mathlib.Decide.{ℕ_discrete, dec_lt}
 use lib.Bits.{bit_xor}
 use lib.Dec.{eqb}
 use lib.ListN.{length, get_or, set, replicate, length-set, length-replicate}
-use lib.Seq.{get_or_set_same, get_or_set_other}
+use lib.Seq.{get_or-set_same, get_or-set_other}
 use borrow.Author.Tests.{eq-eqb, ne_eqb}
 use Rattle.computed_tests.proofs.Lists.{list_below_at}
 use Rattle.gf256.specs.Field.{product, inverse}
@@ -67,7 +67,7 @@ with_diagonal_off : (n : ℕ) (m : List ℕ) (i j : ℕ) → n ≤ 256 → j < 2
 unfolding with_diagonal
 with_diagonal_off zero m i j hn hj h = refl
 with_diagonal_off (suc n) m i j hn hj h =
-    get_or_set_other (with_diagonal n m) (n * 256 + n) (i * 256 + j) 1 0 other
+    get_or-set_other (with_diagonal n m) (n * 256 + n) (i * 256 + j) 1 0 other
     ∙ with_diagonal_off n m i j (omega arith) hj (λ e. let b : suc n ≤ i = h e in omega arith)
   where
     other : i * 256 + j ≢ n * 256 + n
@@ -82,9 +82,9 @@ with_diagonal_on zero m i hn hm l = absurd (not-suc-le-zero l)
 with_diagonal_on (suc n) m i hn hm l = elim (ℕ_discrete i n) [
   | yes e ↦
       ap (λ (k : ℕ). entry (set (with_diagonal n m) (n * 256 + n) 1) k k) e
-      ∙ get_or_set_same (with_diagonal n m) (n * 256 + n) 1 0 (omega (arith, with_diagonal-length n m))
+      ∙ get_or-set_same (with_diagonal n m) (n * 256 + n) 1 0 (omega (arith, with_diagonal-length n m))
   | no q ↦
-      get_or_set_other (with_diagonal n m) (n * 256 + n) (i * 256 + i) 1 0 (λ e. q (omega arith))
+      get_or-set_other (with_diagonal n m) (n * 256 + n) (i * 256 + i) 1 0 (λ e. q (omega arith))
       ∙ with_diagonal_on n m i (omega arith) hm (omega arith)
 ]
 
@@ -136,7 +136,7 @@ module _ (A : ℕ → ℕ → Byte) (m owners : List ℕ) (t : ℕ) (R : Reduced
     owners_length = R.owners_length;
     reduced = reduced_dependent byte_field A 256 (entries m) (owner_of owners) t R.reduced
         (λ j l o. S.sum-none byte_field 256 (λ i. byte_field.mul (A t i) (entries m i j))
-        (λ i b. ap (λ (x : Byte). byte_field.mul x (entries m i j)) (h i b) ∙ S.zero_mul byte_field (entries m i j)));
+        (λ i b. ap (λ (x : Byte). byte_field.mul x (entries m i j)) (h i b) ∙ S.zero-mul byte_field (entries m i j)));
   }
 
   module _ (u : List ℕ) (row : (i : ℕ) → i < 256 → (A t i).0 ≡ get_or u i 0) where
@@ -175,8 +175,8 @@ module _ (A : ℕ → ℕ → Byte) (m owners : List ℕ) (t : ℕ) (R : Reduced
             (λ z. (P.found lk).1 (sym (product_value k lk) ∙ ap (λ (b : Byte). b.0) z))
             (entries taken.0) (owner_of taken.1)
             (λ i j li lj. ap to_byte (swept_value i j li lj) ∙ to_byte_of_value (swept_byte i j))
-            (get_or_set_same owners k (suc t) 0 (let b = R.owners_length in omega arith))
-            (λ j l q. get_or_set_other owners k j (suc t) 0 q);
+            (get_or-set_same owners k (suc t) 0 (let b = R.owners_length in omega arith))
+            (λ j l q. get_or-set_other owners k j (suc t) 0 q);
       }
 
     dependent_reduced : IsPivot 256 (row_product u m) owners 256 → ReducedBytes A m owners (suc t)
@@ -222,8 +222,8 @@ module _ (A : ℕ → ℕ → Byte) (m owners : List ℕ) (t : ℕ) (R : Reduced
     where
       picked : (b : Bool) (k : ℕ) → k < 256
           → (byte_field.mul (cond b byte_field.𝟙 byte_field.𝟘) (entries m f k)).0 ≡ cond b (entry m f k) 0
-      picked true k h = ap (λ (x : Byte). x.0) (byte_field.one_mul (entries m f k)) ∙ value f k l h
-      picked false k h = ap (λ (x : Byte). x.0) (S.zero_mul byte_field (entries m f k))
+      picked true k h = ap (λ (x : Byte). x.0) (byte_field.one-mul (entries m f k)) ∙ value f k l h
+      picked false k h = ap (λ (x : Byte). x.0) (S.zero-mul byte_field (entries m f k))
 
   pub weight_late : (f s : ℕ) → t ≤ s → weight_of m owners f (suc s) ≡ 0
   unfolding weight_of

@@ -44,7 +44,7 @@ search P dec (suc n) = step (search P dec n) (dec n)
     ])
 
 module _ {F : Type 0} (K : Field F) where
-  open K use {𝟘, 𝟙, add as ◌⊕◌, mul as ◌⊗◌, inv, one_mul, one_ne_zero}
+  open K use {𝟘, 𝟙, add as ◌⊕◌, mul as ◌⊗◌, inv, one-mul, one_ne_zero}
 
   infixl 60 ◌⊕◌
   infixl 70 ◌⊗◌
@@ -63,7 +63,7 @@ module _ {F : Type 0} (K : Field F) where
     unfolding row_weight
     weight_none y s h =
         S.sum-none K n (λ k. δ K (owner k) (suc s) ⊗ y k)
-        (λ k l. ap (λ (x : F). x ⊗ y k) (S.δ-other K (owner k) (suc s) (h k l)) ∙ S.zero_mul K (y k))
+        (λ k l. ap (λ (x : F). x ⊗ y k) (S.δ-other K (owner k) (suc s) (h k l)) ∙ S.zero-mul K (y k))
 
     weight_dependent : (y : ℕ → F) (s : ℕ) → Dependent K A n s → row_weight K n owner y s ≡ 𝟘
     weight_dependent y s d = go (owns s)
@@ -109,8 +109,8 @@ module _ {F : Type 0} (K : Field F) where
         ∙ ap (λ (x : F). w s ⊗ x) (R.owned k s m p k m ∙ S.δ-same K k k refl) ∙ S.mul_one K (w s))
       where
         off : (r : ℕ) → r < t → r ≢ s → Owns r → w r ⊗ times_d (A r) k ≡ 𝟘
-        off r h q (inl (i, a, b)) = simp (R.owned i r a b k m, S.δ-other K i k (λ c. q (suc_inj (sym b ∙ ap owner c ∙ p))), S.mul_zero)
-        off r h q (inr none) = ap (λ (x : F). x ⊗ times_d (A r) k) (z r h (R.dependent r h none)) ∙ S.zero_mul K (times_d (A r) k)
+        off r h q (inl (i, a, b)) = simp (R.owned i r a b k m, S.δ-other K i k (λ c. q (suc_inj (sym b ∙ ap owner c ∙ p))), S.mul-zero)
+        off r h q (inr none) = ap (λ (x : F). x ⊗ times_d (A r) k) (z r h (R.dependent r h none)) ∙ S.zero-mul K (times_d (A r) k)
 
     -- two choices of weights with the same sums, with no weight for rows that are sums of earlier ones, are the same
     pub weights_unique : (u w w' : ℕ → F) → ((s : ℕ) → s < t → Dependent K A n s → w s ≡ 𝟘)
@@ -143,7 +143,7 @@ module _ {F : Type 0} (K : Field F) where
       (λ g m. ap (λ (y : F). y ⊗ x g) (sym (W.sums g m)))
       ∙ by_columns A n t w x
       ∙ S.sum-none K t (λ s. w s ⊗ sum K n (λ g. A s g ⊗ x g))
-      (λ s m. ap (λ (y : F). w s ⊗ y) (h s m) ∙ S.mul_zero K (w s))
+      (λ s m. ap (λ (y : F). w s ⊗ y) (h s m) ∙ S.mul-zero K (w s))
 
   pub solution_no_kernel : (A : ℕ → ℕ → F) (n t f : ℕ) (w x : ℕ → F) → f < n
       → IsSolution K A n t f w → IsKernelVector K A n t f x → ⊥

@@ -19,7 +19,7 @@ use native.Mathlib.Decide.{ℕ_discrete, dec_lt}
 use lib.Bits.{bit_xor, xor_zero_r}
 use lib.Dec.{eqb, ltb}
 use lib.ListN.{length, get_or, set, take, drop, length-drop, get_or-append}
-use lib.Seq.{get_or_set_same, get_or_set_other, get_or-take, get_or-drop, get_or-append-add, length-take-le}
+use lib.Seq.{get_or-set_same, get_or-set_other, get_or-take, get_or-drop, get_or-append-add, length-take-le}
 use borrow.Author.Tests.{eq-eqb, ne_eqb, lt-ltb, le-ltb}
 use borrow.Rule.Slice.PartMut.{put_mid, same_len_mid, take_put, drop_put}
 use Rattle.computed_tests.proofs.Lists.{list_below_is}
@@ -172,10 +172,10 @@ unfolding sum_below
 weight_more m owners weights f k e h o q v l = elim (ℕ_discrete v o) [
   | yes p ↦
       ap (λ (i : ℕ). get_or (set weights i (bit_xor (get_or weights i 0) (entry m f k))) v 0) (sym p)
-      ∙ get_or_set_same weights v (bit_xor (get_or weights v 0) (entry m f k)) 0 (omega arith)
+      ∙ get_or-set_same weights v (bit_xor (get_or weights v 0) (entry m f k)) 0 (omega arith)
       ∙ step (entry m f k) (ap (λ (b : Bool). cond b (entry m f k) 0) (eq-eqb (get_or owners k 0) v (sym q ∙ sym p)))
   | no p ↦
-      get_or_set_other weights o v (bit_xor (get_or weights o 0) (entry m f k)) 0 p ∙ sym (xor_zero_r (get_or weights v 0))
+      get_or-set_other weights o v (bit_xor (get_or weights o 0) (entry m f k)) 0 p ∙ sym (xor_zero_r (get_or weights v 0))
       ∙ step 0 (ap (λ (b : Bool). cond b (entry m f k) 0) (ne_eqb (get_or owners k 0) v (λ z. p (sym z ∙ sym q))))
 ]
   where

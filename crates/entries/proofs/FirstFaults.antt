@@ -17,7 +17,7 @@ use mathlib.Core.List.{List, [], ◌∷◌, ◌++◌, append_assoc, flatten}
 use Prim.Native.Nat.{ℕ, ◌+◌, ◌%◌, ◌≤◌, ◌<◌}
 use native.Mathlib.Omega.{arith}
 use lib.ListN.{length, take, drop, length-append, take-append-drop}
-use lib.Seq.{length-take-le, take-append_seam, drop_append_seam}
+use lib.Seq.{length-take-le, take-append_seam, drop-append_seam}
 use borrow.Author.Tests.{eq-eqb, le-leb}
 use Rattle.computed_tests.proofs.Tests.{and_both}
 use Rattle.cut_lists.specs.All.{All, all_none, all_more}
@@ -124,7 +124,7 @@ entries_kept (all_more {x = e} {xs = es} k ks) t z = let s : List ℕ = flatten 
     ap (λ (l : List ℕ). entries_of l) (append_assoc e (flatten es) t)
     ∙ cut_more length_of (e ++ s) some (omega (arith, n.0, n.1))
     ∙ ap (λ (k : ℕ). before (take k (e ++ s)) (entries_of (drop k (e ++ s)))) n.0
-    ∙ ap₂ (λ (p q : List ℕ). before p (entries_of q)) (take-append_seam e s) (drop_append_seam e s)
+    ∙ ap₂ (λ (p q : List ℕ). before p (entries_of q)) (take-append_seam e s) (drop-append_seam e s)
     ∙ ap (before e) (entries_kept ks t z)
 
 -- ---- the claims

@@ -7,10 +7,10 @@
 --   name_units_lem               the rule on a name of whole units, one or more
 -- Assumes nothing.
 use mathlib.Core.Path.{◌≡◌, refl, ◌∙◌}
-use mathlib.Core.Bool.{false, not, ◌&&◌, and-true, and-false, or_false}
+use mathlib.Core.Bool.{false, not, ◌&&◌, and-true, and-false, or-false}
 use mathlib.Core.List.{List, [], ◌∷◌}
 use Prim.Native.Nat.{ℕ, ◌+◌, ◌/◌, ◌%◌, ◌≤◌, ◌<◌}
-use native.Mathlib.Nat.{add_zero}
+use native.Mathlib.Nat.{add-zero}
 use native.Mathlib.Omega.{arith}
 use lib.Dec.{eqb}
 use lib.ListN.{length, drop, length-drop}
@@ -38,7 +38,7 @@ module _ (s : List ℕ) (at : ℕ) where
   units_none h = units_short (drop at s) (omega (arith, length-drop at s))
 
   pub units_more : at + 2 ≤ length s → units_of (drop at s) ≡ le_at 2 s at ∷ units_of (drop (at + 2) s)
-  units_more h = units_long (drop at s) (omega (arith, length-drop at s)) ∙ rw (le_at-drop, add_zero, drop-drop)
+  units_more h = units_long (drop at s) (omega (arith, length-drop at s)) ∙ rw (le_at-drop, add-zero, drop-drop)
 
 pub unit_last : (u : ℕ) → (u ≡ 0 → ⊥) → (u ≡ 47 → ⊥) → (u ≡ 58 → ⊥) → unit_allowed u ≡ not (eqb u 92)
 unfolding unit_allowed
@@ -55,7 +55,7 @@ length_units (a ∷ b ∷ s) = omega (arith, length_units s)
 pub dots_short : (us : List ℕ) → 0 < length us → length us ≤ 2 → is_dots us ≡ only_dots us
 unfolding is_dots equal
 dots_short [] some few = absurd (omega arith)
-dots_short (u ∷ []) some few = simp (and-true, and-false, or_false)
+dots_short (u ∷ []) some few = simp (and-true, and-false, or-false)
 dots_short (u ∷ v ∷ []) some few = simp (and-true, and-false)
 dots_short (u ∷ v ∷ w ∷ us) some few = absurd (omega arith)
 

@@ -10,7 +10,7 @@
 use mathlib.Core.Path.{◌≡◌, sym, ap₂, ◌∙◌, subst}
 use mathlib.Core.Bool.{true}
 use Prim.Native.Nat.{ℕ, zero, suc, ◌*◌, ◌/◌, ◌%◌, ◌^◌, ◌<◌}
-use native.Mathlib.Nat.{mod-lt, zero_mul, one_mul}
+use native.Mathlib.Nat.{mod-lt, zero-mul, one-mul}
 use native.Mathlib.Omega.{arith}
 use lib.Arith.{lt-one}
 use lib.Bits.{bit_xor, xor_shifted, xor_self}
@@ -21,7 +21,7 @@ use Rattle.computed_tests.proofs.Tests.{bit_cases, Function, EqualBelow, test_be
 
 module _ (P : ℕ → Type 0) (none : P 0) (both : (a b : ℕ) → P a → P b → P (bit_xor a b)) where
   top : (n d : ℕ) → d < 2 → P (2 ^ n) → P (d * 2 ^ n)
-  top n d h p = bit_cases (λ (x : ℕ). P (x * 2 ^ n)) (subst P (sym (zero_mul (2 ^ n))) none) (subst P (sym (one_mul (2 ^ n))) p) d h
+  top n d h p = bit_cases (λ (x : ℕ). P (x * 2 ^ n)) (subst P (sym (zero-mul (2 ^ n))) none) (subst P (sym (one-mul (2 ^ n))) p) d h
 
   pub sums : (n : ℕ) → ((i : ℕ) → i < n → P (2 ^ i)) → (a : ℕ) → a < 2 ^ n → P a
   sums zero powers a h = subst P (sym (lt-one h)) none

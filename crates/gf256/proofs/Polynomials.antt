@@ -13,7 +13,7 @@
 -- Assumes nothing.
 use mathlib.Core.Path.{◌≡◌, refl, sym, ap, ap₂, ◌∙◌, subst}
 use Prim.Native.Nat.{ℕ, zero, suc, ◌+◌, ◌-◌, ◌*◌, ◌/◌, ◌%◌, ◌^◌, ◌<◌, ◌≤◌}
-use native.Mathlib.Nat.{zero_mul, one_mul, mul_assoc, zero-lt-suc, lt_of_lt_of_le, div-eq_of_lt, mod-lt, mod-eq_of_lt}
+use native.Mathlib.Nat.{zero-mul, one-mul, mul_assoc, zero-lt-suc, lt_of_lt_of_le, div-eq_of_lt, mod-lt, mod-eq_of_lt}
 use native.Mathlib.Decide.{le_ind}
 use native.Mathlib.Omega.{arith}
 use lib.Bits.{bit_xor, shifted_even, xor_shr, xor_mod, xor_self, xor_zero_r, xor_lt}
@@ -53,21 +53,21 @@ coeff_under c k i h = let d = k - suc i in
 
 bits_times : (x y m : ℕ) → x < 2 → y < 2 → bit_xor x y * m ≡ bit_xor (x * m) (y * m)
 bits_times x y m hx hy =
-    bit_cases (λ (x : ℕ). bit_xor x y * m ≡ bit_xor (x * m) (y * m)) (ap (λ (z : ℕ). bit_xor z (y * m)) (sym (zero_mul m)))
+    bit_cases (λ (x : ℕ). bit_xor x y * m ≡ bit_xor (x * m) (y * m)) (ap (λ (z : ℕ). bit_xor z (y * m)) (sym (zero-mul m)))
     (bit_cases (λ (y : ℕ). bit_xor 1 y * m ≡ bit_xor (1 * m) (y * m))
-    (sym (ap (bit_xor (1 * m)) (zero_mul m) ∙ xor_zero_r (1 * m))) (zero_mul m ∙ sym (xor_self (1 * m))) y hy)
+    (sym (ap (bit_xor (1 * m)) (zero-mul m) ∙ xor_zero_r (1 * m))) (zero-mul m ∙ sym (xor_self (1 * m))) y hy)
     x hx
 
 bit_times : (x a b : ℕ) → x < 2 → x * bit_xor a b ≡ bit_xor (x * a) (x * b)
 bit_times x a b =
     bit_cases (λ (x : ℕ). x * bit_xor a b ≡ bit_xor (x * a) (x * b))
-    (zero_mul (bit_xor a b) ∙ sym (ap₂ bit_xor (zero_mul a) (zero_mul b)))
-    (one_mul (bit_xor a b) ∙ sym (ap₂ bit_xor (one_mul a) (one_mul b))) x
+    (zero-mul (bit_xor a b) ∙ sym (ap₂ bit_xor (zero-mul a) (zero-mul b)))
+    (one-mul (bit_xor a b) ∙ sym (ap₂ bit_xor (one-mul a) (one-mul b))) x
 
 bit_times_lt : (x a k : ℕ) → x < 2 → a < 2 ^ k → x * a < 2 ^ k
 bit_times_lt x a k hx ha =
-    bit_cases (λ (x : ℕ). x * a < 2 ^ k) (subst (λ (y : ℕ). y < 2 ^ k) (sym (zero_mul a)) (pow_pos k))
-    (subst (λ (y : ℕ). y < 2 ^ k) (sym (one_mul a)) ha) x hx
+    bit_cases (λ (x : ℕ). x * a < 2 ^ k) (subst (λ (y : ℕ). y < 2 ^ k) (sym (zero-mul a)) (pow_pos k))
+    (subst (λ (y : ℕ). y < 2 ^ k) (sym (one-mul a)) ha) x hx
 
 coeff_xor_times : (p q i m : ℕ) → coeff (bit_xor p q) i * m ≡ bit_xor (coeff p i * m) (coeff q i * m)
 coeff_xor_times p q i m = ap (λ (x : ℕ). x * m) (coeff_xor p q i) ∙ bits_times (coeff p i) (coeff q i) m (coeff_bit p i) (coeff_bit q i)
@@ -102,8 +102,8 @@ module _ (f : ℕ → ℕ) (linear : (a b : ℕ) → f (bit_xor a b) ≡ bit_xor
 
   pub linear_bit : (c x : ℕ) → c < 2 → f (c * x) ≡ c * f x
   linear_bit c x =
-      bit_cases (λ (c : ℕ). f (c * x) ≡ c * f x) (ap f (zero_mul x) ∙ at_zero ∙ sym (zero_mul (f x)))
-      (ap f (one_mul x) ∙ sym (one_mul (f x))) c
+      bit_cases (λ (c : ℕ). f (c * x) ≡ c * f x) (ap f (zero-mul x) ∙ at_zero ∙ sym (zero-mul (f x)))
+      (ap f (one-mul x) ∙ sym (one-mul (f x))) c
 
   pub linear_sum : (n : ℕ) (g : ℕ → ℕ) → f (sum_below n g) ≡ sum_below n (λ i. f (g i))
   unfolding sum_below
@@ -139,7 +139,7 @@ unfolding poly_product sum_below
 poly_product_term a c k h =
     ap₂ bit_xor
     (sum_below-same k (λ i. coeff (c * 2 ^ k) i * (a * 2 ^ i)) (λ i. 0)
-    (λ i l. ap (λ (x : ℕ). x * (a * 2 ^ i)) (coeff_under c k i l) ∙ zero_mul (a * 2 ^ i))
+    (λ i l. ap (λ (x : ℕ). x * (a * 2 ^ i)) (coeff_under c k i l) ∙ zero-mul (a * 2 ^ i))
     ∙ sum_below-none k)
     (ap (λ (x : ℕ). x * (a * 2 ^ k)) (coeff_at c k h))
 
@@ -149,7 +149,7 @@ unfolding poly_product sum_below
 poly_product_wider n m a b hb h =
     le_ind (λ (m : ℕ). poly_product m a b ≡ poly_product n a b) refl
     (λ k l e.
-    ap (bit_xor (poly_product k a b)) (ap (λ (c : ℕ). c * (a * 2 ^ k)) (coeff_above b n k hb l) ∙ zero_mul (a * 2 ^ k))
+    ap (bit_xor (poly_product k a b)) (ap (λ (c : ℕ). c * (a * 2 ^ k)) (coeff_above b n k hb l) ∙ zero-mul (a * 2 ^ k))
     ∙ xor_zero_r (poly_product k a b) ∙ e) m h
 
 -- ---- remainders

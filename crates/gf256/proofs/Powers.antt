@@ -7,7 +7,7 @@
 -- Assumes nothing.
 use mathlib.Core.Path.{◌≡◌, refl, sym, ap, ◌∙◌}
 use Prim.Native.Nat.{ℕ, zero, suc, ◌+◌, ◌*◌, ◌<◌}
-use native.Mathlib.Nat.{zero_add, suc-add, mul_zero, mul-suc, add_comm, not-suc-le-zero}
+use native.Mathlib.Nat.{zero-add, suc-add, mul-zero, mul-suc, add_comm, not-suc-le-zero}
 use lib.Dec.{lit<}
 use Rattle.gf256.specs.Field.{product, power}
 use Rattle.gf256.proofs.Products.{product_byte, product_assoc, product_one_l, product_one_r, product_zero_l}
@@ -45,14 +45,14 @@ power_of_one (suc n) = product_one_l (power 1 n) (power_byte 1 n (lit< tt)) ∙ 
 
 pub power_add : (a m n : ℕ) → a < 256 → power a (m + n) ≡ product (power a m) (power a n)
 unfolding power
-power_add a zero n h = ap (power a) (zero_add n) ∙ sym (product_one_l (power a n) (power_byte a n h))
+power_add a zero n h = ap (power a) (zero-add n) ∙ sym (product_one_l (power a n) (power_byte a n h))
 power_add a (suc m) n h =
     ap (power a) (suc-add m n) ∙ ap (product a) (power_add a m n h)
     ∙ sym (product_assoc a (power a m) (power a n) h (power_byte a m h) (power_byte a n h))
 
 pub power_mul : (a m n : ℕ) → a < 256 → power (power a m) n ≡ power a (m * n)
 unfolding power
-power_mul a m zero h = ap (power a) (sym (mul_zero m))
+power_mul a m zero h = ap (power a) (sym (mul-zero m))
 power_mul a m (suc n) h =
     ap (product (power a m)) (power_mul a m n h) ∙ sym (power_add a m (m * n) h)
     ∙ ap (power a) (add_comm m (m * n) ∙ sym (mul-suc m n))

@@ -11,7 +11,7 @@
 -- Assumes nothing.
 use mathlib.Core.Path.{◌≡◌, refl, sym, ap, ◌∙◌}
 use Prim.Native.Nat.{ℕ, suc, ◌*◌, ◌^◌, ◌<◌}
-use native.Mathlib.Nat.{one_mul, lt-suc_self}
+use native.Mathlib.Nat.{one-mul, lt-suc_self}
 use lib.Bits.{bit_xor, xor_comm, xor_self, xor_zero_r}
 use lib.Dec.{lit<}
 use lib.Pow.{pow-lt}
@@ -111,7 +111,7 @@ shifted a i l =
     ap (remainder 7)
     (sym
     (poly_product_wider (suc i) 8 a (2 ^ i) (pow-lt (lt-suc_self i)) l
-    ∙ ap (poly_product (suc i) a) (sym (one_mul (2 ^ i))) ∙ poly_product_term a 1 i (lit< tt) ∙ one_mul (a * 2 ^ i)))
+    ∙ ap (poly_product (suc i) a) (sym (one-mul (2 ^ i))) ∙ poly_product_term a 1 i (lit< tt) ∙ one-mul (a * 2 ^ i)))
 
 pub product_bits : (a b : ℕ) → product a b ≡ sum_below 8 (λ i. coeff b i * product a (2 ^ i))
 unfolding product poly_product

@@ -6,7 +6,7 @@
 -- Assumes nothing.
 use mathlib.Core.Path.{◌≡◌, refl, sym, ap, ap₂, ◌∙◌, subst}
 use Prim.Native.Nat.{ℕ, zero, suc, ◌+◌, ◌*◌, ◌/◌, ◌^◌, ◌<◌, ◌≤◌}
-use native.Mathlib.Nat.{zero_mul, one_mul, mul_assoc, le-add_right, le-add_left, zero-lt-suc, lt_of_lt_of_le, div-eq_of_lt, mod-eq_of_lt, div-lt_iff_lt-mul}
+use native.Mathlib.Nat.{zero-mul, one-mul, mul_assoc, le-add_right, le-add_left, zero-lt-suc, lt_of_lt_of_le, div-eq_of_lt, mod-eq_of_lt, div-lt_iff_lt-mul}
 use native.Mathlib.Omega.{arith}
 use lib.Bits.{bit_xor, xor_comm, xor_self, xor_shr, xor_zero_r, xor_lt}
 use lib.Dec.{lit<}
@@ -72,7 +72,7 @@ taken_off k p h = let c = coeff p (k + 8) in
 
 lowered : (k p : ℕ) → p < 2 ^ (suc k + 8) → bit_xor p (coeff p (k + 8) * (285 * 2 ^ k)) < 2 ^ (k + 8)
 lowered k p h = let lower = bit_xor p (coeff p (k + 8) * (285 * 2 ^ k)) in
-    subst (λ (n : ℕ). lower < n) (one_mul (2 ^ (k + 8)))
+    subst (λ (n : ℕ). lower < n) (one-mul (2 ^ (k + 8)))
     ((div-lt_iff_lt-mul (pow_pos (k + 8))).0 (subst (λ (x : ℕ). x < 1) (sym (taken_off k p h)) (zero-lt-suc 0)))
 
 remainder_is : (n p : ℕ) → p < 2 ^ (n + 8) → IsRemainder p (remainder n p)
@@ -100,7 +100,7 @@ unfolding poly_product sum_below
 small_multiple zero q h = refl
 small_multiple (suc k) q h = let p = poly_product k 285 q in
     let m = 285 * 2 ^ k in
-    let none : coeff q k * m ≡ 0 = ap (λ (c : ℕ). c * m) (no_term k q h) ∙ zero_mul m in
+    let none : coeff q k * m ≡ 0 = ap (λ (c : ℕ). c * m) (no_term k q h) ∙ zero-mul m in
     let same : bit_xor p (coeff q k * m) ≡ p = ap (bit_xor p) none ∙ xor_zero_r p in
     same ∙ small_multiple k q (subst (λ (x : ℕ). x < 256) same h)
 

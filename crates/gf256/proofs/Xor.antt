@@ -7,7 +7,7 @@
 -- Assumes nothing.
 use mathlib.Core.Path.{◌≡◌, refl, sym, ap, ap₂, ◌∙◌, subst}
 use Prim.Native.Nat.{ℕ, ◌+◌, ◌*◌, ◌/◌, ◌%◌, ◌^◌, ◌<◌}
-use native.Mathlib.Nat.{mod-lt, zero-lt-suc, add_zero}
+use native.Mathlib.Nat.{mod-lt, zero-lt-suc, add-zero}
 use lib.Arith.{bin_ind, digits_div, digits_mod}
 use lib.Bits.{bit_xor, differ, xor_step, xor_comm, xor_self, xor_zero_r, xor_block, xor_lt}
 use lib.Pow.{pow_pos}
@@ -68,5 +68,5 @@ xor_byte {a} {b} ha hb = xor_lt 8 a b ha hb
 
 pub xor_shift : (k a b : ℕ) → bit_xor a b * 2 ^ k ≡ bit_xor (a * 2 ^ k) (b * 2 ^ k)
 xor_shift k a b =
-    sym (add_zero (bit_xor a b * 2 ^ k)) ∙ sym (xor_block k a b 0 0 (pow_pos k) (pow_pos k))
-    ∙ ap₂ bit_xor (add_zero (a * 2 ^ k)) (add_zero (b * 2 ^ k))
+    sym (add-zero (bit_xor a b * 2 ^ k)) ∙ sym (xor_block k a b 0 0 (pow_pos k) (pow_pos k))
+    ∙ ap₂ bit_xor (add-zero (a * 2 ^ k)) (add-zero (b * 2 ^ k))

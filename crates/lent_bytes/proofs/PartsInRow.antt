@@ -17,7 +17,7 @@ use Prim.Native.Nat.{ℕ, ◌+◌, ◌^◌, ◌≤◌, ◌<◌}
 use native.Mathlib.Omega.{arith}
 use native.Mathlib.Nat.{mod-eq_of_lt}
 use lib.ListN.{length, take, drop, length-append}
-use lib.Seq.{sets, sets_eq, take_at, drop_at, drop-drop}
+use lib.Seq.{sets, sets-eq, take_at, drop_at, drop-drop}
 use Rattle.little_endian.specs.Bytes.{from_le, to_le, le_at}
 use Rattle.little_endian.proofs.Numbers.{length-to_le, from_to}
 
@@ -82,5 +82,5 @@ module _ (ps : List (List ℕ)) where
       let total : length (x ++ p) ≡ i + length q = omega (arith, length-append x p) in
       let rest : drop (i + length q) s ≡ r = ap (drop (i + length q)) (split ∙ sym (append_assoc x p r)) ∙ drop_at (x ++ p) r (i + length q) total in
       let fits : i + length q ≤ length s = omega (arith, ap length split, length-append x (p ++ r), length-append p r) in
-      sets_eq q s i fits ∙ append_assoc (take i s) q (drop (i + length q) s)
+      sets-eq q s i fits ∙ append_assoc (take i s) q (drop (i + length q) s)
       ∙ ap₂ (λ (y z : List ℕ). y ++ (q ++ z)) front rest ∙ sym (flatten-append ps (q ∷ qs))

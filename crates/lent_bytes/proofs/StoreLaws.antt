@@ -13,14 +13,14 @@ use Prim.Native.Nat.{ℕ, ◌+◌, ◌-◌, ◌≤◌, ◌<◌, min}
 use native.Mathlib.Numerals.{add-one}
 use native.Mathlib.Omega.{arith}
 use lib.ListN.{length, take, drop, get_or, set, length-drop, take-append-drop}
-use lib.Seq.{sets, sets_eq, length-sets, take-suc, length-take-le}
+use lib.Seq.{sets, sets-eq, length-sets, take-suc, length-take-le}
 use Rattle.little_endian.proofs.Stores.{sets_append, sets_out}
 
 -- ---- at the front, and past the end
 
 pub sets_over : (s p : List ℕ) → length p ≤ length s → sets s 0 p ≡ p ++ drop (length p) s
 sets_over s p h = let n : 0 + length p ≡ length p = omega arith in
-    sets_eq p s 0 (rw n h) ∙ ap (λ (k : ℕ). p ++ drop k s) n
+    sets-eq p s 0 (rw n h) ∙ ap (λ (k : ℕ). p ++ drop k s) n
 
 -- what lies past the end is dropped
 pub sets_fitting : (s b : List ℕ) (at n : ℕ) → n ≡ min (length b) (length s - at) → sets s at (take n b) ≡ sets s at b

@@ -5,7 +5,7 @@
 --   bytes_zeros                zeros are bytes
 --   bytes_list                 those of the list are
 -- Assumes nothing.
-use Rattle.std.proofs.Common.{◌≡◌, ℕ, zero, suc, ◌+◌, ◌-◌, ◌*◌, ◌<◌, ◌≤◌, List, [], ◌∷◌, ◌++◌, length, get_or, replicate, sym, refl, ap, ◌∙◌, subst, append-nil, suc-mul, zero_mul, arith, length-append}
+use Rattle.std.proofs.Common.{◌≡◌, ℕ, zero, suc, ◌+◌, ◌-◌, ◌*◌, ◌<◌, ◌≤◌, List, [], ◌∷◌, ◌++◌, length, get_or, replicate, sym, refl, ap, ◌∙◌, subst, append-nil, suc-mul, zero-mul, arith, length-append}
 use lib.ListN.{length-replicate}
 use Rattle.little_endian.specs.Bytes.{Bytes, from_le, le_at}
 use Rattle.little_endian.proofs.Numbers.{bytes_append}
@@ -63,7 +63,7 @@ module _ {status : ℕ} (entry : IsEntry (plain_entry status) 58 status 0) where
 
   all_more : (k : ℕ) {sc : Scan} {n s : ℕ} → Grown sc n s → Grown (scanned sc (many k status)) (n + k) (s + k * saved_count status)
   unfolding many scanned
-  all_more zero {sc} {n} {s} g = grown_as refl (omega arith) (omega (arith, zero_mul (saved_count status))) g
+  all_more zero {sc} {n} {s} g = grown_as refl (omega arith) (omega (arith, zero-mul (saved_count status))) g
   all_more (suc k) {sc} {n} {s} g =
       grown_as (scanned-append sc (plain_entry status) (many k status)) (omega arith) (omega (arith, suc-mul k (saved_count status)))
       (all_more k (one_more g))

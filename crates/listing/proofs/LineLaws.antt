@@ -9,7 +9,7 @@ use mathlib.Core.Path.{◌≡◌, refl, sym, ap, ap₂, ◌∙◌}
 use mathlib.Core.List.{List, [], ◌∷◌, ◌++◌, append_assoc, map, flatten}
 use mathlib.Core.Bool.{Bool, true, false, cond}
 use Prim.Native.Nat.{ℕ, ◌+◌}
-use native.Mathlib.Nat.{zero_add, add_zero}
+use native.Mathlib.Nat.{zero-add, add-zero}
 use native.Mathlib.Omega.{arith}
 use lib.ListN.{length, take, drop, get_or}
 use lib.Seq.{get_or-append_seam, take-append_seam}
@@ -47,7 +47,7 @@ saved_suc k e es = by (is_saved (status_of e))
 
 lines_append : (k : ℕ) (es fs : List (List ℕ)) → entry_lines k (es ++ fs) ≡ entry_lines k es ++ entry_lines (k + length (saved_of es)) fs
 unfolding entry_lines
-lines_append k [] fs = ap (λ (n : ℕ). entry_lines n fs) (sym (add_zero k))
+lines_append k [] fs = ap (λ (n : ℕ). entry_lines n fs) (sym (add-zero k))
 lines_append k (e ∷ es) fs = let n : ℕ = k + saved_count (status_of e) in
     ap (λ (l : List ℕ). entry_line n e ++ l) (lines_append n es fs ∙ ap (λ (m : ℕ). entry_lines n es ++ entry_lines m fs) (saved_suc k e es))
     ∙ sym (append_assoc (entry_line n e) (entry_lines n es) (entry_lines (k + length (saved_of (e ∷ es))) fs))
@@ -75,5 +75,5 @@ line_numbered es e fs = let all : List (List ℕ) = es ++ e ∷ fs in
     ap₂ (λ (x : List ℕ) (ds : List (List ℕ)). cond (is_saved (status_of x)) (length (saved_of ds) + 1) 0) (sym at) (sym before) in
     let after : List ℕ = entry_lines (k + saved_count (status_of e)) fs in
     lines_append 0 es (e ∷ fs)
-    ∙ ap (λ (n : ℕ). entry_lines 0 es ++ entry_lines n (e ∷ fs)) (zero_add k)
+    ∙ ap (λ (n : ℕ). entry_lines 0 es ++ entry_lines n (e ∷ fs)) (zero-add k)
     ∙ ap (λ (l : List ℕ). entry_lines 0 es ++ (l ++ after)) (line_number k e ∙ ap (λ (n : ℕ). entry_line n e) number)

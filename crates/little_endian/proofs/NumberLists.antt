@@ -13,7 +13,7 @@ use native.Mathlib.Numerals.{add-one}
 use native.Mathlib.Omega.{arith}
 use mathlib.Core.List.{List, [], ◌∷◌, ◌++◌, append_assoc}
 use lib.ListN.{length, take, drop, get_or, set, length-append}
-use lib.Seq.{sets, length-sets, drop-cons, drop-drop, drop_append_seam, take-add, take-append_seam, take-suc-set}
+use lib.Seq.{sets, length-sets, drop-cons, drop-drop, drop-append_seam, take-add, take-append_seam, take-suc-set}
 use Rattle.little_endian.specs.Bytes.{Bytes, from_le, to_le, le_at, numbers, numbers_at}
 use Rattle.little_endian.proofs.Numbers.{length-to_le, from_to}
 use Rattle.little_endian.proofs.Past.{at_min}
@@ -81,7 +81,7 @@ numbers_back p (n ∷ ns) q h = let low : List ℕ = to_le 8 n in
     let whole : (low ++ numbers ns) ++ q ≡ low ++ rest = append_assoc low (numbers ns) q in
     let size : length p + 8 ≡ length (p ++ low) = omega (arith, length-append p low, length-to_le 8 n) in
     let part : take 8 (drop (length p) (p ++ (low ++ rest))) ≡ low =
-    ap₂ (λ (k : ℕ) (l : List ℕ). take k l) (sym (length-to_le 8 n)) (drop_append_seam p (low ++ rest)) ∙ take-append_seam low rest in
+    ap₂ (λ (k : ℕ) (l : List ℕ). take k l) (sym (length-to_le 8 n)) (drop-append_seam p (low ++ rest)) ∙ take-append_seam low rest in
     let first : from_le (take 8 (drop (length p) (p ++ (low ++ rest)))) ≡ n = ap from_le part ∙ from_to 8 n ∙ mod-eq_of_lt (h 0) in
     ap (λ (l : List ℕ). numbers_at (suc (length ns)) (p ++ l) (length p)) whole
     ∙ ap₂ ◌∷◌ first

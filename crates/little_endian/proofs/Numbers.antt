@@ -12,7 +12,7 @@
 -- Assumes nothing.
 use mathlib.Core.Path.{◌≡◌, refl, sym, ap, ap₂, ◌∙◌}
 use Prim.Native.Nat.{ℕ, zero, suc, ◌+◌, ◌*◌, ◌/◌, ◌%◌, ◌^◌, ◌<◌}
-use native.Mathlib.Nat.{pow-suc, zero-lt-suc, zero_add, suc-add, mod-one, div-one, one-le-pow, div-div-eq-div-mul, pow-succ'}
+use native.Mathlib.Nat.{pow-suc, zero-lt-suc, zero-add, suc-add, mod-one, div-one, one-le-pow, div-div-eq-div-mul, pow-succ'}
 use native.Mathlib.Omega.{arith}
 use mathlib.Core.List.{List, [], ◌∷◌, ◌++◌}
 use lib.ListN.{length, take, drop}
@@ -60,7 +60,7 @@ bytes_to_le (suc k) n (suc i) = bytes_to_le k (n / 256) i
 
 pub to_add : (j k n : ℕ) → to_le (j + k) n ≡ to_le j n ++ to_le k (n / 256 ^ j)
 unfolding to_le
-to_add zero k n = ap₂ to_le (zero_add k) (sym (div-one n))
+to_add zero k n = ap₂ to_le (zero-add k) (sym (div-one n))
 to_add (suc j) k n = rw (suc-add, to_add j k (n / 256), pow-succ', div-div-eq-div-mul)
 
 pub to_mod : (k n : ℕ) → to_le k (n % 256 ^ k) ≡ to_le k n

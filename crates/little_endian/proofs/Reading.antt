@@ -11,7 +11,7 @@
 -- Assumes nothing.
 use mathlib.Core.Path.{◌≡◌, refl, sym, ap, ap₂, ◌∙◌}
 use Prim.Native.Nat.{ℕ, zero, suc, ◌+◌, ◌*◌, ◌^◌, ◌≤◌, ◌<◌, min}
-use native.Mathlib.Nat.{pow-zero, pow-succ', zero_add, add_zero, suc-add, mul_assoc}
+use native.Mathlib.Nat.{pow-zero, pow-succ', zero-add, add-zero, suc-add, mul_assoc}
 use native.Mathlib.Omega.{arith}
 use mathlib.Core.List.{List, [], ◌∷◌, ◌++◌}
 use lib.ListN.{length, take, drop, get_or, length-drop, drop_of_length-le, get_or-append}
@@ -69,7 +69,7 @@ to_le_at k s i h fits = let part = take k (drop i s) in
 -- ---- by halves
 
 le_at_add : (j k : ℕ) (s : List ℕ) (i : ℕ) → le_at (j + k) s i ≡ le_at j s i + 256 ^ j * le_at k s (i + j)
-le_at_add zero k s i = rw (zero_add, add_zero, le_at_zero, pow-zero) (omega arith)
+le_at_add zero k s i = rw (zero-add, add-zero, le_at_zero, pow-zero) (omega arith)
 le_at_add (suc j) k s i = let next : suc i + j ≡ i + suc j = omega arith in
     let more = le_at_add j k s (suc i) in
     rw (suc-add, le_at_suc (j + k), le_at_suc j, pow-succ', mul_assoc) (omega (arith, rw next at more))

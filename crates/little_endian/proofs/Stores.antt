@@ -7,16 +7,16 @@
 -- Assumes nothing.
 use mathlib.Core.Path.{◌≡◌, refl, sym, ap, ◌∙◌}
 use Prim.Native.Nat.{ℕ, suc, ◌+◌, ◌≤◌, min}
-use native.Mathlib.Nat.{add_zero, add-suc, suc-add}
+use native.Mathlib.Nat.{add-zero, add-suc, suc-add}
 use native.Mathlib.Omega.{arith}
 use mathlib.Core.List.{List, [], ◌∷◌, ◌++◌, append_assoc}
 use lib.ListN.{length, take, drop, set}
-use lib.Seq.{sets, sets_eq, set_out, length-take-le, take-append_seam, drop_at}
+use lib.Seq.{sets, sets-eq, set_out, length-take-le, take-append_seam, drop_at}
 use Rattle.little_endian.proofs.Past.{at_min}
 
 module _ {A : Type 0} where
   pub sets_append : (s : List A) (i : ℕ) (u v : List A) → sets s i (u ++ v) ≡ sets (sets s i u) (i + length u) v
-  sets_append s i [] v = ap (λ (p : ℕ). sets s p v) (sym (add_zero i))
+  sets_append s i [] v = ap (λ (p : ℕ). sets s p v) (sym (add-zero i))
   sets_append s i (a ∷ u) v =
       sets_append (set s i a) (suc i) u v
       ∙ ap (λ (p : ℕ). sets (sets (set s i a) (suc i) u) p v) (suc-add i (length u) ∙ sym (add-suc i (length u)))
@@ -34,6 +34,6 @@ module _ {A : Type 0} where
 
   pub part_sets : (s : List A) (i : ℕ) (v : List A) → i + length v ≤ length s → take (length v) (drop i (sets s i v)) ≡ v
   part_sets s i v h = let rest = drop (i + length v) s in
-      ap (λ (t : List A). take (length v) (drop i t)) (sets_eq v s i h ∙ append_assoc (take i s) v rest)
+      ap (λ (t : List A). take (length v) (drop i t)) (sets-eq v s i h ∙ append_assoc (take i s) v rest)
       ∙ ap (take (length v)) (drop_at (take i s) (v ++ rest) i (length-take-le i s (omega arith)))
       ∙ take-append_seam v rest

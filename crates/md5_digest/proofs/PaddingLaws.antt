@@ -6,7 +6,7 @@
 -- Assumes nothing.
 use Rattle.std.proofs.Common.{◌≡◌, ℕ, ◌+◌, ◌-◌, ◌*◌, ◌%◌, ◌^◌, ◌≤◌, List, ◌∷◌, ◌++◌, length, take, drop, replicate, sym, ap, ◌∙◌, ap₂, add-one, arith, length-append, take_at}
 use lib.ListN.{length-replicate, replicate-append-replicate}
-use lib.Seq.{sets, sets_eq}
+use lib.Seq.{sets, sets-eq}
 use Rattle.little_endian.specs.Bytes.{to_le}
 use Rattle.little_endian.proofs.Numbers.{length-to_le, to_mod}
 use Rattle.md5_digest.specs.Padding.{zeros, padding}
@@ -34,7 +34,7 @@ padding_is n = let z : ℕ = zeros n in
     let bits : ℕ = n % 2 ^ 61 * 8 in
     let front : List ℕ = 128 ∷ replicate z 0 in
     let head : take (z + 1) (128 ∷ replicate 71 0) ≡ front = rw add-one (ap (λ (l : List ℕ). 128 ∷ l) (take-zeros z 71 (omega arith))) in
-    let stored = sets_eq (to_le 8 bits) (128 ∷ replicate 71 0) (z + 1) (omega (arith, length-to_le 8 bits, length-replicate {A = ℕ} 71 0)) in
+    let stored = sets-eq (to_le 8 bits) (128 ∷ replicate 71 0) (z + 1) (omega (arith, length-to_le 8 bits, length-replicate {A = ℕ} 71 0)) in
     let len : length (front ++ to_le 8 bits) ≡ z + 9 = length-append front (to_le 8 bits) ∙ omega (arith, length-replicate {A = ℕ} z 0, length-to_le 8 bits) in
     let same : bits % 2 ^ 64 ≡ 8 * n % 2 ^ 64 = omega arith in
     ap (take (z + 9)) (stored ∙ ap (λ (l : List ℕ). l ++ to_le 8 bits ++ drop (z + 1 + length (to_le 8 bits)) (128 ∷ replicate 71 0)) head)

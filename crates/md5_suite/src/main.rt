@@ -1,4 +1,5 @@
 // RFC 1321's own test suite (A.5), through the library: a line a message, as the RFC prints them.
+#![tactic(auto)]
 use libc::STDOUT_FILENO;
 
 fn main() {

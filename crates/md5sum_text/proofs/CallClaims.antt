@@ -6,7 +6,7 @@ use mathlib.Core.List.{List, [], ◌∷◌, ◌++◌, append-nil, map, flatten}
 use Prim.Native.Nat.{ℕ, suc, ◌<◌}
 use native.Mathlib.Omega.{arith}
 use lib.ListN.{length, take, drop, get_or, replicate, length-map, get_or-append}
-use lib.Seq.{take-append_seam, drop_append_seam}
+use lib.Seq.{take-append_seam, drop-append_seam}
 use Rattle.refusals.specs.declared.Refusal.{Refusal}
 use Rattle.little_endian.specs.Bytes.{Bytes}
 use Rattle.little_endian.proofs.Numbers.{bytes_take, bytes_drop}
@@ -64,7 +64,7 @@ says_all f s out ls {n} {room} e good is = let es : List (List ℕ) = entries_in
       says = λ k h. subst (Says ls (get_or es k [])) (sym (byte k h)) (says_it ls (get_or es k []) good.lines);
       only = λ k b h z. byte k h ∙ says_one es ls good k (omega arith) (says_it ls (get_or es k []) good.lines) z;
       kept = ap (drop n) told.1 ∙ ap (λ (m : ℕ). drop m (answers_in f s ++ drop (length (answers_in f s)) out)) told.0
-          ∙ drop_append_seam (answers_in f s) _ ∙ ap (λ (m : ℕ). drop m out) (sym told.0);
+          ∙ drop-append_seam (answers_in f s) _ ∙ ap (λ (m : ℕ). drop m out) (sym told.0);
     }
 
 pub import_says : claim.ImportSays
@@ -207,7 +207,7 @@ export_lines f out n room b e = let x = exported f out n room e in
       joined = text_is x ∙ lines_for es;
       count = simp length-map;
       each = λ k h. (sum_spells (sound_at f b x.all k h), line_at f b x.all k h);
-      kept = ap₂ (λ (m : ℕ) (r : List ℕ). drop m r) x.size x.room_is ∙ drop_append_seam (export_text es) _ ∙ ap (λ (m : ℕ). drop m out) (sym x.size);
+      kept = ap₂ (λ (m : ℕ) (r : List ℕ). drop m r) x.size x.room_is ∙ drop-append_seam (export_text es) _ ∙ ap (λ (m : ℕ). drop m out) (sym x.size);
     }
 
 pub export_imported : claim.ExportImported

@@ -16,7 +16,7 @@ use native.Mathlib.Omega.{arith}
 use borrow.Author.Tests.{leb-true, le-leb, lt-leb}
 use lib.Dec.{leb}
 use lib.ListN.{length, get_or, take, drop, length-append, length-drop, take-append-drop}
-use lib.Seq.{get_or-take, get_or-drop, take_at, drop_at, take-append_seam, drop_append_seam, take-append-le, drop-append-le, length-take-le, drop-drop}
+use lib.Seq.{get_or-take, get_or-drop, take_at, drop_at, take-append_seam, drop-append_seam, take-append-le, drop-append-le, length-take-le, drop-drop}
 use Rattle.computed_tests.proofs.Tests.{and_both}
 use Rattle.cut_lists.specs.All.{All, all_none, all_more}
 use Rattle.cut_lists.specs.Pieces.{Cut, before}
@@ -167,7 +167,7 @@ lines_joined t (all_more {x} {xs} z zs) = let s : List ℕ = flatten xs ++ t in
     ap (λ (u : List ℕ). lines_of u) (append_assoc x (flatten xs) t)
     ∙ cut_more shaped_length (x ++ s) (omega (arith, length-append x s)) (omega arith)
     ∙ ap (λ (n : ℕ). before (take n (x ++ s)) (lines_of (drop n (x ++ s)))) first
-    ∙ ap₂ (λ (p q : List ℕ). before p (lines_of q)) (take-append_seam x s) (drop_append_seam x s)
+    ∙ ap₂ (λ (p q : List ℕ). before p (lines_of q)) (take-append_seam x s) (drop-append_seam x s)
     ∙ ap (before x) (lines_joined t zs)
 
 pub rest_stops : (s : List ℕ) → 0 < length (lines_of s).rest → shaped_length (lines_of s).rest ≡ 0

@@ -11,7 +11,7 @@
 --   named_first, answer_none, answer_first, answer_unfit, answer_over, answer_seen     the byte for an entry, from the first line that names it
 -- Assumes nothing.
 use mathlib.Core.Path.{◌≡◌, refl, sym, ap, ◌∙◌, subst}
-use mathlib.Core.Bool.{Bool, true, false, cond, not, ◌&&◌, ◌||◌, true≢false, or_true}
+use mathlib.Core.Bool.{Bool, true, false, cond, not, ◌&&◌, ◌||◌, true≢false, or-true}
 use mathlib.Core.Logic.{◌⊎◌, inl, inr, ⊎_elim}
 use mathlib.Core.List.{List, [], ◌∷◌}
 use Prim.Native.Nat.{ℕ, zero, suc, ◌≤◌, ◌<◌}
@@ -41,7 +41,7 @@ module _ {A : Type 0} (t : A → Bool) (d : A) where
   unfolding any
   any_at [] k h e = absurd (omega arith)
   any_at (x ∷ xs) zero h e = simp e
-  any_at (x ∷ xs) (suc k) h e = simp (any_at xs k (omega arith) e, or_true)
+  any_at (x ∷ xs) (suc k) h e = simp (any_at xs k (omega arith) e, or-true)
 
   pub any_none : (xs : List A) → ((k : ℕ) → k < length xs → t (get_or xs k d) ≡ false) → any t xs ≡ false
   unfolding any
@@ -69,7 +69,7 @@ either : (s t : Bool) → s ≡ true → (s || t) ≡ true
 either s t e = simp e
 
 other : (s t : Bool) → t ≡ true → (s || t) ≡ true
-other s t e = simp (e, or_true)
+other s t e = simp (e, or-true)
 
 neither : (s t : Bool) → s ≡ false → t ≡ false → (s || t) ≡ false
 neither s t e f = simp (e, f)

@@ -7,7 +7,7 @@
 use mathlib.Core.Path.{◌≡◌, sym, ap, ap₂, ◌∙◌}
 use mathlib.Core.List.{[], ◌∷◌}
 use Prim.Native.Nat.{ℕ, ◌-◌, ◌+◌, ◌*◌, ◌/◌, ◌%◌, ◌^◌, ◌≤◌, ◌<◌}
-use native.Mathlib.Nat.{zero_mul, one_mul}
+use native.Mathlib.Nat.{zero-mul, one-mul}
 use native.Mathlib.Omega.{arith}
 use lib.Bits.{bit_xor}
 use lib.Dec.{lit<}
@@ -18,12 +18,12 @@ use Rattle.gf256.specs.Polynomial.{coeff, sum_below}
 pub high_clear : (x c : ℕ) → x < 128 → 0 ≡ coeff x 7 * c
 unfolding coeff
 high_clear x c h = let e : x / 128 % 2 ≡ 0 = omega arith in
-    sym (ap (λ (d : ℕ). d * c) e ∙ zero_mul c)
+    sym (ap (λ (d : ℕ). d * c) e ∙ zero-mul c)
 
 pub high_set : (x c : ℕ) → 128 ≤ x → x < 256 → c ≡ coeff x 7 * c
 unfolding coeff
 high_set x c l h = let e : x / 128 % 2 ≡ 1 = omega arith in
-    sym (ap (λ (d : ℕ). d * c) e ∙ one_mul c)
+    sym (ap (λ (d : ℕ). d * c) e ∙ one-mul c)
 
 shifted_down : (x d i : ℕ) → x * 2 ^ d / 2 ^ (d + i) ≡ x / 2 ^ i
 shifted_down x d i = sym (shr-shr (x * 2 ^ d) d i) ∙ ap (λ (y : ℕ). y / 2 ^ i) (shl-shr x d)

@@ -9,7 +9,7 @@ use mathlib.Core.Logic.{◌≢◌}
 use mathlib.Core.Bool.{Bool, cond}
 use mathlib.Core.List.{List, [], ◌∷◌}
 use Prim.Native.Nat.{ℕ, ◌+◌, ◌*◌, ◌^◌, ◌<◌}
-use native.Mathlib.Nat.{add_zero, pos_of_ne-zero}
+use native.Mathlib.Nat.{add-zero, pos_of_ne-zero}
 use native.Mathlib.Decide.{ℕ_discrete}
 use lib.Bits.{bit_xor}
 use lib.Dec.{eqb}
@@ -39,7 +39,7 @@ eight_in_a_row ps k e xs bs cs h c =
     add_multiples
     (get_or ps n 0 ∷ get_or ps (k + 1) 0 ∷ get_or ps (k + 2) 0 ∷ get_or ps (k + 3) 0 ∷ get_or ps (k + 4) 0 ∷ get_or ps (k + 5) 0 ∷ get_or ps (k + 6) 0
     ∷ get_or ps (k + 7) 0 ∷ []) xs bs)
-    (sym (add_zero k))
+    (sym (add-zero k))
     ∙ ap (λ (n : ℕ). add_multiples (eight_from ps n) xs bs) h
 
 -- the multiples of w

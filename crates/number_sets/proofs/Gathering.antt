@@ -83,15 +83,15 @@ module _ (ws : List ℕ) (number : ℕ → ℕ) (test : ℕ → Bool) where
     gathered_in zero k bytes (inr (i, l, t, z)) = absurd (not-suc-le-zero l)
     gathered_in (suc m) k bytes G = go (test m) refl (gathered_in m k (λ i l. bytes i (omega arith))) G
       where
-        or_true : (b : Bool) → (b || true) ≡ true
-        or_true true = refl
-        or_true false = refl
+        or-true : (b : Bool) → (b || true) ≡ true
+        or-true true = refl
+        or-true false = refl
 
         Next : Bool → Type 0
         Next b = member (cond b (inserted (number m) (gathered ws number test m)) (gathered ws number test m)) k ≡ true
 
         kept : (b : Bool) → member (gathered ws number test m) k ≡ true → Next b
-        kept true e = member-step m k (bytes m (omega arith)) ∙ ap (λ (b : Bool). eqb k (number m) || b) e ∙ or_true (eqb k (number m))
+        kept true e = member-step m k (bytes m (omega arith)) ∙ ap (λ (b : Bool). eqb k (number m) || b) e ∙ or-true (eqb k (number m))
         kept false e = e
 
         here : (b : Bool) → b ≡ true → number m ≡ k → Next b

@@ -16,14 +16,14 @@ use mathlib.Core.Logic.{◌≢◌}
 use mathlib.Core.Bool.{Bool, true, false, not, cond, ◌&&◌, ◌||◌}
 use mathlib.Core.List.{List}
 use Prim.Native.Nat.{ℕ, zero, suc, ◌<◌, ◌≤◌, ◌+◌, ◌*◌, ◌-◌, ◌/◌, ◌%◌, ◌^◌, min, max}
-use native.Mathlib.Nat.{zero-lt-suc, not-suc-le-zero, le_of_suc-le-suc, pow-suc, mul_comm, add-suc, zero_add, add_zero}
+use native.Mathlib.Nat.{zero-lt-suc, not-suc-le-zero, le_of_suc-le-suc, pow-suc, mul_comm, add-suc, zero-add, add-zero}
 use native.Mathlib.Nat.{mod-lt, mod-eq_of_lt, div-div-eq-div-mul}
 use native.Mathlib.Omega.{arith}
 use native.Mathlib.Decide.{ℕ_discrete, dec_lt}
 use lib.Arith.{digits_mod}
 use lib.Pow.{pow-lt}
 use lib.ListN.{length, get_or, set, replicate, length-set, get_or-eq_default, length-replicate}
-use lib.Seq.{get_or_set_same, get_or_set_other, set_out, ext_get_or}
+use lib.Seq.{get_or-set_same, get_or-set_other, set_out, ext_get_or}
 use lib.Bits.{bit_and, bit_or, or_shr, or_step, and_shr, and_step, and_mask, and_le_l, or_lt}
 use lib.Count.{ones, ones_step}
 use lib.Dec.{eqb}
@@ -119,17 +119,17 @@ member-set ws g v l b e q h = elim (ℕ_discrete (h / 64) (g / 64)) [
     | yes r ↦
         let z : h ≡ g = omega arith in
         ap₂ (λ (i k : ℕ). eqb (bit (get_or (set ws (g / 64) v) i 0) k) 1) p r
-        ∙ ap (λ (x : ℕ). eqb (bit x (g % 64)) 1) (get_or_set_same ws (g / 64) v 0 l) ∙ e
+        ∙ ap (λ (x : ℕ). eqb (bit x (g % 64)) 1) (get_or-set_same ws (g / 64) v 0 l) ∙ e
         ∙ ap (λ (z : Bool). cond z b (member ws h)) (sym (eq-eqb h g z))
     | no r ↦
         ap (λ (i : ℕ). eqb (bit (get_or (set ws (g / 64) v) i 0) (h % 64)) 1) p
-        ∙ ap (λ (x : ℕ). eqb (bit x (h % 64)) 1) (get_or_set_same ws (g / 64) v 0 l)
+        ∙ ap (λ (x : ℕ). eqb (bit x (h % 64)) 1) (get_or-set_same ws (g / 64) v 0 l)
         ∙ ap (λ (x : ℕ). eqb x 1) (q (h % 64) (omega arith) r)
         ∙ ap (λ (i : ℕ). eqb (bit (get_or ws i 0) (h % 64)) 1) (sym p)
         ∙ ap (λ (z : Bool). cond z b (member ws h)) (sym (ne_eqb h g (λ z. r (ap (λ (k : ℕ). k % 64) z))))
   ]
   | no p ↦
-      ap (λ (x : ℕ). eqb (bit x (h % 64)) 1) (get_or_set_other ws (g / 64) (h / 64) v 0 p)
+      ap (λ (x : ℕ). eqb (bit x (h % 64)) 1) (get_or-set_other ws (g / 64) (h / 64) v 0 p)
       ∙ ap (λ (z : Bool). cond z b (member ws h)) (sym (ne_eqb h g (λ z. p (ap (λ (k : ℕ). k / 64) z))))
 ]
 
@@ -217,7 +217,7 @@ total_cong (suc k) g h e = ap₂ ◌+◌ (total_cong k g h (λ i l. e i (omega a
 
 total_split : (a b : ℕ) (g : ℕ → ℕ) → total (a + b) g ≡ total a g + total b (λ i. g (a + i))
 unfolding total
-total_split a zero g = ap (λ (k : ℕ). total k g) (add_zero a) ∙ sym (add_zero (total a g))
+total_split a zero g = ap (λ (k : ℕ). total k g) (add-zero a) ∙ sym (add-zero (total a g))
 total_split a (suc b) g = ap (λ (k : ℕ). total k g) (add-suc a b) ∙ ap (λ (x : ℕ). x + g (a + b)) (total_split a b g) ∙ omega arith
 
 ones_total : (k w : ℕ) → w < 2 ^ k → ones w ≡ total k (bit w)
@@ -263,7 +263,7 @@ size_by_ones ws h =
     (total_split 128 64 m
     ∙ ap (λ (x : ℕ). x + total 64 (λ i. m (128 + i)))
     (total_split 64 64 m
-    ∙ ap (λ (x : ℕ). x + total 64 (λ i. m (64 + i))) (total_cong 64 m (λ i. m (0 + i)) (λ i l. ap m (sym (zero_add i)))))))
+    ∙ ap (λ (x : ℕ). x + total 64 (λ i. m (64 + i))) (total_cong 64 m (λ i. m (0 + i)) (λ i l. ap m (sym (zero-add i)))))))
   where
     m : ℕ → ℕ
     m k = one_if (member ws k)
@@ -325,8 +325,8 @@ words_set i word ws h W = record {
   fits = λ j. elim (dec_lt i (length ws)) [
     | yes l ↦ elim (ℕ_discrete j i) [
       | yes e ↦
-          subst (λ (x : ℕ). x < 2 ^ 64) (sym (ap (λ (p : ℕ). get_or (set ws i word) p 0) e ∙ get_or_set_same ws i word 0 l)) h
-      | no q ↦ subst (λ (x : ℕ). x < 2 ^ 64) (sym (get_or_set_other ws i j word 0 q)) (W.fits j)
+          subst (λ (x : ℕ). x < 2 ^ 64) (sym (ap (λ (p : ℕ). get_or (set ws i word) p 0) e ∙ get_or-set_same ws i word 0 l)) h
+      | no q ↦ subst (λ (x : ℕ). x < 2 ^ 64) (sym (get_or-set_other ws i j word 0 q)) (W.fits j)
     ]
     | no q ↦ subst (λ (l : List ℕ). get_or l j 0 < 2 ^ 64) (sym (set_out ws i word (omega arith))) (W.fits j)
   ];

@@ -11,7 +11,7 @@ use Prim.Native.Nat.{ℕ, ◌+◌, ◌%◌, ◌^◌, ◌<◌, ◌≤◌}
 use native.Mathlib.Omega.{arith}
 use lib.Dec.{leb, eqb}
 use lib.ListN.{length, take, drop, length-append}
-use lib.Seq.{take-append_seam, drop_append_seam}
+use lib.Seq.{take-append_seam, drop-append_seam}
 use borrow.Author.Tests.{leb-true, eqb-true, eq-eqb, le-leb}
 use Rattle.lent_bytes.proofs.WritingLaws.{unless_accepted, unless_tells}
 use Rattle.computed_tests.proofs.Tests.{and_both}
@@ -97,7 +97,7 @@ module _ {e m : List ℕ} {status : ℕ} {name : List ℕ} (size : length e ≡ 
   listed_back : (rest : List ℕ) → entries_of (e ++ rest) ≡ before e (entries_of rest)
   listed_back rest =
       entries_more (is_entry (sym (walked_back rest)))
-      ∙ ap₂ (λ (p q : List ℕ). before p (entries_of q)) (take-append_seam e rest) (drop_append_seam e rest)
+      ∙ ap₂ (λ (p q : List ℕ). before p (entries_of q)) (take-append_seam e rest) (drop-append_seam e rest)
 
   lone_back : lone_refusal e ≡ 0
   unfolding lone_refusal

@@ -8,7 +8,7 @@ use mathlib.Core.List.{List, [], ◌++◌, append_assoc, flatten}
 use Prim.Native.Nat.{ℕ, ◌+◌, ◌≤◌}
 use native.Mathlib.Omega.{arith}
 use lib.ListN.{length, take, drop, length-append, length-drop}
-use lib.Seq.{take-append_seam, drop_append_seam, drop-drop}
+use lib.Seq.{take-append_seam, drop-append_seam, drop-drop}
 use Rattle.cut_lists.specs.All.{All, all_none, all_more}
 use Rattle.codes.specs.declared.Code.{Code}
 use Rattle.lent_bytes.specs.Writing.{accepted}
@@ -39,7 +39,7 @@ entries_from p rest (all_more {x} {xs = fs} r rs) (all_more w ws) h = let e : Li
     let out : List ℕ = p ++ rest in
     let total : length (e ++ l) ≡ length e + length l = length-append e l in
     let wrote_one : write_entry_of x.contents x.status x.name (drop (length p) out) ≡ accepted e rest =
-    ap (write_entry_of x.contents x.status x.name) (drop_append_seam p rest)
+    ap (write_entry_of x.contents x.status x.name) (drop-append_seam p rest)
     ∙ entry-accepted x.contents x.status x.name rest r.size_right w r.name_right (omega arith) in
     let wrote : take (length p) out ++ (e ++ drop (length e) rest) ≡ (p ++ e) ++ drop (length e) rest =
     ap (λ (t : List ℕ). t ++ (e ++ drop (length e) rest)) (take-append_seam p rest) ∙ sym (append_assoc p e _) in

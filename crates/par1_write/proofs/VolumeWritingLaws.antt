@@ -13,7 +13,7 @@ use mathlib.Core.List.{List, ◌++◌, append_assoc, flatten}
 use Prim.Native.Nat.{ℕ, ◌+◌, ◌-◌, ◌/◌, ◌≤◌, ◌<◌}
 use native.Mathlib.Omega.{arith}
 use lib.ListN.{length, take, drop, length-append}
-use lib.Seq.{sets, sets_eq, length-sets, drop_at, length-take-le}
+use lib.Seq.{sets, sets-eq, length-sets, drop_at, length-take-le}
 use Rattle.lent_bytes.specs.Writing.{with_refusal}
 use Rattle.lent_bytes.specs.declared.Writing.TheVariants.{Written, Refused}
 use Rattle.lent_bytes.proofs.StoreLaws.{sets_over}
@@ -102,7 +102,7 @@ two_steps c program body out {total} {t} {u} size fits wrote headed = let n : to
     let rest : List ℕ = drop (32 + length body) out in
     let hashed : take (total - 32) (drop 32 t) ≡ body =
     ap₂ (λ (k : ℕ) (l : List ℕ). take k (drop 32 l)) n wrote ∙ part_sets out 32 body (omega arith) in
-    let split : t ≡ take 32 out ++ (body ++ rest) = wrote ∙ sets_eq body out 32 (omega arith) ∙ append_assoc (take 32 out) body rest in
+    let split : t ≡ take 32 out ++ (body ++ rest) = wrote ∙ sets-eq body out 32 (omega arith) ∙ append_assoc (take 32 out) body rest in
     let after : drop 32 t ≡ body ++ rest = ap (drop 32) split ∙ drop_at (take 32 out) (body ++ rest) 32 (length-take-le 32 out (omega arith)) in
     let head : List ℕ = head_bytes c program body in
     let h : length head ≡ 32 = length_head c program body in

@@ -1,4 +1,5 @@
 // Writing of Par 1.0 files and of their entries (document 01, "What comes back").
+#![tactic(auto)]
 mod entry_writing;
 mod volume_writing;
 

@@ -1,4 +1,5 @@
 // Lists the index file or volume on standard input (document 01, "What comes back"): thin over the crate `listing`.
+#![tactic(auto)]
 use lent_bytes::Writing;
 use libc::{STDIN_FILENO, STDOUT_FILENO};
 use refusals::MAX_LISTED_LENGTH;

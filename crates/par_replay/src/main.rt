@@ -1,4 +1,5 @@
 // Replays the log of arrivals on standard input (document 02, 2026-11): thin over the crate `replay`, one line at a time.
+#![tactic(auto)]
 use libc::{STDIN_FILENO, STDOUT_FILENO};
 use refusals::MAX_LISTED_LENGTH;
 

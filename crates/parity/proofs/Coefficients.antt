@@ -10,7 +10,7 @@
 --   rule_by_tables                       it is what the tables give
 -- Assumes nothing.
 use mathlib.Core.Path.{◌≡◌}
-use mathlib.Core.Bool.{or_true}
+use mathlib.Core.Bool.{or-true}
 use mathlib.Core.List.{List}
 use Prim.Native.Nat.{ℕ, ◌+◌, ◌-◌, ◌<◌, ◌≤◌}
 use native.Mathlib.Decide.{ℕ_discrete, dec_lt}
@@ -40,11 +40,11 @@ module _ (c : Code) (f v : ℕ) where
 
   pub answer_volume_zero : v ≡ 0 → coefficient_answer c f v ≡ Refused 10
   unfolding coefficient_answer
-  answer_volume_zero e = simp (eq-eqb v 0 e, or_true)
+  answer_volume_zero e = simp (eq-eqb v 0 e, or-true)
 
   pub answer_sum_above : 255 < f + v → coefficient_answer c f v ≡ Refused 10
   unfolding coefficient_answer
-  answer_sum_above h = simp (lt-ltb 255 (f + v) h, or_true)
+  answer_sum_above h = simp (lt-ltb 255 (f + v) h, or-true)
 
   out_of_range_lem : ¬ InRange f v → coefficient_answer c f v ≡ Refused 10
   out_of_range_lem h = elim (ℕ_discrete f 0) [

@@ -40,7 +40,7 @@ infixl 60 ◌⊕◌
 infixl 70 ◌⊗◌
 sum_below_split : (n m : ℕ) (g : ℕ → ℕ) → sum_below (n + m) g ≡ bit_xor (sum_below n g) (sum_below m (λ j. g (n + j)))
 unfolding sum_below
-sum_below_split n zero g = ap (λ (k : ℕ). sum_below k g) (Nat.add_zero n) ∙ sym (xor_zero_r (sum_below n g))
+sum_below_split n zero g = ap (λ (k : ℕ). sum_below k g) (Nat.add-zero n) ∙ sym (xor_zero_r (sum_below n g))
 sum_below_split n (suc m) g =
     ap (λ (k : ℕ). sum_below k g) (Nat.add-suc n m) ∙ ap (λ (x : ℕ). bit_xor x (g (n + m))) (sum_below_split n m g)
     ∙ xor_assoc (sum_below n g) (sum_below m (λ j. g (n + j))) (g (n + m))
@@ -148,32 +148,32 @@ module _ (rule : ℕ → ℕ → ℕ) (small : (f v : ℕ) → f < 256 → rule 
             → mask b (total i ⊗ cell X p i) ⊕ total i ⊗ cell X p i ≡ 𝟘
         go true e c d = K.add_self (total i ⊗ cell X p i)
         go false e true d =
-            K.zero_add (total i ⊗ cell X p i)
+            K.zero-add (total i ⊗ cell X p i)
             ∙ ap (λ (a : Byte). a ⊗ cell X p i)
             (byte_eq (total i) 𝟘
             (total_weighted i (omega arith)
             ∙ W.columns (suc i) (file i l) (ap₂ (λ (x y : Bool). not x && y) e d)
             ∙ ap (λ (b : Bool). cond b 1 0) (ne_eqb (suc f) (suc i) (λ z. q (sym (suc_inj z))))))
-            ∙ S.zero_mul K (cell X p i)
+            ∙ S.zero-mul K (cell X p i)
         go false e false d = let k : t.size (suc i) < 1 = leb-false 1 (t.size (suc i)) d in
             let m : length (X (suc i)) ≡ t.size (suc i) = (h_x (suc i) (file i l)).0 in
-            K.zero_add (total i ⊗ cell X p i)
+            K.zero-add (total i ⊗ cell X p i)
             ∙ ap (λ (a : Byte). total i ⊗ a)
             (byte_eq (cell X p i) 𝟘 (R.cell_value rule small t fits X h_x p i l ∙ get_or-eq_default (X (suc i)) 0 (omega arith)))
-            ∙ S.mul_zero K (total i)
+            ∙ S.mul-zero K (total i)
 
     left_asked : p < t.size (suc f) → left f ≡ cell X p f
     unfolding left mask
     left_asked l =
         ap (λ (b : Bool). mask b (total f ⊗ cell X p f) ⊕ total f ⊗ cell X p f) missing
-        ∙ K.zero_add (total f ⊗ cell X p f)
+        ∙ K.zero-add (total f ⊗ cell X p f)
         ∙ ap (λ (a : Byte). a ⊗ cell X p f)
         (byte_eq (total f) 𝟙
         (total_weighted f (omega arith)
         ∙ W.columns (suc f) (file f lf)
         (ap₂ (λ (x y : Bool). not x && y) missing (le-leb 1 (t.size (suc f)) (omega arith)))
         ∙ ap (λ (b : Bool). cond b 1 0) (eq-eqb (suc f) (suc f) refl)))
-        ∙ K.one_mul (cell X p f)
+        ∙ K.one-mul (cell X p f)
 
     byte_left : p < t.size (suc f) → sum_below 255 number ≡ get_or (X (suc f)) p 0
     unfolding left

@@ -116,7 +116,7 @@ module _ (rule : ℕ → ℕ → ℕ) (small : (f v : ℕ) → f < 256 → rule 
 
         go : (b : Bool) → t.volumes (suc s) ≡ b
             → sum K t.n (λ i. mask b (mask (in_column i) (coef i s)) ⊗ difference i) ≡ 𝟘
-        go false e = S.sum-none K t.n (λ i. 𝟘 ⊗ difference i) (λ i l. S.zero_mul K (difference i))
+        go false e = S.sum-none K t.n (λ i. 𝟘 ⊗ difference i) (λ i l. S.zero-mul K (difference i))
         go true e =
             S.sum_cong K t.n (λ i. mask (in_column i) (coef i s) ⊗ difference i)
             (λ i. coef i s ⊗ cell X p i ⊕ coef i s ⊗ cell Y p i) row
@@ -211,7 +211,7 @@ module _ (rule : ℕ → ℕ → ℕ) (small : (f v : ℕ) → f < 256 → rule 
     zero_cells : (X : Contents) (s p : ℕ) → ((i : ℕ) → cell X p i ≡ 𝟘) → sum K t.n (λ i. coef i s ⊗ cell X p i) ≡ 𝟘
     zero_cells X s p h =
         S.sum-none K t.n (λ i. coef i s ⊗ cell X p i)
-        (λ i l. ap (λ (b : Byte). coef i s ⊗ b) (h i) ∙ S.mul_zero K (coef i s))
+        (λ i l. ap (λ (b : Byte). coef i s ⊗ b) (h i) ∙ S.mul-zero K (coef i s))
 
     something_sum : (s : ℕ) → s < 255 - t.n → t.volumes (suc s) ≡ true → (p : ℕ)
         → sum K t.n (λ i. coef i s ⊗ cell something p i) ≡ 𝟘

@@ -54,7 +54,7 @@ mask false b = 𝟘
 pub mask_mul : (b : Bool) (x y : Byte) → mask b x ⊗ y ≡ x ⊗ mask b y
 unfolding mask
 mask_mul true x y = refl
-mask_mul false x y = S.zero_mul K y ∙ sym (S.mul_zero K x)
+mask_mul false x y = S.zero-mul K y ∙ sym (S.mul-zero K x)
 
 pub mask_same : (b : Bool) (x : Byte) → (b ≡ false → x ≡ 𝟘) → mask b x ≡ x
 unfolding mask
@@ -109,7 +109,7 @@ module _ (rule : ℕ → ℕ → ℕ) (small : (f v : ℕ) → f < 256 → rule 
   pub rows-sum : (s : ℕ) (z : ℕ → Byte) → sum K 256 (λ i. matrix s i ⊗ z i) ≡ sum K t.n (λ i. matrix s i ⊗ z i)
   rows-sum s z =
       S.sum_first K t.n 256 (λ i. matrix s i ⊗ z i) (omega arith)
-      (λ i l h. ap (λ (x : Byte). x ⊗ z i) (matrix_off s i (in_column_past i l)) ∙ S.zero_mul K (z i))
+      (λ i l h. ap (λ (x : Byte). x ⊗ z i) (matrix_off s i (in_column_past i l)) ∙ S.zero-mul K (z i))
 
   -- ---- parity
 

@@ -61,10 +61,10 @@ module _ (rule : ℕ → ℕ → ℕ) (small : (f v : ℕ) → f < 256 → rule 
       go true h = let l = (column_file i e).0 in
           ap (λ (x : Byte). (c r ⊗ x).0) (R.matrix_present rule small t fits r i h e)
           ∙ ap (product (c r).0) (R.coef_value rule small t fits i r (omega arith))
-      go false h = ap (λ (x : Byte). (c r ⊗ x).0) (R.matrix_absent rule small t fits r i h) ∙ ap (λ (x : Byte). x.0) (S.mul_zero K (c r))
+      go false h = ap (λ (x : Byte). (c r ⊗ x).0) (R.matrix_absent rule small t fits r i h) ∙ ap (λ (x : Byte). x.0) (S.mul-zero K (c r))
 
   term_off : (c : ℕ → Byte) (r i : ℕ) → in_column i ≡ false → c r ⊗ matrix r i ≡ 𝟘
-  term_off c r i e = ap (λ (x : Byte). c r ⊗ x) (R.matrix_off rule small t fits r i e) ∙ S.mul_zero K (c r)
+  term_off c r i e = ap (λ (x : Byte). c r ⊗ x) (R.matrix_off rule small t fits r i e) ∙ S.mul-zero K (c r)
 
   column-sum : (m : ℕ) (c : ℕ → Byte) (i : ℕ) → in_column i ≡ true
       → (sum K m (λ r. c r ⊗ matrix r i)).0
@@ -122,7 +122,7 @@ module _ (rule : ℕ → ℕ → ℕ) (small : (f v : ℕ) → f < 256 → rule 
     λ r. 𝟘,
     λ i l.
         R.matrix_absent rule small t fits s i e
-        ∙ sym (S.sum-none K s (λ r. 𝟘 ⊗ matrix r i) (λ r m. S.zero_mul K (matrix r i))),
+        ∙ sym (S.sum-none K s (λ r. 𝟘 ⊗ matrix r i) (λ r m. S.zero-mul K (matrix r i))),
   )
 
   used_independent : (s : ℕ) → Used rule t (suc s) → ¬ Dependent K matrix 256 s
@@ -153,7 +153,7 @@ module _ (rule : ℕ → ℕ → ℕ) (small : (f v : ℕ) → f < 256 → rule 
   pub zero_weighs : (f : ℕ) → column t f ≡ false → Weighs f (λ s. 𝟘)
   zero_weighs f e = record {
     columns = λ g k.
-        ap (λ (x : Byte). x.0) (S.sum-none K rows (λ s. 𝟘 ⊗ matrix s g) (λ s l. S.zero_mul K (matrix s g)))
+        ap (λ (x : Byte). x.0) (S.sum-none K rows (λ s. 𝟘 ⊗ matrix s g) (λ s l. S.zero-mul K (matrix s g)))
         ∙ ap (λ (b : Bool). cond b 1 0)
         (sym (ne_eqb f (suc g) (λ z. true≢false (sym (column_file g k).1 ∙ ap (column t) (sym z) ∙ e))));
     unused = λ s l d. refl;

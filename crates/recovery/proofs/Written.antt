@@ -14,7 +14,7 @@ use native.Mathlib.Numerals.{add-one}
 use native.Mathlib.Omega.{arith}
 use native.Mathlib.Decide.{ℕ_discrete, dec_lt}
 use lib.ListN.{length, get_or, set, take, drop, length-set, length-drop, take-append-drop}
-use lib.Seq.{ext_get_or, get_or_set_same, get_or_set_other, get_or-drop}
+use lib.Seq.{ext_get_or, get_or-set_same, get_or-set_other, get_or-drop}
 use Rattle.gf256.proofs.Polynomials.{sum_below_lt}
 use Rattle.gf256.proofs.Products.{product_byte}
 use Rattle.number_sets.specs.Sets.{member}
@@ -29,18 +29,18 @@ module _ (rule : ℕ → ℕ → ℕ) (n : ℕ) (files ws room room' : List ℕ)
     of_files = λ i l b. elim (ℕ_discrete i p) [
       | yes e ↦
           at i e ∙ hf (subst (λ (k : ℕ). k < n) e b) ∙ ap (file_weight rule files ws (255 - n)) (sym e)
-      | no q ↦ get_or_set_other room' p i x 0 q ∙ W.of_files i (omega arith) b
+      | no q ↦ get_or-set_other room' p i x 0 q ∙ W.of_files i (omega arith) b
     ];
     of_volumes = λ i l b. elim (ℕ_discrete i p) [
       | yes e ↦ at i e ∙ hv (subst (λ (k : ℕ). n ≤ k) e b) ∙ ap (λ (k : ℕ). get_or ws (k - n + 1) 0) (sym e)
-      | no q ↦ get_or_set_other room' p i x 0 q ∙ W.of_volumes i (omega arith) b
+      | no q ↦ get_or-set_other room' p i x 0 q ∙ W.of_volumes i (omega arith) b
     ];
-    rest = λ i l. get_or_set_other room' p i x 0 (λ e. omega arith) ∙ W.rest i (omega arith);
+    rest = λ i l. get_or-set_other room' p i x 0 (λ e. omega arith) ∙ W.rest i (omega arith);
   }
     where
       at : (i : ℕ) → i ≡ p → get_or (set room' p x) i 0 ≡ x
       at i e = let l = W.same_length in
-          ap (λ (k : ℕ). get_or (set room' p x) k 0) e ∙ get_or_set_same room' p x 0 (omega arith)
+          ap (λ (k : ℕ). get_or (set room' p x) k 0) e ∙ get_or-set_same room' p x 0 (omega arith)
 
   pub written_file : p < n → x ≡ file_weight rule files ws (255 - n) p → Written rule n files ws room (set room' p x) (p + 1)
   written_file l e = written_more (λ b. e) (λ b. absurd (omega arith))

@@ -50,6 +50,7 @@ told_end = none refl (λ k h. h)
 
 first_one : (P : ℕ → Type 0) (ks : List ℕ) (j k : ℕ) → First P ks j → First P ks k → j ≡ k
 unfolding First
+first_one P [] j k x _ = elim x [ ]
 first_one P (i ∷ ks) j k (inl a) (inl b) = sym a.1 ∙ b.1
 first_one P (i ∷ ks) j k (inl a) (inr b) = absurd (b.0 a.0)
 first_one P (i ∷ ks) j k (inr a) (inl b) = absurd (a.0 b.0)

@@ -13,7 +13,7 @@ use native.Mathlib.Nat.{not-suc-le-zero}
 use native.Mathlib.Omega.{arith}
 use native.Mathlib.Decide.{ℕ_discrete}
 use lib.ListN.{length, get_or, take, drop, set, replicate, length-append, length-drop, length-set, length-replicate, get_or-append}
-use lib.Seq.{drop-drop, get_or_set_same, get_or_set_other, get_or-append_seam}
+use lib.Seq.{drop-drop, get_or-set_same, get_or-set_other, get_or-append_seam}
 use Rattle.text.specs.Buffer.{usize_max}
 use Rattle.text.specs.Decimal.{is_decimal, value_of}
 use Rattle.text.specs.TextLines.{word_length}
@@ -85,8 +85,8 @@ pub stored : (values : List ℕ) (count v : ℕ) (values' : List ℕ) → length
 stored values count v values' e l z =
     subst (Stored values count v) (sym z) record {
       long = length-set values count v ∙ e;
-      same = λ i a b. get_or_set_other values count i v 0 (λ h. omega arith);
-      new = λ _. get_or_set_same values count v 0 (omega arith);
+      same = λ i a b. get_or-set_other values count i v 0 (λ h. omega arith);
+      new = λ _. get_or-set_same values count v 0 (omega arith);
     }
 
 pub unstored : (values : List ℕ) (count v : ℕ) (values' : List ℕ) → length values ≡ 255 → 255 ≤ count → values' ≡ values → Stored values count v values'

@@ -12,7 +12,7 @@ use mathlib.Core.Bool.{Bool, true, false}
 use mathlib.Core.Logic.{◌⊎◌, inl, inr}
 use mathlib.Core.List.{List, [], ◌∷◌, ◌++◌, append-nil}
 use Prim.Native.Nat.{ℕ, zero, suc, ◌-◌, ◌≤◌, ◌<◌}
-use native.Mathlib.Nat.{zero_add, sub-zero, zero-sub, suc-sub-suc}
+use native.Mathlib.Nat.{zero-add, sub-zero, zero-sub, suc-sub-suc}
 use native.Mathlib.Omega.{arith}
 use borrow.Author.Tests.{ltb-true, ltb-false}
 use lib.Dec.{ltb}
@@ -48,7 +48,7 @@ abbrev pub header_of : List ℕ → List ℕ
 header_of m = sets (replicate 96 0) 0 m
 
 pub header_more : (m s : List ℕ) → sets (header_of m) (length m) s ≡ header_of (m ++ s)
-header_more m s = sym (sets_append (replicate 96 0) 0 m s ∙ ap (λ (k : ℕ). sets (header_of m) k s) (zero_add (length m)))
+header_more m s = sym (sets_append (replicate 96 0) 0 m s ∙ ap (λ (k : ℕ). sets (header_of m) k s) (zero-add (length m)))
 
 module _ (m : List ℕ) (long : 96 ≤ length m) where
   pub header_full : header_of m ≡ take 96 m

@@ -14,7 +14,7 @@ use native.Mathlib.Omega.{arith}
 use native.Mathlib.Decide.{ℕ_discrete}
 use lib.Dec.{leb}
 use lib.ListN.{length, get_or, set, replicate}
-use lib.Seq.{get_or_set_same, get_or_set_other}
+use lib.Seq.{get_or-set_same, get_or-set_other}
 use borrow.Author.Tests.{le-leb, leb-true}
 use Rattle.computed_tests.proofs.Tests.{and_both}
 use Rattle.computed_tests.proofs.Lists.{list_below_at, list_below_is}
@@ -33,8 +33,8 @@ use Rattle.volume_weights.specs.Weights.{column_in, table_of, row_of}
 pub set_below : (f : ℕ → ℕ) (l : List ℕ) (j v : ℕ) → j < length l → v ≡ f j → ((i : ℕ) → i < j → get_or l i 0 ≡ f i)
     → (i : ℕ) → i < j + 1 → get_or (set l j v) i 0 ≡ f i
 set_below f l j v b e h i m = elim (ℕ_discrete i j) [
-  | yes p ↦ ap (λ (k : ℕ). get_or (set l j v) k 0) p ∙ get_or_set_same l j v 0 b ∙ e ∙ ap f (sym p)
-  | no q ↦ get_or_set_other l j i v 0 q ∙ h i (omega arith)
+  | yes p ↦ ap (λ (k : ℕ). get_or (set l j v) k 0) p ∙ get_or-set_same l j v 0 b ∙ e ∙ ap f (sym p)
+  | no q ↦ get_or-set_other l j i v 0 q ∙ h i (omega arith)
 ]
 
 -- ---- an entry

@@ -13,12 +13,12 @@ use mathlib.Core.Logic.{◌≢◌, ⊎_elim}
 use mathlib.Core.Bool.{Bool, true, false, cond, true≢false}
 use mathlib.Core.List.{List}
 use Prim.Native.Nat.{ℕ, zero, suc, ◌<◌, ◌≤◌, ◌+◌}
-use native.Mathlib.Nat.{not-suc-le-zero, le_of_suc-le-suc, eq-or-lt_of_le, add_zero}
+use native.Mathlib.Nat.{not-suc-le-zero, le_of_suc-le-suc, eq-or-lt_of_le, add-zero}
 use native.Mathlib.Numerals.{add-one}
 use native.Mathlib.Omega.{arith}
 use native.Mathlib.Decide.{ℕ_discrete, dec_lt}
 use lib.ListN.{length, get_or, set, replicate, length-set, length-replicate}
-use lib.Seq.{get_or_set_same, get_or_set_other}
+use lib.Seq.{get_or-set_same, get_or-set_other}
 use Rattle.elimination.specs.Field.{Field, sum, δ}
 use Rattle.elimination.specs.Matrix.{Dependent, IsSolution, IsKernelVector}
 use Rattle.elimination.proofs.Sums as S
@@ -37,7 +37,7 @@ module _ (column : ℕ → Bool) where
   before-column m e = before_at m true e ∙ add-one (before m)
 
   pub before_other : (m : ℕ) → column m ≡ false → before (suc m) ≡ before m
-  before_other m e = before_at m false e ∙ add_zero (before m)
+  before_other m e = before_at m false e ∙ add-zero (before m)
 
   step : (m : ℕ) → (before m ≤ before (suc m)) × (before (suc m) ≤ suc (before m))
   step m = go (column m) refl
@@ -117,16 +117,16 @@ module _ (column : ℕ → Bool) where
         each = λ i b c. elim (ℕ_discrete i m) [
           | yes p ↦
               ap (get_at (before i)) (ap (λ (w : ℕ). set files w (m + 1)) (f.counted ∙ ap before (sym p)))
-              ∙ get_or_set_same files (before i) (m + 1) 0 (let h : before i ≡ before m = ap before p in omega arith) ∙ add-one m ∙ ap suc (sym p)
+              ∙ get_or-set_same files (before i) (m + 1) 0 (let h : before i ≡ before m = ap before p in omega arith) ∙ add-one m ∙ ap suc (sym p)
           | no q ↦
-              get_or_set_other files width (before i) (m + 1) 0 (λ z. let h = before_lt i m c (omega arith) in omega arith)
+              get_or-set_other files width (before i) (m + 1) 0 (λ z. let h = before_lt i m c (omega arith) in omega arith)
               ∙ f.each i (omega arith) c
         ];
         bytes = λ p. elim (ℕ_discrete p width) [
           | yes z ↦
               subst (λ (x : ℕ). x < 256)
-              (sym (ap (λ (k : ℕ). get_or (set files width (m + 1)) k 0) z ∙ get_or_set_same files width (m + 1) 0 (omega arith))) (omega arith)
-          | no q ↦ subst (λ (x : ℕ). x < 256) (sym (get_or_set_other files width p (m + 1) 0 q)) (f.bytes p)
+              (sym (ap (λ (k : ℕ). get_or (set files width (m + 1)) k 0) z ∙ get_or-set_same files width (m + 1) 0 (omega arith))) (omega arith)
+          | no q ↦ subst (λ (x : ℕ). x < 256) (sym (get_or-set_other files width p (m + 1) 0 q)) (f.bytes p)
         ];
       }
     where
@@ -150,7 +150,7 @@ module _ {F : Type 0} (K : Field F) (n : ℕ) (column : ℕ → Bool) (A B : ℕ
   ]
 
   times_zero : (t : ℕ) (w x : ℕ → F) → ((s : ℕ) → x s ≡ 𝟘) → sum K t (λ s. w s ⊗ x s) ≡ 𝟘
-  times_zero t w x h = S.sum-none K t (λ s. w s ⊗ x s) (λ s l. ap (λ (z : F). w s ⊗ z) (h s) ∙ S.mul_zero K (w s))
+  times_zero t w x h = S.sum-none K t (λ s. w s ⊗ x s) (λ s l. ap (λ (z : F). w s ⊗ z) (h s) ∙ S.mul-zero K (w s))
 
   times_same : (t : ℕ) (w x y : ℕ → F) → ((s : ℕ) → x s ≡ y s) → sum K t (λ s. w s ⊗ x s) ≡ sum K t (λ s. w s ⊗ y s)
   times_same t w x y h = S.sum_cong K t (λ s. w s ⊗ x s) (λ s. w s ⊗ y s) (λ s l. ap (λ (z : F). w s ⊗ z) (h s))
@@ -199,8 +199,8 @@ module _ {F : Type 0} (K : Field F) (n : ℕ) (column : ℕ → Bool) (A B : ℕ
           → sum K m (λ i. A s i ⊗ spread x i) ⊕ A s m ⊗ spread x m ≡ sum K (before column (suc m)) (λ p. B s p ⊗ x p)
       go rest true e = simp (rest, same s m h e, spread_at x m true e, before-column column m e)
       go rest false e =
-          ap₂ ◌⊕◌ rest (ap (λ (z : F). A s m ⊗ z) (spread_at x m false e) ∙ S.mul_zero K (A s m))
-          ∙ S.add_zero K _ ∙ ap (λ (k : ℕ). sum K k (λ p. B s p ⊗ x p)) (sym (before_other column m e))
+          ap₂ ◌⊕◌ rest (ap (λ (z : F). A s m ⊗ z) (spread_at x m false e) ∙ S.mul-zero K (A s m))
+          ∙ S.add-zero K _ ∙ ap (λ (k : ℕ). sum K k (λ p. B s p ⊗ x p)) (sym (before_other column m e))
 
   pub packed_kernel : (t f : ℕ) (x : ℕ → F) → column f ≡ true → IsKernelVector K B n t (before column f) x
       → IsKernelVector K A n t f (spread x)
@@ -208,7 +208,7 @@ module _ {F : Type 0} (K : Field F) (n : ℕ) (column : ℕ → Bool) (A B : ℕ
     rows = λ s l.
         gathered x s n (omega arith)
         ∙ sym (S.sum_first K (before column n) n (λ p. B s p ⊗ x p) (before_le column n)
-        (λ p b h. ap (λ (z : F). z ⊗ x p) (past s p b h) ∙ S.zero_mul K (x p)))
+        (λ p b h. ap (λ (z : F). z ⊗ x p) (past s p b h) ∙ S.zero-mul K (x p)))
         ∙ X.rows s l;
     asked = λ z. X.asked (sym (spread_at x f true ef) ∙ z);
   }

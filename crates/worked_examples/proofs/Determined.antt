@@ -57,7 +57,7 @@ module _ (rule : ℕ → ℕ → ℕ) (small : (f v : ℕ) → f < 256 → rule 
     unit : (i : ℕ) → sum K (255 - t.n) (λ s. w s ⊗ matrix s i) ≡ δ K f i
     unit i =
         S.sum_first K m (255 - t.n) (λ s. w s ⊗ matrix s i) m-small
-        (λ s l h. ap (λ (x : Byte). x ⊗ matrix s i) (past s l) ∙ S.zero_mul K (matrix s i))
+        (λ s l h. ap (λ (x : Byte). x ⊗ matrix s i) (past s l) ∙ S.zero-mul K (matrix s i))
         ∙ go (in_column i) refl
       where
         go : (b : Bool) → in_column i ≡ b → sum K m (λ s. w s ⊗ matrix s i) ≡ δ K f i
@@ -68,7 +68,7 @@ module _ (rule : ℕ → ℕ → ℕ) (small : (f v : ℕ) → f < 256 → rule 
             ∙ sums (suc i) both.0 both.1 ∙ ap (λ (b : Bool). cond b 1 0) (eqb_suc f i) ∙ sym (δ-value f i))
         go false e =
             S.sum-none K m (λ s. w s ⊗ matrix s i)
-            (λ s l. ap (λ (x : Byte). w s ⊗ x) (R.matrix_off rule small t fits s i e) ∙ S.mul_zero K (w s))
+            (λ s l. ap (λ (x : Byte). w s ⊗ x) (R.matrix_off rule small t fits s i e) ∙ S.mul-zero K (w s))
             ∙ sym (S.δ-other K f i (λ z. true≢false
             (sym (R.in_column_file rule small t fits f inside ∙ is_column) ∙ ap (R.in_column rule small t fits) z ∙ e)))
 
@@ -80,7 +80,7 @@ module _ (rule : ℕ → ℕ → ℕ) (small : (f v : ℕ) → f < 256 → rule 
         (λ g l. ap (λ (y : Byte). y ⊗ x g) (sym (unit g)))
         ∙ Solutions.by_columns K matrix 256 (255 - t.n) w x
         ∙ S.sum-none K (255 - t.n) (λ s. w s ⊗ sum K 256 (λ g. matrix s g ⊗ x g))
-        (λ s l. ap (λ (y : Byte). w s ⊗ y) (k.rows s l) ∙ S.mul_zero K (w s)))
+        (λ s l. ap (λ (y : Byte). w s ⊗ y) (k.rows s l) ∙ S.mul-zero K (w s)))
 
     pub weights_recoverable : Recoverable rule t (suc f)
     weights_recoverable = go (Solutions.decide K is_zero matrix 256 (255 - t.n) f (omega arith))
@@ -116,7 +116,7 @@ module _ (rule : ℕ → ℕ → ℕ) (small : (f v : ℕ) → f < 256 → rule 
         go true e = byte_eq (sum K 256 (λ i. matrix s i ⊗ x i)) 𝟘 (row_value s e ∙ h e)
         go false e =
             S.sum-none K 256 (λ i. matrix s i ⊗ x i)
-            (λ i l. ap (λ (y : Byte). y ⊗ x i) (R.matrix_absent rule small t fits s i e) ∙ S.zero_mul K (x i))
+            (λ i l. ap (λ (y : Byte). y ⊗ x i) (R.matrix_absent rule small t fits s i e) ∙ S.zero-mul K (x i))
 
     pub cancel_undetermined : (f : ℕ) → f < t.n → column t (suc f) ≡ true → x f ≢ 𝟘
         → ((s : ℕ) → t.volumes (suc s) ≡ true → at_row s ≡ 0) → ¬ Recoverable rule t (suc f)
@@ -138,4 +138,4 @@ module _ (rule : ℕ → ℕ → ℕ) (small : (f v : ℕ) → f < 256 → rule 
             (λ i l. ap (λ (y : Byte). y ⊗ x i) (h i l))
             ∙ Solutions.by_columns K matrix 256 s c x
             ∙ S.sum-none K s (λ r. c r ⊗ sum K 256 (λ i. matrix r i ⊗ x i))
-            (λ r l. ap (λ (y : Byte). c r ⊗ y) (row_zero r (lower r l)) ∙ S.mul_zero K (c r))))
+            (λ r l. ap (λ (y : Byte). c r ⊗ y) (row_zero r (lower r l)) ∙ S.mul-zero K (c r))))

@@ -6,7 +6,7 @@ use Prim.Native.Nat.{ℕ, ◌≤◌, ◌<◌, ◌-◌}
 use native.Mathlib.Nat.{not-suc-le-zero}
 use native.Mathlib.Omega.{arith}
 use lib.ListN.{length, get_or, length-set, get_or-replicate}
-use lib.Seq.{get_or_set_other}
+use lib.Seq.{get_or-set_other}
 use borrow.Author.Rules.{rules}
 use Rattle.parity.specs.Coefficient.{rule_of}
 use Rattle.volume_weights.proofs.CoefficientRows.{set_below}
@@ -37,7 +37,7 @@ loop-again c = let i = c.before.before.before.before in
       omega arith,
       simp length-set l.invariant.1,
       λ j h. set_below file l.row k x inside c.entry.ensures (λ j b. l.invariant.2 j (omega arith)) j (omega arith),
-      λ j h b. get_or_set_other l.row k j x 0 (λ z. omega arith) ∙ l.invariant.3 j (omega arith) b,
+      λ j h b. get_or-set_other l.row k j x 0 (λ z. omega arith) ∙ l.invariant.3 j (omega arith) b,
     )
 
 returns : tie.Need-returns invariant-loop decreases-loop
