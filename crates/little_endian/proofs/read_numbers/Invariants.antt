@@ -1,0 +1,21 @@
+-- `little_endian::read_numbers` meets its contract.
+-- Assumes nothing.
+use mathlib.Core.Path.{◌≡◌, refl, sym, ap, ◌∙◌}
+use Prim.Native.Nat.{ℕ, ◌≤◌, ◌-◌}
+use native.Mathlib.Nat.{sub-zero}
+use native.Mathlib.Omega.{arith}
+use mathlib.Core.List.{◌++◌, append-nil}
+use lib.ListN.{length, take, length-set}
+use lib.Seq.{take_all}
+use Rattle.little_endian.specs.Bytes.{numbers_at}
+use Rattle.little_endian.proofs.NumberLists.{read_more}
+use borrow.Author.Rules.{rules}
+use Rattle.little_endian.proofs.read_numbers.Given as goal
+
+abbrev pub invariant-loop-i : goal.invariant-loop-i
+invariant-loop-i l =
+    (l.i ≤ length l.initial.numbers) × (length l.numbers ≡ length l.initial.numbers)
+    × (take l.i l.numbers ++ numbers_at (length l.initial.numbers - l.i) l.s l.place ≡ numbers_at (length l.initial.numbers) l.s l.at)
+
+abbrev pub decreases-loop-i : goal.decreases-loop-i
+decreases-loop-i l = length l.initial.numbers - l.i

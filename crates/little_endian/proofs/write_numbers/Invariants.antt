@@ -1,0 +1,19 @@
+-- `little_endian::write_numbers` meets its contract.
+-- Assumes nothing.
+use mathlib.Core.Path.{◌≡◌, refl, sym, ap, ◌∙◌}
+use Prim.Native.Nat.{ℕ, ◌≤◌, ◌-◌}
+use native.Mathlib.Omega.{arith}
+use mathlib.Core.List.{List}
+use lib.ListN.{length, drop, drop_of_length-le}
+use lib.Seq.{sets, length-sets}
+use Rattle.little_endian.specs.Bytes.{numbers as numbers_of}
+use Rattle.little_endian.proofs.NumberLists.{write_more}
+use borrow.Author.Rules.{rules}
+use Rattle.little_endian.proofs.write_numbers.Given as goal
+
+abbrev pub invariant-loop-i : goal.invariant-loop-i
+invariant-loop-i l =
+    (l.i ≤ length l.numbers) × (length l.out ≡ length l.initial.out) × (sets l.out l.place (numbers_of (drop l.i l.numbers)) ≡ sets l.initial.out l.at (numbers_of l.numbers))
+
+abbrev pub decreases-loop-i : goal.decreases-loop-i
+decreases-loop-i l = length l.numbers - l.i
