@@ -6,7 +6,7 @@ ghost use Rattle.amending.specs.Plan.{span_in};
 use entries::Item;
 
 // A part of a list: where it starts, and its length.
-#[derive(Drop)]
+#[derive(Clone, Copy)]
 pub struct Span {
     pub from: usize,
     pub length: usize,

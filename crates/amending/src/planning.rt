@@ -14,7 +14,7 @@ use refusals::{Refusal, bare, or_else, test};
 
 // What an amendment changes: where the entry lies in the volume, the sizes of the list and of the new data, where the stretch lies, the
 // file's coefficient, and the new length.
-#[derive(Drop)]
+#[derive(Clone, Copy)]
 pub struct Plan {
     pub entry_at: usize,
     pub list_size: usize,
@@ -25,7 +25,7 @@ pub struct Plan {
 }
 
 // What the tests of an amendment give: what it changes, or its refusal.
-#[derive(Drop)]
+#[derive(Clone, Copy)]
 pub enum Planned {
     Amend(Plan),
     Refused(Refusal),

@@ -8,7 +8,7 @@ use crate::{HEAD_LENGTH, ROW_LENGTH};
 use par1_rules::rules;
 
 // Of a catalog: the number of its entry rows, of its volume rows, and of the saved files.
-#[derive(Drop)]
+#[derive(Clone, Copy)]
 pub struct Counts {
     pub entries: usize,
     pub volumes: usize,
@@ -16,14 +16,14 @@ pub struct Counts {
 }
 
 // What bytes begin with: a catalog, or something else.
-#[derive(Drop)]
+#[derive(Clone, Copy)]
 pub enum Found {
     Catalog(Counts),
     Other,
 }
 
 // What entry rows tell: how many files are saved, and the greatest size of one; or they are none.
-#[derive(Drop)]
+#[derive(Clone, Copy)]
 pub enum Entered {
     Rows { saved: u64, greatest: u64 },
     Other,

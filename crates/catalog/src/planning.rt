@@ -14,7 +14,7 @@ use par1_rules::layout;
 use refusals::test;
 
 // Of a catalog: the number of its rows, where the row of a volume lies or is to lie, where the rows end, and whether the row is there.
-#[derive(Drop)]
+#[derive(Clone, Copy)]
 pub struct Place {
     pub entries: usize,
     pub volumes: usize,
@@ -24,7 +24,7 @@ pub struct Place {
 }
 
 // What the tests of a change give: where the row lies, or the number of the refusal.
-#[derive(Drop)]
+#[derive(Clone, Copy)]
 pub enum Planned {
     Change(Place),
     Refused(u32),

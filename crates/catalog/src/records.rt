@@ -11,7 +11,7 @@ use refusals::bare;
 
 // A row record, as C's struct par1_row has it: the file number, 0 where the file is not saved, its size, its MD5.
 #[repr(C)]
-#[derive(Drop)]
+#[derive(Clone, Copy)]
 pub struct Row {
     pub file: u32,
     pub size: u64,

@@ -4,7 +4,7 @@ ghost use Rattle.std.specs.Prelude.{◌≡◌};
 ghost use Rattle.codes.specs.Codes.{is_code, code_of, code_number, same};
 
 // Par 1.0's own code, whose coefficients are powers, and the code of Cauchy coefficients.
-#[derive(Drop)]
+#[derive(Clone, Copy)]
 pub enum Code {
     Powers,
     Cauchy,

@@ -25,7 +25,7 @@ pub const NAME_AT: usize = 56;
 pub const MAX_DOTS: usize = 4;
 
 // The rule that an entry breaks: that on its own size, on its file's size, or on its name.
-#[derive(Drop)]
+#[derive(Clone, Copy)]
 pub enum Fault {
     Size,
     FileSize,
@@ -33,7 +33,7 @@ pub enum Fault {
 }
 
 // What a part of a list begins with: an entry, nothing, or an entry that breaks a rule.
-#[derive(Drop)]
+#[derive(Clone, Copy)]
 pub enum Item {
     Entry {
         length: usize,
@@ -45,7 +45,7 @@ pub enum Item {
 }
 
 // Of the entries of a list: their number, that of the saved ones, and the greatest size of a file that counts for the data size.
-#[derive(Drop)]
+#[derive(Clone, Copy)]
 pub struct Totals {
     pub entries: u64,
     pub saved: u64,
@@ -53,7 +53,7 @@ pub struct Totals {
 }
 
 // What the walk over a list finds: entries to its end, or the first that breaks a rule.
-#[derive(Drop)]
+#[derive(Clone, Copy)]
 pub enum Walked {
     Entries(Totals),
     Refused(Refusal),

@@ -12,7 +12,7 @@ pub use by_tables::{power_by, product_by};
 pub use tables::{exponent_table, power_table};
 
 // A byte, or the document's number of a refusal.
-#[derive(Drop)]
+#[derive(Clone, Copy)]
 pub enum ByteAnswer {
     Byte(u8),
     Refused(u32),

@@ -19,7 +19,7 @@ use refusals::{ALREADY, MAX_FILE_SIZE, MAX_FILES, OTHER_CODE, OUT_OF_RANGE, QUAR
 
 // The number of files, and four sets of numbers, one bit each: the files present, the volumes present, the files of size 1 or
 // more, and the volumes in quarantine, which are not present. Number k is bit k mod 64 of word k div 64. Last the code of the volumes.
-#[derive(Drop)]
+#[derive(Clone, Copy)]
 pub struct Inventory {
     pub n: u64,
     pub files: [u64; 4],
@@ -30,14 +30,14 @@ pub struct Inventory {
 }
 
 // The next inventory, and 0 or the number of the refusal.
-#[derive(Drop)]
+#[derive(Clone, Copy)]
 pub struct Outcome {
     pub next: Inventory,
     pub number: u32,
 }
 
 // How many files and how many volumes are present, and how many volumes are in quarantine.
-#[derive(Drop)]
+#[derive(Clone, Copy)]
 pub enum Counted {
     Counts(u32, u32, u32),
     Refused(u32),

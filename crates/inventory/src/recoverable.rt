@@ -7,7 +7,7 @@ use crate::ranges::is_inventory;
 use refusals::OUT_OF_RANGE;
 
 // The set of the missing files that are recoverable, and 0; or no file, and the number of the refusal.
-#[derive(Drop)]
+#[derive(Clone, Copy)]
 pub struct RecoverableFiles {
     pub files: [u64; 4],
     pub number: u32,

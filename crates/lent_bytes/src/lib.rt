@@ -10,7 +10,7 @@ pub use comparing::same;
 use refusals::{NO_ROOM, Refusal};
 
 // What a call that writes answers: the length written, or its refusal.
-#[derive(Drop)]
+#[derive(Clone, Copy)]
 pub enum Writing {
     Written(usize),
     Refused(Refusal),

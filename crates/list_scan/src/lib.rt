@@ -19,7 +19,7 @@ use par1_rules::{hashes, layout};
 const MAX_DOTS_SIZE: u64 = (entries::NAME_AT + entries::MAX_DOTS) as u64;
 
 // What is known of the units of a name that came: whether each is allowed, and whether each is a dot.
-#[derive(Drop)]
+#[derive(Clone, Copy)]
 pub struct NameSoFar {
     pub allowed: bool,
     pub dots: bool,
@@ -27,7 +27,7 @@ pub struct NameSoFar {
 
 // A scan of a list: the first bytes of the entry at hand; how many of its bytes came; the last of them; what is known of its name so far; the
 // totals of the entries before it; and the running hash over the saved ones.
-#[derive(Drop)]
+#[derive(Clone, Copy)]
 pub struct Scan {
     pub head: [u8; 56],
     pub at: u64,
@@ -151,7 +151,7 @@ fn after(scan: Scan, bytes: &[u8]) -> Scan
 }
 
 // A run: how many bytes of an entry are taken at once, and what is known of its name with them.
-#[derive(Drop)]
+#[derive(Clone, Copy)]
 struct Run {
     length: usize,
     named: NameSoFar,

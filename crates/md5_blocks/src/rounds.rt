@@ -4,7 +4,7 @@ ghost use Rattle.md5_blocks.specs.Rounds.{aux, rotl as rotl_of, row, operation a
 
 // The words A, B, C, D.
 #[repr(C)]
-#[derive(Drop)]
+#[derive(Clone, Copy)]
 pub struct Words {
     pub a: u32,
     pub b: u32,

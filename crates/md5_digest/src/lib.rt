@@ -28,7 +28,7 @@ pub fn digest_into(bytes: &[u8], out: &mut [u8]) -> u32
 // A running hash: the words after the whole blocks so far; the bytes that wait for their block to be full, of which there are
 // total % 64, then zeros; and how many bytes there were, modulo 2^64.
 #[repr(C)]
-#[derive(Drop)]
+#[derive(Clone, Copy)]
 pub struct Md5 {
     pub words: Words,
     pub tail: [u8; 64],
@@ -105,7 +105,7 @@ impl Md5 {
 }
 
 // The padding of a message: the first `len` of the bytes.
-#[derive(Drop)]
+#[derive(Clone, Copy)]
 struct Padding {
     bytes: [u8; 72],
     len: usize,

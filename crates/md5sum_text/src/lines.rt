@@ -17,14 +17,14 @@ const LINE_NAME_AT: usize = 34;
 const MIN_LINE_LENGTH: usize = 36;
 
 // The lines of the right shape that a text begins with: how many there are, and where they end.
-#[derive(Drop)]
+#[derive(Clone, Copy)]
 pub struct Shapes {
     pub count: u64,
     pub end: usize,
 }
 
 // A line of a text: its number, from 0, and where it stands.
-#[derive(Drop)]
+#[derive(Clone, Copy)]
 pub struct Place {
     pub number: u64,
     pub at: usize,

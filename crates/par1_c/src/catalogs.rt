@@ -9,7 +9,7 @@ use catalog::Row;
 use lent_bytes::Writing;
 
 // What a load answers, and how many records it fills.
-#[derive(Drop)]
+#[derive(Clone, Copy)]
 pub struct LoadPlan {
     pub answer: u64,
     pub count: usize,

@@ -10,7 +10,7 @@ use refusals::{Refusal, bare, or_else, test};
 
 // The parts of an accepted file: program identifier, volume number (0 for the index), number of entries and of saved ones, where
 // list and data lie, and the code. The list starts at byte 96.
-#[derive(Drop)]
+#[derive(Clone, Copy)]
 pub struct Parts {
     pub program: u32,
     pub number: u64,
@@ -23,7 +23,7 @@ pub struct Parts {
 }
 
 // What reading a file gives: its parts, or the refusal by the first test that holds.
-#[derive(Drop)]
+#[derive(Clone, Copy)]
 pub enum Reading {
     Accepted(Parts),
     Refused(Refusal),

@@ -15,7 +15,7 @@ use volume_weights::{Solution, file_weights, solved_columns};
 const WEIGHTS: usize = 255;
 
 // What is known of a file; where it is recoverable its weights are in the lent bytes.
-#[derive(Drop)]
+#[derive(Clone, Copy)]
 pub enum Answer {
     Present,
     Recoverable,

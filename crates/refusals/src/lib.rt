@@ -108,7 +108,7 @@ pub const CATALOG: u32 = 30;
 
 // A refusal: its number, and the place, from 1, of the entry in its list or of the line in its text that it is about; 0 where there is none. The
 // number 0 is no refusal.
-#[derive(Drop)]
+#[derive(Clone, Copy)]
 pub struct Refusal {
     pub number: u32,
     pub place: u64,

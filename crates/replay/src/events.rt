@@ -12,7 +12,7 @@ use text::{is_decimal, line_length, value_of};
 
 // What an event gave: 0 or the number of its refusal, whether the replay is over, where the next line starts, and what is present.
 // Over with 0 is the end of the log.
-#[derive(Drop)]
+#[derive(Clone, Copy)]
 pub struct Event {
     pub number: u32,
     pub over: bool,

@@ -10,7 +10,7 @@ use text::{is_decimal, value_of, word_length};
 const MOST: usize = MAX_FILES as usize + 1;
 
 // Whether a first line has its shape, and what opening by its numbers gives.
-#[derive(Drop)]
+#[derive(Clone, Copy)]
 pub struct LineOpening {
     pub shaped: bool,
     pub outcome: Outcome,
@@ -42,7 +42,7 @@ pub fn open_line(line: &[u8]) -> LineOpening
 }
 
 // The numbers of a line: whether each word is one, how many there are, and the first of them, each cut to 64 bits.
-#[derive(Drop)]
+#[derive(Clone, Copy)]
 struct Numbers {
     shaped: bool,
     count: usize,

@@ -8,7 +8,7 @@ use refusals::JOB;
 
 // The job, as C's struct par1_hash has it: integers only and no padding, 96 bytes, so that whatever bytes it has, a call answers.
 #[repr(C)]
-#[derive(Drop)]
+#[derive(Clone, Copy)]
 pub struct RunningHash {
     pub hash: Md5,
     // 0 while the job runs, else it is over
@@ -16,7 +16,7 @@ pub struct RunningHash {
 }
 
 // What a call answers: 0 or its refusal; and the job that it leaves.
-#[derive(Drop)]
+#[derive(Clone, Copy)]
 pub struct Outcome {
     pub number: u32,
     pub next: RunningHash,

@@ -6,7 +6,7 @@ ghost use Rattle.running_mul_add.specs.Running.{mul_add_at, position_after, star
 use refusals::JOB;
 
 // A running mul_add: its weight, the place in the buffer where the next chunk goes on, and whether it is over.
-#[derive(Drop)]
+#[derive(Clone, Copy)]
 pub struct RunningMulAdd {
     pub weight: u8,
     pub position: u64,
@@ -14,7 +14,7 @@ pub struct RunningMulAdd {
 }
 
 // What a call on a running mul_add answers: 0, or 20 where it is over; and the job after it.
-#[derive(Drop)]
+#[derive(Clone, Copy)]
 pub struct Outcome {
     pub number: u32,
     pub next: RunningMulAdd,

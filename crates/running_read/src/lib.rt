@@ -14,7 +14,7 @@ const CAP: u64 = MAX_VOLUME_LENGTH as u64 + 1;
 
 // A file that is being read: how many bytes came, as far as the cap; the header, with zeros where it has not come; the hash of the bytes
 // from 32 on; the scan of the list; and whether the job is over.
-#[derive(Drop)]
+#[derive(Clone, Copy)]
 pub struct RunningRead {
     pub total: u64,
     pub header: [u8; 96],
@@ -24,14 +24,14 @@ pub struct RunningRead {
 }
 
 // What a push gives: 0 and the job after it, or 20 and the job as it was.
-#[derive(Drop)]
+#[derive(Clone, Copy)]
 pub struct Pushed {
     pub number: u32,
     pub next: RunningRead,
 }
 
 // What an end gives: what reading all the bytes gives and the job, which is over; or the refusal 20 and the job as it was.
-#[derive(Drop)]
+#[derive(Clone, Copy)]
 pub struct Ended {
     pub reading: Reading,
     pub next: RunningRead,
@@ -39,7 +39,7 @@ pub struct Ended {
 
 // What a job counts: the bytes that came, those that the control hash has, those of the entry at hand, the entries, the saved ones, and the bytes
 // that the set hash has; and whether it is over.
-#[derive(Drop)]
+#[derive(Clone, Copy)]
 struct Counts {
     total: u64,
     control: u64,

@@ -18,7 +18,7 @@ use parity::coefficient_by;
 pub use solved::solved_columns;
 
 // Whether weights bring a missing file back, and these weights by volume number; zeros where none do.
-#[derive(Drop)]
+#[derive(Clone, Copy)]
 pub struct Solution {
     pub found: bool,
     pub weights: [u8; 256],
@@ -61,7 +61,7 @@ pub fn solve(
 }
 
 // The columns side by side: their files, and how many they are. What stands past them means nothing.
-#[derive(Drop)]
+#[derive(Clone, Copy)]
 struct ColumnFiles {
     files: [u8; 256],
     width: u8,
