@@ -1,5 +1,6 @@
 // MD5 (RFC 1321) of any bytes: at once, into lent bytes, or by a running hash that takes the message in parts.
 #![tactic(auto)]
+
 ghost use Rattle.std.specs.Prelude.{◌≡◌, ◌+◌, ◌≤◌, [], ◌++◌, length, take};
 ghost use Rattle.std.proofs.Math.Seq.{paste};
 ghost use Rattle.std.proofs.lemmas.List.Edits.{sets};

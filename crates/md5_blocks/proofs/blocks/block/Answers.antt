@@ -1,6 +1,6 @@
 -- `md5_blocks::blocks::block` meets its contract.
 -- Assumes nothing.
-use Rattle.std.proofs.Common.{ℕ, List, ap, ◌∙◌, ap₂, rules}
+use Rattle.std.proofs.Common.{ℕ, List, ap, ◌∙◌, ap₂}
 use Rattle.md5_blocks.specs.declared.rounds.Words.{Words}
 use Rattle.md5_blocks.specs.Rounds.{steps}
 use Rattle.md5_blocks.specs.Blocks.{plus, compress}

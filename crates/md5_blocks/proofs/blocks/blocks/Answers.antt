@@ -1,6 +1,6 @@
 -- `md5_blocks::blocks::blocks` meets its contract.
 -- Assumes nothing.
-use Rattle.std.proofs.Common.{◌≡◌, ℕ, ◌+◌, ◌-◌, ◌<◌, ◌≤◌, List, length, drop, sym, refl, ◌∙◌, ap₂, arith, length-drop, drop-drop, rules}
+use Rattle.std.proofs.Common.{◌≡◌, ℕ, ◌+◌, ◌-◌, ◌<◌, ◌≤◌, List, length, drop, sym, refl, ◌∙◌, ap₂, arith, length-drop, drop-drop}
 use Rattle.md5_blocks.specs.declared.rounds.Words.{Words}
 use Rattle.md5_blocks.specs.Blocks.{all_blocks}
 use Rattle.md5_blocks.proofs.BlockLaws.{all_short, all_more}

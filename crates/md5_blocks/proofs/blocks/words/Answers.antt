@@ -1,6 +1,6 @@
 -- `md5_blocks::blocks::words` meets its contract.
 -- Assumes nothing.
-use Rattle.std.proofs.Common.{◌≡◌, ℕ, ◌-◌, ◌≤◌, List, [], ◌∷◌, ◌++◌, length, take, sym, refl, ◌∙◌, ap₂, add-one, arith, length-set, take_all, take-suc-set, rules}
+use Rattle.std.proofs.Common.{◌≡◌, ℕ, List, [], ◌∷◌, ◌++◌, sym, refl, ◌∙◌, ap₂, add-one, arith, length-set, take_all, take-suc-set}
 use Rattle.md5_blocks.specs.Blocks.{words_of}
 use Rattle.md5_blocks.proofs.blocks.words.Goals as goal
 

@@ -1,7 +1,6 @@
 -- `md5_blocks::rounds::four` meets its contract.
 -- Assumes nothing.
 use Rattle.md5_blocks.proofs.Steps.{four_steps}
-use Rattle.std.proofs.Common.{rules}
 use Rattle.md5_blocks.proofs.rounds.four.Goals as goal
 
 pub returns : goal.returns

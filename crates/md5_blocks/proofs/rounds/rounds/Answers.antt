@@ -1,7 +1,6 @@
 -- `md5_blocks::rounds::rounds` meets its contract.
 -- Assumes nothing.
 use Rattle.md5_blocks.proofs.Steps.{four_times}
-use Rattle.std.proofs.Common.{rules}
 use Rattle.md5_blocks.proofs.rounds.rounds.Goals as goal
 
 pub returns : goal.returns

@@ -1,7 +1,6 @@
 -- `md5_blocks::rounds::shift` meets its contract.
 -- Assumes nothing.
 use Rattle.md5_blocks.proofs.Rows.{in_round_1, in_round_2, in_round_3, in_round_4, shift_is}
-use Rattle.std.proofs.Common.{rules}
 use Rattle.md5_blocks.proofs.rounds.shift.Goals as goal
 
 pub returns-then-j-lt16 : goal.returns-then-j-lt16

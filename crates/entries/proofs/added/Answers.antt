@@ -1,0 +1,14 @@
+-- `entries::added` meets its contract: each field of the totals by the function for it.
+-- Assumes nothing.
+use native.Mathlib.Omega.{arith}
+use Rattle.entries.specs.Walk.{add_entry}
+use Rattle.entries.proofs.WalkLaws.{saved_most}
+use borrow.Author.Rules.{rules}
+use Rattle.entries.proofs.added.Goals as goal
+
+pub overflow_add-result-2 : goal.overflow_add-result-2
+overflow_add-result-2 c = omega (arith, c.saved_count.ensures, saved_most c.args.status)
+
+pub returns : goal.returns
+unfolding add_entry
+returns c = cc
