@@ -24,9 +24,6 @@ use native.Mathlib.Nat.{eq-zero-or-pos}
 use native.Mathlib.Omega.{arith}
 use lib.ListN.{length, take, drop, length-drop}
 use lib.Seq.{drop-drop, length-take-le}
-use types.Run.{OneOf}
-use denote.Enum.Declared.{tag_of}
-use Rattle.entries.specs.contracts.Item.{the_type}
 use Rattle.cut_lists.specs.All.{All}
 use Rattle.cut_lists.specs.Pieces.{Cut, before}
 use Rattle.cut_lists.proofs.CutLaws.{cut-none, cut_stop, cut_more, cut_induct, cut_all}
@@ -49,16 +46,15 @@ entries_more {s} i =
     ∙ ap (λ (k : ℕ). before (take k s) (entries_of (drop k s))) i.length_is
 
 -- no entry more: the item at the front is the end or a fault, as the else of `let Item::Entry { .. } = item else` tells
-pub length_none : (s : List ℕ) (i : Item) → i ≡ first_of s → OneOf (1 ∷ 2 ∷ []) (tag_of the_type i) → length_of s ≡ 0
-length_none s (item.Entry n status size) e (inl k) = absurd (omega arith)
-length_none s (item.Entry n status size) e (inr k) = absurd (omega arith)
+pub length_none : (s : List ℕ) (i : Item) → i ≡ first_of s → ((n status size : ℕ) → i ≡ item.Entry n status size → ⊥) → length_of s ≡ 0
+length_none s (item.Entry n status size) e k = absurd (k n status size refl)
 length_none s item.End e k = elim (eq-zero-or-pos (length_of s)) [
   | inl z ↦ z
   | inr some ↦ let z = length_sized s some in absurd (omega (arith, z.1, z.2, ap length (is_end e)))
 ]
 length_none s (item.Fault f) e k = (is_fault e).length_zero
 
-pub entries_none : (s : List ℕ) (i : Item) → i ≡ first_of s → OneOf (1 ∷ 2 ∷ []) (tag_of the_type i) → (entries_of s).pieces ≡ []
+pub entries_none : (s : List ℕ) (i : Item) → i ≡ first_of s → ((n status size : ℕ) → i ≡ item.Entry n status size → ⊥) → (entries_of s).pieces ≡ []
 entries_none s i e k = ap (λ (c : Cut). c.pieces) (cut_stop length_of s (length_none s i e k))
 
 -- an entry of n bytes stands at the position

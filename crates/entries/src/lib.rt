@@ -1,5 +1,6 @@
 // The entries of a Par 1.0 list (document 01, "Byte layout"): the first entry of a part of a list, and the walk over a whole one.
 #![tactic(auto)]
+
 ghost use Rattle.std.specs.Prelude.{◌≡◌, cond, ◌+◌, ◌%◌, ◌<◌, ◌≤◌, ◌^◌, max, length, drop};
 ghost use Rattle.entries.specs.Entry.{unit_allowed, is_dot, units_allowed, only_dots, is_dots, name_allowed, units_of};
 ghost use Rattle.entries.specs.Entry.{entry_size_allowed, is_saved, saved_count, is_counted, length_of};

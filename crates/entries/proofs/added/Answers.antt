@@ -3,7 +3,6 @@
 use native.Mathlib.Omega.{arith}
 use Rattle.entries.specs.Walk.{add_entry}
 use Rattle.entries.proofs.WalkLaws.{saved_most}
-use borrow.Author.Rules.{rules}
 use Rattle.entries.proofs.added.Goals as goal
 
 pub overflow_add-result-2 : goal.overflow_add-result-2

@@ -6,7 +6,6 @@ use lib.ListN.{length-drop}
 use Rattle.lent_bytes.proofs.PartLaws.{part_to_end}
 use Rattle.entries.specs.Walk.{first_of}
 use Rattle.entries.proofs.EntryLaws.{first_end}
-use borrow.Author.Rules.{rules}
 use Rattle.entries.proofs.at.Goals as goal
 
 pub returns-then-list-from : goal.returns-then-list-from

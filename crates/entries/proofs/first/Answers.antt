@@ -12,7 +12,6 @@ use Rattle.entries.proofs.EntryLaws.{Sized, sized, first_end, first_size, first_
 use borrow.Author.Tests.{not-true, not-false, le-leb, lt-leb}
 use Rattle.lent_bytes.proofs.PartLaws.{part_to_end}
 use lib.Seq.{length-take-le}
-use borrow.Author.Rules.{rules}
 use Rattle.entries.proofs.first.Goals as goal
 
 pub returns-then-list-eq0 : goal.returns-then-list-eq0

@@ -1,7 +1,6 @@
 -- `entries::greatest_after` meets its contract: the two cases of whether the entry counts.
 -- Assumes nothing.
 use mathlib.Core.Path.{sym, ◌∙◌}
-use borrow.Author.Rules.{rules}
 use Rattle.entries.proofs.greatest_after.Goals as goal
 
 pub returns-then-is_counted : goal.returns-then-is_counted

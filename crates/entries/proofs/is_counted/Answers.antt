@@ -1,6 +1,5 @@
 -- `entries::is_counted` meets its contract: a saved entry counts.
 -- Assumes nothing.
-use borrow.Author.Rules.{rules}
 use Rattle.entries.specs.Entry.{is_counted}
 use Rattle.entries.proofs.is_counted.Goals as goal
 

@@ -2,11 +2,8 @@
 -- Assumes nothing.
 use mathlib.Core.Path.{sym, ◌∙◌}
 use native.Mathlib.Omega.{arith}
-use mathlib.Core.List.{List}
-use Prim.Native.Nat.{ℕ}
 use Rattle.entries.specs.Entry.{units_of}
 use Rattle.entries.proofs.NameLaws.{length_units, dots_short, dots_long}
-use borrow.Author.Rules.{rules}
 use Rattle.entries.proofs.is_dots.Goals as goal
 
 pub returns-then-name-gt-MAX_DOTS : goal.returns-then-name-gt-MAX_DOTS

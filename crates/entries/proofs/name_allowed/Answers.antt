@@ -6,7 +6,6 @@ use mathlib.Core.Bool.{not, ◌&&◌, and-false}
 use borrow.Author.Tests.{ne_eqb, lt-leb, le-leb, not-true, not-false}
 use Rattle.entries.specs.Entry.{units_of, units_allowed, is_dots, name_allowed}
 use Rattle.entries.proofs.NameLaws.{name_units_lem}
-use borrow.Author.Rules.{rules}
 use Rattle.entries.proofs.name_allowed.Goals as goal
 
 pub returns-then-name-lt2 : goal.returns-then-name-lt2

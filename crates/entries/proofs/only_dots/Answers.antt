@@ -1,13 +1,10 @@
 -- `entries::only_dots` meets its contract. The loop's invariant: the units that remain decide.
 -- Assumes nothing.
 use mathlib.Core.Bool.{not}
-use mathlib.Core.Path.{◌≡◌, refl, ap, ◌∙◌}
-use Prim.Native.Nat.{◌≤◌, ◌-◌}
+use mathlib.Core.Path.{ap, ◌∙◌}
 use native.Mathlib.Omega.{arith}
-use lib.ListN.{length, drop}
-use borrow.Author.Rules.{rules}
 use Rattle.lent_bytes.proofs.EachLaws.{each_over, each_stops, each_goes}
-use Rattle.entries.specs.Entry.{units_of, is_dot, only_dots}
+use Rattle.entries.specs.Entry.{is_dot}
 use Rattle.entries.proofs.NameLaws.{units_none, units_more}
 use Rattle.entries.proofs.only_dots.Goals as goal
 

@@ -1,6 +1,5 @@
 -- `entries::refusal_at` meets its contract.
 -- Assumes nothing.
-use borrow.Author.Rules.{rules}
 use Rattle.entries.proofs.refusal_at.Goals as goal
 
 pub returns : goal.returns

@@ -1,7 +1,6 @@
 -- `entries::saved_count` meets its contract: the two cases of whether the entry is saved.
 -- Assumes nothing.
 use mathlib.Core.Path.{sym, ◌∙◌}
-use borrow.Author.Rules.{rules}
 use Rattle.entries.proofs.saved_count.Goals as goal
 
 pub returns-then-is_saved : goal.returns-then-is_saved

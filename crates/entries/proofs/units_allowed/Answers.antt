@@ -1,13 +1,10 @@
 -- `entries::units_allowed` meets its contract. The loop's invariant: the rule on the units that remain decides.
 -- Assumes nothing.
 use mathlib.Core.Bool.{not}
-use mathlib.Core.Path.{◌≡◌, refl, ap, ◌∙◌}
-use Prim.Native.Nat.{◌≤◌, ◌-◌}
+use mathlib.Core.Path.{ap, ◌∙◌}
 use native.Mathlib.Omega.{arith}
-use lib.ListN.{length, drop}
-use borrow.Author.Rules.{rules}
 use Rattle.lent_bytes.proofs.EachLaws.{each_over, each_stops, each_goes}
-use Rattle.entries.specs.Entry.{units_of, unit_allowed, units_allowed}
+use Rattle.entries.specs.Entry.{unit_allowed}
 use Rattle.entries.proofs.NameLaws.{units_none, units_more}
 use Rattle.entries.proofs.units_allowed.Goals as goal
 

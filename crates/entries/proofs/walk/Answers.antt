@@ -1,16 +1,13 @@
 -- `entries::walk` meets its contract. The loop's invariant: the walk over what remains, from the totals so far, is the whole walk.
 -- Assumes nothing.
-use mathlib.Core.Path.{◌≡◌, sym, ap, ap₂, ◌∙◌}
-use Prim.Native.Nat.{◌≤◌, ◌-◌}
+use mathlib.Core.Path.{sym, ap, ap₂, ◌∙◌}
 use native.Mathlib.Omega.{arith}
-use lib.ListN.{length, drop}
 use mathlib.Core.List.{List}
-use Rattle.entries.specs.Walk.{entries_of, walk_of}
+use Rattle.entries.specs.Walk.{entries_of}
 use Rattle.entries.specs.declared.Totals.{Totals}
 use Rattle.entries.specs.declared.Walked.TheVariants as walked
 use Rattle.entries.proofs.EntryLaws.{is_end, is_fault, EntryAt, entry_at}
 use Rattle.entries.proofs.WalkLaws.{walk_from, walk_start, walk_more, walk_end, walk_fault, add_added}
-use borrow.Author.Rules.{rules}
 use Rattle.entries.proofs.walk.Goals as goal
 
 pub loop-length-init : goal.loop-length-init
