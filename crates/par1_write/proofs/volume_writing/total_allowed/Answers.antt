@@ -8,10 +8,10 @@ use borrow.Author.Rules.{rules}
 use Rattle.par1_write.proofs.volume_writing.total_allowed.Goals as goal
 
 pub returns-then-list_len-most : goal.returns-then-list_len-most
-returns-then-list_len-most c = let a = c.args in sym (too_long (96 + a.list-len + a.data-len) (omega arith))
+returns-then-list_len-most c = let a = c.args in sym (too_long (96 + a.list_len + a.data_len) (omega arith))
 
 pub returns-then-data_len-most : goal.returns-then-data_len-most
-returns-then-data_len-most c = let a = c.args in sym (too_long (96 + a.list-len + a.data-len) (omega arith))
+returns-then-data_len-most c = let a = c.args in sym (too_long (96 + a.list_len + a.data_len) (omega arith))
 
 pub returns : goal.returns
-returns c = let a = c.args in sym (long_enough (96 + a.list-len + a.data-len) (omega arith) (omega arith))
+returns c = let a = c.args in sym (long_enough (96 + a.list_len + a.data_len) (omega arith) (omega arith))
