@@ -1,5 +1,6 @@
 // Cauchy coefficients of files in volumes (document 02, 2026-13). The calls for a coefficient are those of crate `parity`.
 #![tactic(auto)]
+
 ghost use Rattle.std.specs.Prelude.{◌≡◌};
 ghost use Rattle.cauchy.specs.Cauchy.{cauchy_by};
 

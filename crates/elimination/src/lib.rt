@@ -5,6 +5,7 @@
 // columns are wanted, the others are 0 in each row, and a row takes the time of n columns, rounded up to blocks of 16. The
 // matrix takes 65,536 bytes of the caller's stack.
 #![tactic(auto)]
+
 ghost use Rattle.std.specs.Prelude.{◌≡◌, ℕ, ◌+◌, ◌<◌, ◌≤◌, length, get_or};
 ghost use Rattle.computed_tests.specs.Lists.{list_below};
 ghost use Rattle.gf256.specs.Tables.{powers_of_2, IsExponents};

@@ -1,5 +1,6 @@
 // The addition of a multiple of a fragment to a buffer (document 01, "The parity bytes": folding).
 #![tactic(auto)]
+
 ghost use Rattle.std.specs.Prelude.{◌≡◌, [], ◌∷◌, ◌*◌, ◌<◌, min, get_or};
 ghost use Rattle.gf256.specs.Polynomial.{coeff, sum_below};
 ghost use Rattle.gf256.specs.Tables.{eight_from};

@@ -1,6 +1,7 @@
 // Coefficients of files in volumes (document 01, "The parity bytes"; document 02, 2026-13). The parity that they make is defined in
 // specs/.
 #![tactic(auto)]
+
 ghost use Rattle.std.specs.Prelude.{◌≡◌};
 ghost use Rattle.parity.specs.Coefficient.{rule_of, coefficient_by, coefficient_answer};
 

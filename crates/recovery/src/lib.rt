@@ -1,6 +1,7 @@
 // Whether a missing file comes back, and by which weights (document 01, "The sheet": ask; document 02, 2026-11), of sets of files and volumes.
 // Of n files those of the set `files` are present, and those of `nonempty` are of size 1 or more; `volumes` are those present.
 #![tactic(auto)]
+
 ghost use Rattle.std.specs.Prelude.{◌≡◌, not, ◌&&◌, suc, ◌≤◌, length};
 ghost use Rattle.number_sets.specs.Sets.{gathered};
 ghost use Rattle.parity.specs.Coefficient.{rule_of};

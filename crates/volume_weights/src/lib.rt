@@ -1,6 +1,7 @@
 // Weights of the volumes present that bring a missing file back (document 01, "The sheet": the recipe), and what the files present
 // then weigh. The rule of the coefficients is that of the code, `parity::coefficient_by`.
 #![tactic(auto)]
+
 ghost use Rattle.std.specs.Prelude.{◌≡◌, not, cond, ◌&&◌, suc, ◌<◌, ◌≤◌, eqb, get_or, replicate};
 ghost use Rattle.computed_tests.specs.Lists.{list_below, first_below};
 ghost use Rattle.gf256.specs.Tables.{powers_of_2, IsExponents};

@@ -1,14 +1,11 @@
 -- `mul_add::add_multiples` meets its contract. The invariant: the buffer has the first `p` bytes of the fragment.
 -- The measure is what is left of the shorter.
 -- Assumes nothing.
-use mathlib.Core.Path.{◌≡◌, refl, ◌∙◌}
+use mathlib.Core.Path.{◌≡◌}
 use mathlib.Core.List.{[], ◌∷◌}
 use Prim.Native.Nat.{◌≤◌, ◌-◌}
-use native.Mathlib.Omega.{arith}
-use lib.ListN.{length, take, length-set}
-use borrow.Author.Rules.{rules}
+use lib.ListN.{length, take}
 use Rattle.mul_add.specs.MulAdd.{add_multiples}
-use Rattle.mul_add.proofs.Steps.{add_multiples-none, add_multiples_more, add_multiples_all}
 use Rattle.mul_add.proofs.add_multiples.Given as goal
 
 abbrev pub invariant-loop-p : goal.invariant-loop-p

@@ -1,7 +1,5 @@
 -- `mul_add::add_powers` meets its contract.
 -- Assumes nothing.
-use native.Mathlib.Omega.{arith}
-use borrow.Author.Rules.{rules}
 use Rattle.mul_add.proofs.Multiples.{eight_in_a_row}
 use Rattle.mul_add.proofs.add_powers.Goals as goal
 

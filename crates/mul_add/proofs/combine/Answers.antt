@@ -1,6 +1,5 @@
 -- `mul_add::combine` meets its contract: a choice for each bit.
 -- Assumes nothing.
-use borrow.Author.Rules.{rules}
 use Rattle.mul_add.proofs.Bits.{eight_choices}
 use Rattle.mul_add.proofs.combine.Goals as goal
 

@@ -3,7 +3,6 @@
 use mathlib.Core.Path.{sym, ap}
 use mathlib.Core.Bool.{Bool, cond}
 use lib.ListN.{get_or}
-use borrow.Author.Rules.{rules}
 use borrow.Author.Tests.{eq-eqb}
 use Rattle.gf256.specs.Tables.{eight_from}
 use Rattle.mul_add.specs.MulAdd.{mul_add_by, add_multiples}
