@@ -1,6 +1,7 @@
 // Text into the caller's buffer, and the reading of lines, words and numbers. A put writes while its position is inside the buffer
 // and always moves on, so the same calls on an empty buffer measure what they write into a long one.
 #![tactic(auto)]
+
 ghost use Rattle.std.specs.Prelude.{◌≡◌, [], ◌∷◌, ◌+◌, ◌<◌, min};
 ghost use Rattle.text.specs.Buffer.{buffer, usize_max, put as put_of};
 ghost use Rattle.text.specs.Decimal.{decimal, field};
