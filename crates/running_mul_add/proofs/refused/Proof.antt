@@ -1,8 +1,0 @@
--- `running_mul_add::refused` meets its contract.
--- Assumes nothing.
-use mathlib.Core.Path.{refl}
-use Rattle.running_mul_add.proofs.refused.Statement.{statement}
-use Rattle.running_mul_add.proofs.refused.Tie as tie
-
-pub refused-spec : {M : Type 1} → statement M
-refused-spec = tie.close (tie.spec (λ c. refl))
