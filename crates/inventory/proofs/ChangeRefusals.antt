@@ -1,7 +1,7 @@
 -- Which changes are refused, and by which test (document 01, "The sheet"; document 02, 2026-10, 2026-13).
 --
 --   decides_not               a test that fails where something is found
---   range_decides             test 10
+--   range_back, range_decides     test 10
 --   code_found, code_back, aside_found, aside_back, done_found, done_back     tests 29, 27 and 11, both ways
 --   chained                   the step's number is that of the tests one after another
 --   change_told               the model's number of a change is that of the first test that holds
@@ -41,11 +41,11 @@ neither false true e = absurd (false≢true e)
 neither false false e = (refl, refl)
 
 module _ (t : State) where
+  range_back : (c : Change) (j : ℕ) → ChangeFails t c j 10 → in_range c t.n j ≡ false
+  range_back c j (out_of_range o) = (range_exactly t.n c j).1 o
+
   range_decides : (c : Change) (j : ℕ) → Decides (in_range c t.n j) (ChangeFails t c j 10)
-  range_decides c j = decides_by (in_range c t.n j) (λ e f. true≢false (sym e ∙ back f)) (λ e. out_of_range ((range_exactly t.n c j).0 e))
-    where
-      back : ChangeFails t c j 10 → in_range c t.n j ≡ false
-      back (out_of_range o) = (range_exactly t.n c j).1 o
+  range_decides c j = decides_by (in_range c t.n j) (λ e f. true≢false (sym e ∙ range_back c j f)) (λ e. out_of_range ((range_exactly t.n c j).0 e))
 
   code_found : (c : Change) (j : ℕ) → of_other_code c t.code ≡ true → ChangeFails t c j 29
   unfolding of_other_code
@@ -58,6 +58,11 @@ module _ (t : State) where
 
   code_back : (c : Change) (j : ℕ) → ChangeFails t c j 29 → of_other_code c t.code ≡ true
   unfolding of_other_code
+  code_back add_file j x = elim x [ ]
+  code_back remove_file j x = elim x [ ]
+  code_back remove_volume j x = elim x [ ]
+  code_back quarantine j x = elim x [ ]
+  code_back release j x = elim x [ ]
   code_back (add_volume d) j (other_code h) = by (same d t.code) refl
     where
       by : (b : Bool) → same d t.code ≡ b → not b ≡ true
@@ -75,7 +80,12 @@ module _ (t : State) where
 
   aside_back : (c : Change) (j : ℕ) → ChangeFails t c j 27 → while_quarantined c t.quarantined j ≡ true
   unfolding while_quarantined
+  aside_back add_file j x = elim x [ ]
+  aside_back remove_file j x = elim x [ ]
   aside_back (add_volume d) j (in_quarantine e) = e
+  aside_back remove_volume j x = elim x [ ]
+  aside_back quarantine j x = elim x [ ]
+  aside_back release j x = elim x [ ]
 
   done_found : (c : Change) (j : ℕ) → already c t.files t.volumes t.quarantined j ≡ true → ChangeFails t c j 11
   unfolding already

@@ -5,7 +5,7 @@ mod Queries
 mod ChangeNumbers
 pub mod ModelSets
 pub mod Sizes
-pub mod RecoverableFiles
+pub mod RecoverableSets
 pub mod Calls
 mod Beside
 mod Inside

@@ -21,7 +21,7 @@ use Rattle.computed_tests.proofs.Tests.{and_both, one_to_in, one_to_outside, one
 use Rattle.codes.specs.declared.Code.{Code}
 use Rattle.parity.specs.Parity.{is_file}
 use Rattle.number_sets.specs.Sets.{member, inserted, Words}
-use Rattle.inventory.specs.Model.{opened, next}
+use Rattle.inventory.specs.Model.{opened}
 use Rattle.inventory.specs.Steps.{zeros, nonempty_of, fresh, outcome, refused_opening, open_step}
 use Rattle.inventory.specs.Claim.{size_in, OpeningNumbers}
 use Rattle.inventory.specs.declared.Outcome.{Outcome}

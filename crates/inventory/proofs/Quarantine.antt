@@ -15,7 +15,6 @@ use Prim.Native.Nat.{ℕ, suc, ◌<◌, ◌≤◌}
 use native.Mathlib.Omega.{arith}
 use lib.Dec.{eqb}
 use borrow.Author.Tests.{ne_eqb}
-use Rattle.codes.specs.Codes.{same}
 use Rattle.codes.specs.declared.Code.{Code}
 use Rattle.codes.proofs.CodeLaws.{same_itself}
 use Rattle.parity.specs.Coefficient.{rule_of}

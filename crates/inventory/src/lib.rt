@@ -1,6 +1,7 @@
 // What of a set of files and parity volumes is present, and which missing files come back (document 01, "The sheet"; document 02, 2026-10,
 // 2026-13).
 #![tactic(auto)]
+
 ghost use Rattle.std.specs.Prelude.{◌≡◌, ◌||◌};
 ghost use Rattle.inventory.specs.Model.{add_file, remove_file, add_volume, remove_volume, quarantine, release};
 ghost use Rattle.inventory.specs.Steps.{if_inventory, zeros, open_step, refused_opening, change_step, count_reply, count_step};

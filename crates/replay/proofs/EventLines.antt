@@ -18,7 +18,7 @@ use Rattle.parity.proofs.Coefficients.{rule_byte}
 use Rattle.inventory.specs.Steps.{is_inventory}
 use Rattle.inventory.specs.RecoverableFiles.{RecoverableSet}
 use Rattle.inventory.specs.declared.recoverable.RecoverableFiles.{RecoverableFiles}
-use Rattle.inventory.proofs.RecoverableFiles.{set_there}
+use Rattle.inventory.proofs.RecoverableSets.{set_there}
 use Rattle.inventory.proofs.RecoverableAnswers.{one_set}
 use Rattle.replay.specs.Lines.{refused_line, files_of, numbers_line}
 use Rattle.replay.specs.Events.{EventLine, at_end, refused, no_inventory, files}
