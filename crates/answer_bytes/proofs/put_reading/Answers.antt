@@ -1,0 +1,19 @@
+-- `answer_bytes::put_reading` meets its contract.
+-- Assumes nothing.
+use mathlib.Core.Path.{ap, ◌∙◌}
+use Prim.Native.Nat.{ℕ}
+use mathlib.Core.List.{List}
+use Rattle.lent_bytes.specs.Writing.{written, with_number}
+use Rattle.lent_bytes.proofs.WritingLaws.{written_refusal}
+use Rattle.answer_bytes.specs.Results.{read_into}
+use borrow.Author.Rules.{rules}
+use Rattle.answer_bytes.proofs.put_reading.Goals as goal
+
+pub returns-in-Refused : goal.returns-in-Refused
+unfolding read_into
+returns-in-Refused c = rw c.in-Refused.is
+
+pub returns-in-Accepted : goal.returns-in-Accepted
+unfolding read_into
+returns-in-Accepted c = let out = c.args.out.now in rw (c.bare.ensures, c.in-Accepted.is)
+    (written_refusal _ out (c.write.ensures ∙ ap (λ (l : List ℕ). with_number (written l out)) c.bytes_of_parts-bytes.ensures))

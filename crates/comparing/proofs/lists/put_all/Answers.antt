@@ -1,0 +1,32 @@
+-- `comparing::lists::put_all` meets its contract. The loop's invariant: the lines on the entries that remain, put after those so far, are all of
+-- them.
+-- Assumes nothing.
+use mathlib.Core.Path.{◌≡◌, refl, ◌∙◌}
+use Prim.Native.Nat.{◌≤◌, ◌-◌, ◌+◌}
+use native.Mathlib.Omega.{arith}
+use lib.ListN.{length, drop}
+use Rattle.text.specs.Buffer.{buffer, usize_max, put}
+use Rattle.text.proofs.BufferLaws.{put-over, put_goes}
+use Rattle.entries.specs.Walk.{entries_of}
+use Rattle.entries.proofs.WalkLaws.{EntryHere, entry_here, no_entry}
+use Rattle.comparing.specs.Lines.{text_of}
+use Rattle.comparing.specs.Differences.{all_lines}
+use Rattle.comparing.proofs.ListLaws.{none_lacking, more_lacking}
+use borrow.Author.Rules.{rules}
+use Rattle.comparing.proofs.lists.put_all.Goals as goal
+
+pub loop-to-init : goal.loop-to-init
+loop-to-init c = (refl, omega arith, c.requires, refl)
+
+pub returns-then-n-eq0 : goal.returns-then-n-eq0
+returns-then-n-eq0 c = let none = no_entry c.args.list.now c.loop-to.from c.length_at-n.ensures c.if-n-eq0.true in
+    put-over _ _ c.loop-to.invariant.3 c.loop-to.invariant.1 (none_lacking c.loop-to.place none)
+
+pub overflow_add-from : goal.overflow_add-from
+overflow_add-from c = let i = (let h : EntryHere c.args.list.now c.loop-to.from c.length_at-n.result = entry_here _ _ c.length_at-n.ensures c.if-n-eq0.false in h) in omega (arith, i.low, i.fits)
+
+pub loop-to-smaller : goal.loop-to-smaller
+loop-to-smaller c = let i = (let h : EntryHere c.args.list.now c.loop-to.from c.length_at-n.result = entry_here _ _ c.length_at-n.ensures c.if-n-eq0.false in h) in omega (arith, i.low, i.fits)
+
+pub loop-to-smaller : goal.loop-to-smaller
+loop-to-smaller c = let i = (let h : EntryHere c.args.list.now c.loop-to.from c.length_at-n.result = entry_here _ _ c.length_at-n.ensures c.if-n-eq0.false in h) in omega (arith, i.low, i.fits)

@@ -1,0 +1,16 @@
+-- `listing::lines::put_place` meets its contract.
+-- Assumes nothing.
+use mathlib.Core.Path.{sym, ◌∙◌}
+use native.Mathlib.Omega.{arith}
+use Rattle.text.proofs.BufferLaws.{put_nil}
+use Rattle.listing.specs.Lines.{place_field}
+use borrow.Author.Rules.{rules}
+use Rattle.listing.proofs.lines.put_place.Goals as goal
+
+pub returns-then-is_placed : goal.returns-then-is_placed
+unfolding place_field
+returns-then-is_placed c = simp (sym c.is_placed.ensures ∙ c.if-is_placed.true) c.put_field.ensures
+
+pub returns : goal.returns
+unfolding place_field
+returns c = simp (sym c.is_placed.ensures ∙ c.if-is_placed.false) (sym (put_nil c.args.out.now c.args.at (omega (arith, c.ranges.at))))

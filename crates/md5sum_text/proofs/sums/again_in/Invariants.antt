@@ -1,0 +1,25 @@
+-- `md5sum_text::sums::again_in` meets its contract. The loop's invariant: the entries that remain, held against the lines before the first one
+-- found, give the first of all.
+-- Assumes nothing.
+use mathlib.Core.Path.{◌≡◌, sym, ap, ◌∙◌}
+use mathlib.Core.List.{List, [], ◌∷◌}
+use Prim.Native.Nat.{ℕ, ◌+◌, ◌-◌, ◌≤◌}
+use native.Mathlib.Omega.{arith}
+use lib.ListN.{length, take, drop}
+use borrow.Author.Rules.{rules}
+use Rattle.computed_tests.specs.Lists.{first_below}
+use Rattle.computed_tests.proofs.Lists.{first_is}
+use Rattle.entries.specs.Walk.{entries_of}
+use Rattle.entries.proofs.WalkLaws.{EntryHere, entry_here, no_entry}
+use Rattle.md5sum_text.specs.Lines.{lines_of}
+use Rattle.md5sum_text.specs.Import.{is_again, again_in}
+use Rattle.md5sum_text.proofs.SumLaws.{again_end, again_more}
+use Rattle.md5sum_text.proofs.sums.again_in.Given as goal
+
+abbrev pub invariant-loop-count : goal.invariant-loop-count
+invariant-loop-count l =
+    (l.from ≤ length l.list) × (l.first ≤ length (lines_of l.text).pieces)
+    × (first_below l.first (is_again (entries_of (drop l.from l.list)).pieces (lines_of l.text).pieces) ≡ again_in (entries_of l.list).pieces (lines_of l.text).pieces)
+
+abbrev pub decreases-loop-count : goal.decreases-loop-count
+decreases-loop-count l = length l.list - l.from

@@ -1,0 +1,24 @@
+-- `md5sum_text::sums::put_answers` meets its contract. The loop's invariant: the bytes of the entries that remain, put after those so far, are
+-- all of them.
+-- Assumes nothing.
+use mathlib.Core.Path.{◌≡◌, refl, sym, ap, ◌∙◌}
+use mathlib.Core.List.{List, ◌∷◌, map}
+use Prim.Native.Nat.{ℕ, ◌+◌, ◌-◌, ◌≤◌}
+use native.Mathlib.Omega.{arith}
+use lib.ListN.{length, drop}
+use borrow.Author.Rules.{rules}
+use Rattle.entries.specs.Walk.{entries_of}
+use Rattle.entries.proofs.WalkLaws.{EntryHere, entry_here, no_entry}
+use Rattle.text.specs.Buffer.{buffer, usize_max, put}
+use Rattle.text.proofs.BufferLaws.{put-over, put_goes}
+use Rattle.md5sum_text.specs.Lines.{lines_of}
+use Rattle.md5sum_text.specs.Import.{answer_for}
+use Rattle.md5sum_text.proofs.sums.put_answers.Given as goal
+
+abbrev pub invariant-loop-count : goal.invariant-loop-count
+invariant-loop-count l = let answer : List ℕ → ℕ = answer_for (lines_of l.text).pieces in
+    (l.from ≤ length l.list) × (length l.out ≡ length l.initial.out) × (l.at ≤ usize_max)
+    × (put (buffer l.out l.at) (map answer (entries_of (drop l.from l.list)).pieces) ≡ put (buffer l.initial.out l.initial.at) (map answer (entries_of l.list).pieces))
+
+abbrev pub decreases-loop-count : goal.decreases-loop-count
+decreases-loop-count l = length l.list - l.from
