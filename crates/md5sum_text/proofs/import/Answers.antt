@@ -48,6 +48,6 @@ returns c = let f = c.args.file.now in let out = c.args.out.now in let answer : 
     let size : length bytes ≡ length (entries_in f) = simp length-map in
     let fits : length bytes ≤ length out = omega (arith, c.if-out-parts.false, read_count f (let h : read_of c.args.file.now ≡ reading.Accepted c.in-Accepted.parts = sym c.read-reading.ensures ∙ c.in-Accepted.is in h)) in
     let whole = c.put_answers.ensures ∙ ap (λ (es : List (List ℕ)). put_of (buffer out 0) (map answer es)) entries
-    ∙ put_whole out bytes fits (omega (arith, c.well-formed.1.1.0.1)) in
+    ∙ put_whole out bytes fits (omega (arith, c.well_formed.1.1.0.1)) in
     import_right f c.args.text.now out (let h : read_of c.args.file.now ≡ reading.Accepted c.in-Accepted.parts = sym c.read-reading.ensures ∙ c.in-Accepted.is in h) (let h : let a = c.args in c.refusal-refusal.result ≡ text_refusal (entries_in a.file.now) (lines_of a.text.now) = let a = c.args in c.refusal-refusal.ensures ∙ ap (λ (es : List (List ℕ)). text_refusal es (lines_of a.text.now)) (read_entries a.file.now (let h : read_of c.args.file.now ≡ reading.Accepted c.in-Accepted.parts = sym c.read-reading.ensures ∙ c.in-Accepted.is in h) c.part-list.ensures) in h) c.if-refusal-ne0.false
     (written_fits bytes out fits (ap (λ (b : Buffer). b.at) whole) (ap (λ (b : Buffer). b.bytes) whole))

@@ -16,3 +16,10 @@ unfolding flatten
 returns-in_default c = let a = c.args in let here = buffer a.out.now a.at in
     sym (put_nil a.out.now a.at (omega arith))
     ∙ ap (λ (r : Reading). put here (text_of (refusal_lines a.side r))) (sym c.in_default.is)
+
+pub returns : goal.returns
+unfolding refused_text flatten
+returns c = let here = buffer c.args.out.now c.args.at in
+    let text = puts (then c.put_field-at.ensures (then c.put_field-at-2.ensures (last c.put.ensures))) (omega (arith, c.well_formed.0.0)) in
+    text ∙ ap (put here) (sym (append-nil _))
+    ∙ ap (λ (r : Reading). put here (text_of (refusal_lines c.args.side r))) (sym c.in-Refused.is)

@@ -17,9 +17,9 @@ use Rattle.comparing.proofs.lists.put_all.Given as goal
 
 abbrev pub invariant-loop-to : goal.invariant-loop-to
 invariant-loop-to l =
-    (length l.at ≡ length l.initial.out) × (l.place ≤ usize_max) × (l.from ≤ from + 1)
-    × (put (buffer l.at l.place) (text_of (all_lines l.from (entries_of (drop from l.list)).pieces))
+    (length l.out ≡ length l.initial.out) × (l.at ≤ usize_max) × (l.place ≤ l.from + 1)
+    × (put (buffer l.out l.at) (text_of (all_lines l.place (entries_of (drop l.from l.list)).pieces))
     ≡ put (buffer l.initial.out l.to) (text_of (all_lines l.first (entries_of (drop l.start l.list)).pieces)))
 
 abbrev pub decreases-loop-to : goal.decreases-loop-to
-decreases-loop-to l = length l.list - from
+decreases-loop-to l = length l.list - l.from

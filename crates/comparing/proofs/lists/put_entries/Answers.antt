@@ -51,7 +51,7 @@ loop-out-preserved c = let n = c.length_at-n.result in let m = c.length_at-m.res
     let ones = (entries_of (drop (l.i + n) c.args.one.now)).pieces in
     let twos = (entries_of (drop (l.j + m) c.args.two.now)).pieces in
     let rest : List ℕ = text_of (entry_lines (l.place + 1) ones twos) in (
-      fields.auto.0 ∙ l.invariant.0,
+      fields.auto.out ∙ l.invariant.0,
       omega arith,
       omega (arith, i.low),
       omega (arith, j.low),

@@ -40,7 +40,7 @@ pub loop-start-preserved : goal.loop-start-preserved
 unfolding flatten
 loop-start-preserved c = let l = c.loop-start in let line = c.put_run-at in (
       l.invariant.0,
-      line.auto.0 ∙ l.invariant.1,
+      line.auto.out ∙ l.invariant.1,
       omega arith,
       put_goes _ _ l.invariant.3 _ _ (omega arith) (ap (λ (rs : List Run). text_of (map (λ r. run_line r) rs)) (let h : let d = differs c.args.a.now c.args.b.now in let n = c.greater-n.result in let first = c.difference_from-first.result in let end = c.agreement_from-end.result in (first < end) × (runs_from d (n - c.loop-start.from) c.loop-start.from ≡ run_of first (end - 1) ∷ runs_from d (n - end) end) = let most = c.loop-start.invariant.0 in runs_next _ _ _ (rw (sym most) at c.difference_from-first.ensures) c.if-n-first.false (omega (arith, c.agreement_from-end.ensures.0)) (rw (sym most) at c.agreement_from-end.ensures.1) in h).1) line.ensures,
     )

@@ -28,4 +28,4 @@ pub loop-from-smaller : goal.loop-from-smaller
 loop-from-smaller c = let i = (let h : EntryHere c.args.list.now c.loop-from.from c.length_at-length.result = entry_here _ _ c.length_at-length.ensures c.if-length-eq0.false in h) in omega (arith, i.low, i.fits)
 
 pub loop-from-preserved : goal.loop-from-preserved
-loop-from-preserved c = ((let h : EntryHere c.args.list.now c.loop-from.from c.length_at-length.result = entry_here _ _ c.length_at-length.ensures c.if-length-eq0.false in h).ranges, each_goes is_fitting c.loop-from.invariant.1 (let h : EntryHere c.args.list.now c.loop-from.from c.length_at-length.result = entry_here _ _ c.length_at-length.ensures c.if-length-eq0.false in h).pieces_are (let h : c.units_fit.result ≡ is_fitting (take c.length_at-length.result (drop c.loop-from.from c.args.list.now)) = c.units_fit.ensures ∙ ap units_fit (ap units_of (c.name_of.ensures ∙ ap name_of c.part.ensures)) in h) (ap not c.if-not-units_fit.false))
+loop-from-preserved c = ((let h : EntryHere c.args.list.now c.loop-from.from c.length_at-length.result = entry_here _ _ c.length_at-length.ensures c.if-length-eq0.false in h).fits, each_goes is_fitting c.loop-from.invariant.1 (let h : EntryHere c.args.list.now c.loop-from.from c.length_at-length.result = entry_here _ _ c.length_at-length.ensures c.if-length-eq0.false in h).pieces_are (let h : c.units_fit.result ≡ is_fitting (take c.length_at-length.result (drop c.loop-from.from c.args.list.now)) = c.units_fit.ensures ∙ ap units_fit (ap units_of (c.name_of.ensures ∙ ap name_of c.part.ensures)) in h) (ap not c.if-not-units_fit.false))

@@ -15,9 +15,9 @@ put_lines-requires c = c.requires
 
 pub returns-then-length-out : goal.returns-then-length-out
 returns-then-length-out c = fit_written (export_text (entries_of c.args.list.now).pieces) c.args.out.now c.put_lines-length.ensures
-    (omega (arith, c.well-formed.1.0.1)) c.if-length-out.true c.put_lines.ensures
+    (omega (arith, c.well_formed.1.0.1)) c.if-length-out.true c.put_lines.ensures
 
 pub returns : goal.returns
 returns c = rw c.bare.ensures
     (fit_refused (export_text (entries_of c.args.list.now).pieces) c.args.out.now c.put_lines-length.ensures
-    (omega (arith, c.well-formed.1.0.1)) c.if-length-out.false)
+    (omega (arith, c.well_formed.1.0.1)) c.if-length-out.false)

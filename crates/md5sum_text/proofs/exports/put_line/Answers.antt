@@ -13,5 +13,12 @@ use Rattle.text.proofs.BufferLaws.{last, then, puts}
 use Rattle.md5sum_text.specs.Export.{line_for}
 use Rattle.md5sum_text.proofs.exports.put_line.Goals as goal
 
-pub put-requires : goal.put-requires
-put-requires c = rw c.name_of.ensures c.requires
+pub put_units-at-requires : goal.put_units-at-requires
+put_units-at-requires c = rw c.name_of.ensures c.requires
+
+pub returns : goal.returns
+unfolding line_for
+returns c = puts (then c.put_hex_bytes-at.ensures (then c.put_bytes-at.ensures (then c.put_units-at.ensures (last c.put.ensures))))
+    (omega (arith, c.well_formed.0.0))
+    ∙ ap₂ (λ (m n : List ℕ). put (buffer c.args.out.now c.args.at) (flatten (hex_bytes m ∷ ascii "  " ∷ units_of n ∷ (10 ∷ []) ∷ [])))
+    c.part.ensures c.name_of.ensures

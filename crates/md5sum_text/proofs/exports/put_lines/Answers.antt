@@ -36,8 +36,8 @@ pub loop-at-preserved : goal.loop-at-preserved
 loop-at-preserved c = let entry = c.part.ensures in let i = (let h : EntryHere c.args.list.now c.loop-at.from c.length_at-length.result = entry_here _ _ c.length_at-length.ensures c.if-length-eq0.false in h) in
     (
       i.fits,
-      c.put_line-at.auto.0 ∙ c.loop-at.invariant.1,
+      c.put_line-at.auto.out ∙ c.loop-at.invariant.1,
       omega arith,
       (fitting_both i entry c.loop-at.invariant.3).1,
-      put_goes _ _ c.loop-at.invariant.4 _ _ (omega (arith, c.well-formed.0.0, c.loop-at.invariant.1)) (text_more i entry) c.put_line-at.ensures,
+      put_goes _ _ c.loop-at.invariant.4 _ _ (omega (arith, c.well_formed.0.0, c.loop-at.invariant.1)) (text_more i entry) c.put_line-at.ensures,
     )

@@ -25,7 +25,7 @@ pub loop-i-preserved : goal.loop-i-preserved
 loop-i-preserved c = let s = c.args.name.now in let more = units_more s c.loop-i.i (omega arith) in
     let rest : List ℕ = units_of (drop (c.loop-i.i + 2) s) in (
       omega arith,
-      c.put-at.auto.0 ∙ c.loop-i.invariant.1,
+      c.put-at.auto.out ∙ c.loop-i.invariant.1,
       omega arith,
       fits_rest s c.loop-i.i c.loop-i.invariant.3 (omega arith),
       put_goes _ _ c.loop-i.invariant.4 _ rest (omega arith) (more ∙ ap (λ (u : ℕ). u ∷ rest) (sym c.read16-unit.ensures))

@@ -34,8 +34,8 @@ loop-count-preserved c = let i = (let h : EntryHere c.args.list.now c.loop-count
     let byte = c.answer_for.ensures ∙ ap answer c.part.ensures in
     let n = c.length_at-length.result in let rest : List ℕ = map answer (entries_of (drop (c.loop-count.from + n) c.args.list.now)).pieces in (
       i.fits,
-      c.put-at.auto.0 ∙ c.loop-count.invariant.1,
+      c.put-at.auto.out ∙ c.loop-count.invariant.1,
       omega arith,
-      put_goes _ _ c.loop-count.invariant.3 _ rest (omega (arith, c.well-formed.0.0, c.loop-count.invariant.1))
+      put_goes _ _ c.loop-count.invariant.3 _ rest (omega (arith, c.well_formed.0.0, c.loop-count.invariant.1))
           (ap (map answer) i.pieces_are ∙ ap (λ (b : ℕ). b ∷ rest) (sym byte)) c.put-at.ensures,
     )
