@@ -1,5 +1,6 @@
 // Inventories in lent bytes: 18 numbers of 64 bits.
 #![tactic(auto)]
+
 ghost use Rattle.std.specs.Prelude.{◌≡◌, [], ◌∷◌, length};
 ghost use Rattle.inventory.specs.Steps.{open_step, count_reply, answer_number};
 ghost use Rattle.little_endian.specs.Bytes.{numbers as numbers_of, numbers_at};

@@ -1,0 +1,8 @@
+-- `inventory_bytes::bytes_of_count` meets its contract.
+-- Assumes nothing.
+use Rattle.little_endian.specs.Bytes.{numbers, to_le}
+use Rattle.inventory_bytes.proofs.bytes_of_count.Goals as goal
+
+pub returns : goal.returns
+unfolding numbers to_le
+returns c = c.write_numbers.ensures
