@@ -23,6 +23,7 @@ use Rattle.worked_examples.proofs.Tests.{every}
 use Rattle.worked_examples.proofs.Chosen.{cancels_at, used_by}
 use Rattle.worked_examples.proofs.ListedStates.{of_volume, sums_at, solves, cancels, recoverable_by, undetermined_by}
 use Rattle.worked_examples.proofs.StatedWeights.{file_holds, volume_holds, stated_by, stated_weights}
+use Rattle.worked_examples.proofs.Witnesses.{witnesses}
 
 unfoldable same : List ℕ → List ℕ → Bool
 same [] [] = true
@@ -70,24 +71,6 @@ row-holds [] shown h k = refl
 row-holds (e ∷ l) [] h k = absurd (false≢true h)
 row-holds (e ∷ l) (ls ∷ shown) h zero = passes_holds e ls (and_both (passes e ls) (all_pass l shown) h).0
 row-holds (e ∷ l) (ls ∷ shown) h (suc k) = row-holds l shown (and_both (passes e ls) (all_pass l shown) h).1 k
-
--- what shows each row, in the order of the table
-witnesses : List (List (List ℕ))
-witnesses =
-    [] ∷ [] ∷ [] ∷ [] ∷ [] ∷ [] ∷ [] ∷ []  -- P1 to P6
-    ∷ ((1 ∷ []) ∷ (1 ∷ 2 ∷ []) ∷ [])  -- P7: 2
-    ∷ ((1 ∷ []) ∷ (1 ∷ 2 ∷ []) ∷ [])  -- P7: 1
-    ∷ ([] ∷ (2 ∷ []) ∷ [])  -- P8
-    ∷ ((2 ∷ []) ∷ [] ∷ [])  -- P9
-    ∷ ((7 ∷ 24 ∷ []) ∷ [])  -- P10: 7
-    ∷ ((7 ∷ 24 ∷ []) ∷ [])  -- P10: 24
-    ∷ ((36 ∷ 0 ∷ 0 ∷ 21 ∷ []) ∷ [])  -- P11: 5
-    ∷ ((7 ∷ 24 ∷ []) ∷ [])  -- P11: 7
-    ∷ ((7 ∷ 24 ∷ []) ∷ [])  -- P11: 24
-    ∷ ((36 ∷ 0 ∷ 0 ∷ 21 ∷ []) ∷ [])  -- P12: 5
-    ∷ ((236 ∷ 42 ∷ 0 ∷ 37 ∷ []) ∷ [])  -- P12: 7
-    ∷ ((201 ∷ 42 ∷ 0 ∷ 48 ∷ []) ∷ [])  -- P12: 24
-    ∷ []
 
 all_pass_lem : all_pass examples witnesses ≡ true
 unfolding witnesses all_pass passes same stated_by every file_holds volume_holds used_by solves of_volume sums_at cancels cancels_at

@@ -3,4 +3,5 @@ mod Determined
 mod Chosen
 mod ListedStates
 mod StatedWeights
+mod Witnesses
 pub mod Examples
