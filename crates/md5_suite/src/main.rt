@@ -1,20 +1,28 @@
 // RFC 1321's own test suite (A.5), through the library: a line a message, as the RFC prints them.
 #![tactic(auto)]
-use libc::STDOUT_FILENO;
 
-fn main() {
-    io::write_all(STDOUT_FILENO, b"MD5 test suite:\n");
-    show(b"");
-    show(b"a");
-    show(b"abc");
-    show(b"message digest");
-    show(b"abcdefghijklmnopqrstuvwxyz");
-    show(b"ABCDEFGHIJKLMNOPQRSTUVWXYZabcdefghijklmnopqrstuvwxyz0123456789");
-    show(b"12345678901234567890123456789012345678901234567890123456789012345678901234567890");
+use std::io::{self, Write};
+
+fn main(rt: HostRuntime) -> io::Result<()> {
+    let mut out = rt.stdout();
+    out.write_all(b"MD5 test suite:\n")?;
+    show(&mut out, b"")?;
+    show(&mut out, b"a")?;
+    show(&mut out, b"abc")?;
+    show(&mut out, b"message digest")?;
+    show(&mut out, b"abcdefghijklmnopqrstuvwxyz")?;
+    show(
+        &mut out,
+        b"ABCDEFGHIJKLMNOPQRSTUVWXYZabcdefghijklmnopqrstuvwxyz0123456789",
+    )?;
+    show(
+        &mut out,
+        b"12345678901234567890123456789012345678901234567890123456789012345678901234567890",
+    )
 }
 
 // Writes the message's line, which is cut at 160 bytes.
-fn show(message: &[u8]) {
+fn show(out: &mut impl Write, message: &[u8]) -> io::Result<()> {
     let digest = md5_digest::digest(message);
     let mut line = [0u8; 160];
     let at = text::put_bytes(&mut line, 0, b"MD5 (\"");
@@ -23,8 +31,9 @@ fn show(message: &[u8]) {
     let at = put_digest(&mut line, at, digest);
     let end = text::put(&mut line, at, b'\n');
     if end <= 160 {
-        io::write_all(STDOUT_FILENO, &line[..end]);
+        out.write_all(&line[..end])?;
     }
+    Ok(())
 }
 
 // The digest in hexadecimal, from position `start` on.
