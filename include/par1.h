@@ -1,6 +1,6 @@
 /* Proved parity volumes: the calls of the static library libpar1_c.a, for C99 and later and for C++.
  *
- * To link:  rt staticlib par1_c;  gcc -Iinclude program.c target/staticlib/libpar1_c.a
+ * To link:  (cd crates/par1_c && rt lib);  gcc -Iinclude program.c crates/par1_c/out/libpar1_c.a
  * The library is for x86-64: some 80 KB of code and constants and no variables. It wants memcpy and memset of the C library and nothing else; it
  * allocates nothing and keeps nothing between calls, so calls on different bytes may run at the same time.
  *
