@@ -1,0 +1,13 @@
+-- `amending::planning::plan_for` meets its contract, by what reading gave.
+-- Assumes nothing.
+use mathlib.Core.Path.{sym, ◌∙◌}
+use Rattle.parity.specs.Coefficient.{rule_of}
+use Rattle.amending.proofs.PlanLaws.{plan_unread}
+use borrow.Author.Rules.{rules}
+use Rattle.amending.proofs.planning.plan_for.Goals as goal
+
+pub plan_read-requires : goal.plan_read-requires
+plan_read-requires c = sym c.read.ensures ∙ c.in-Accepted.is
+
+pub returns-in-Refused : goal.returns-in-Refused
+returns-in-Refused c = plan_unread rule_of _ _ _ (sym c.read.ensures ∙ c.in-Refused.is)
