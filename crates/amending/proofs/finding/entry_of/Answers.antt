@@ -26,12 +26,12 @@ loop-length-init c = let s = c.args.list.now in (omega arith, nothing-before _ �
 pub returns-in_default : goal.returns-in_default
 returns-in_default c = let l = c.loop-length in let none = entries_none _ _ c.at.ensures c.in_default.not-Entry in
     let at : l.from ≡ l.from + 0 = omega arith in
-    ap (λ (n : ℕ). record { from = n; length = 0 }) at ∙ ap (past l.from) (sym (span_none l.saved-before none)) ∙ l.invariant.1
+    ap (λ (n : ℕ). record { from = n; length = 0 }) at ∙ ap (past l.from) (sym (span_none l.saved_before none)) ∙ l.invariant.1
 
 pub returns-then-saved_before-saved : goal.returns-then-saved_before-saved
 returns-then-saved_before-saved c = let i = (let h : EntryAt c.args.list.now c.loop-length.from c.in-Entry.length c.in-Entry.status c.in-Entry.size = entry_at _ _ c.at.ensures c.in-Entry.is in h) in
     let l = c.loop-length in let at : l.from ≡ l.from + 0 = omega arith in
-    let here = span_here i.entry l.saved-before (omega (arith, c.saved_count-saved.ensures)) in
+    let here = span_here i.entry l.saved_before (omega (arith, c.saved_count-saved.ensures)) in
     ap (λ (n : ℕ). record { from = n; length = c.in-Entry.length }) at ∙ ap (past l.from) (sym here) ∙ l.invariant.1
 
 pub overflow_add-from : goal.overflow_add-from
@@ -42,8 +42,8 @@ loop-length-smaller c = let i = (let h : EntryAt c.args.list.now c.loop-length.f
 
 pub loop-length-preserved : goal.loop-length-preserved
 loop-length-preserved c = let i = (let h : EntryAt c.args.list.now c.loop-length.from c.in-Entry.length c.in-Entry.status c.in-Entry.size = entry_at _ _ c.at.ensures c.in-Entry.is in h) in
-    let s = c.args.list.now in let from = c.loop-length.from in let count = c.saved_count-saved.ensures in let more = span_more i.entry c.loop-length.saved-before (omega (arith, count)) in (
+    let s = c.args.list.now in let from = c.loop-length.from in let count = c.saved_count-saved.ensures in let more = span_more i.entry c.loop-length.saved_before (omega (arith, count)) in (
       i.fits,
-      ap₂ (λ (q : List ℕ) (n : ℕ). past (from + c.in-Entry.length) (span_in (entries_of q).pieces (c.loop-length.saved-before - n))) (sym i.next) count
+      ap₂ (λ (q : List ℕ) (n : ℕ). past (from + c.in-Entry.length) (span_in (entries_of q).pieces (c.loop-length.saved_before - n))) (sym i.next) count
           ∙ further from c.in-Entry.length _ ∙ ap (past from) (sym more) ∙ c.loop-length.invariant.1,
     )
