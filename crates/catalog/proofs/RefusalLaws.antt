@@ -44,7 +44,6 @@ use Rattle.catalog.proofs.CatalogLaws.{Catalog, is_catalog_lem}
 use Rattle.catalog.proofs.ChangeLaws.{entries_sized, length_dropped}
 use Rattle.catalog.proofs.StepLaws.{passed_none, rows-equal, refused-same}
 use Rattle.catalog.proofs.ListLaws.{rows_sized_for}
-use Rattle.catalog.proofs.ReadLaws.{told}
 use Rattle.catalog.proofs.RowLaws.{length-rows}
 
 -- ---- the tests

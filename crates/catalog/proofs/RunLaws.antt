@@ -14,7 +14,7 @@ use Rattle.lent_bytes.specs.Writing.{accepted}
 use Rattle.lent_bytes.specs.declared.Writing.{Writing}
 use Rattle.catalog.specs.Rows.{volume_row, catalog_bytes}
 use Rattle.catalog.specs.Calls.{open_of, added_bytes, add_of}
-use Rattle.catalog.specs.Runs.{Call, opening, adding, answers, room_after, Held, held_run, held_length}
+use Rattle.catalog.specs.Runs.{Call, opening, adding, answers, given, room_after, Held, held_after, held_run, held_length}
 use Rattle.catalog.specs.Claim.{IsWritten, is_written, Stands, AfterRun}
 use Rattle.catalog.proofs.FileRows.{file_rows}
 use Rattle.catalog.proofs.HeldLaws.{rows_of, entries_of, catalog_of, VolumeIn, In, Invariant, in_rows, perm_length, read_back, stands_catalog}
@@ -25,7 +25,7 @@ use Rattle.catalog.proofs.OrderLaws.{sort_rows, Distinct, distinct_more, all_per
 run : {h : Held} {room : List ℕ} → Invariant h room → (cs : List Call) → Invariant (held_run h room cs) (room_after room cs)
 unfolding held_run room_after
 run i [] = i
-run i (c ∷ cs) = run (step i c) cs
+run {h = h} {room = room} i (c ∷ cs) = run {h = held_after c (given c room).0 h} {room = (given c room).1} (step i c) cs
 
 -- ---- given the volumes in any order
 

@@ -1,6 +1,7 @@
 // A catalog of a set: a row for each entry of its list and one for each volume that there is (document 02, 2026-08: "A haul index"). It stands
 // in the first bytes of its room.
 #![tactic(auto)]
+
 ghost use Rattle.std.specs.Prelude.{◌≡◌};
 ghost use Rattle.par1_read.specs.Reading.{read_of};
 ghost use Rattle.par1_read.specs.declared.reading.Reading.TheVariants.{Accepted};

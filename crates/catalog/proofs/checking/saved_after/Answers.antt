@@ -1,0 +1,10 @@
+-- `catalog::checking::saved_after` meets its contract.
+-- Assumes nothing.
+use borrow.Author.Tests.{ne_eqb, eq-eqb}
+use Rattle.catalog.proofs.checking.saved_after.Goals as goal
+
+pub returns-then-number-eq0 : goal.returns-then-number-eq0
+returns-then-number-eq0 c = simp (eq-eqb _ _ c.if-number-eq0.true)
+
+pub returns : goal.returns
+returns c = simp (ne_eqb _ _ c.if-number-eq0.false)
