@@ -185,7 +185,7 @@ module _ (d : State → ℕ → Bool) (D : Decides coefficient d) where
   abbrev events : List (Arrival × ℕ)
   events = (volume_added, 2) ∷ (file_added, 1) ∷ (volume_added, 2) ∷ []
 
-  the_log : ascii "2 2 1\n_v 2\n_f 1\n_v 2\n" ≡ log_text 2 (2 ∷ 1 ∷ []) events ++ []
+  the_log : ascii "2 2 1\nV 2\nF 1\nV 2\n" ≡ log_text 2 (2 ∷ 1 ∷ []) events ++ []
   unfolding decimal decimal_in flatten
   the_log = refl
 
@@ -229,16 +229,16 @@ module _ (d : State → ℕ → Bool) where
   shape_first = refl
 
   -- the replay goes on
-  number_0 : replay_of d (ascii "1 1\n_f 0\n_f 99999999999999999999\n") ≡ ascii "refused 10\nrefused 10\n"
+  number_0 : replay_of d (ascii "1 1\nF 0\nF 99999999999999999999\n") ≡ ascii "refused 10\nrefused 10\n"
   unfolding replay_of log_lines opened_lines event_lines event_line cut cut_in line_length words_of all_decimal is_decimal all_digits value_of open_step is_event_line is_letter change_of number_of next refused_line decimal decimal_in
   number_0 = refl
 
   -- and ends
-  leading_zero : replay_of d (ascii "1 1\n_f 00\n_f 0\n") ≡ ascii "refused 28\n"
+  leading_zero : replay_of d (ascii "1 1\nF 00\nF 0\n") ≡ ascii "refused 28\n"
   unfolding replay_of log_lines opened_lines event_lines event_line cut cut_in line_length words_of all_decimal is_decimal all_digits value_of open_step is_event_line is_letter change_of number_of next refused_line decimal decimal_in
   leading_zero = refl
 
-  unended : replay_of d (ascii "1 1\n_f 0\n_f 0") ≡ ascii "refused 10\nrefused 28\n"
+  unended : replay_of d (ascii "1 1\nF 0\nF 0") ≡ ascii "refused 10\nrefused 28\n"
   unfolding replay_of log_lines opened_lines event_lines event_line cut cut_in line_length words_of all_decimal is_decimal all_digits value_of open_step is_event_line is_letter change_of number_of next refused_line decimal decimal_in
   unended = refl
 

@@ -247,4 +247,4 @@ TextFits = (d : State → ℕ → Bool) (log : List ℕ) → length (replay_of d
 abbrev pub ExamplePrints : Type 0
 ExamplePrints =
     (d : State → ℕ → Bool) → Decides coefficient d
-    → replay_of d (ascii "2 2 1\n_v 2\n_f 1\n_v 2\n") ≡ ascii "none\n2\nrefused 11\n"
+    → replay_of d (ascii "2 2 1\nV 2\nF 1\nV 2\n") ≡ ascii "none\n2\nrefused 11\n"

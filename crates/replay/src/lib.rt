@@ -1,5 +1,6 @@
 // The replay of a log of arrivals (document 02, 2026-11): after each event the missing files that are recoverable.
 #![tactic(auto)]
+
 ghost use Rattle.std.specs.Prelude.{◌≡◌, Bool, ℕ};
 ghost use Rattle.recovery.specs.Recoverable.{State};
 ghost use Rattle.parity.specs.Coefficient.{coefficient};
