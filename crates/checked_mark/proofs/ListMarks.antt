@@ -16,7 +16,6 @@ use Rattle.cut_lists.specs.Pieces.{none, before}
 use Rattle.cut_lists.proofs.CutLaws.{cut_stop, cut_more}
 use Rattle.entries.specs.Entry.{entry_size, file_size_of, file_size_allowed, entry_size_allowed, body_allowed, entry_allowed, length_of}
 use Rattle.entries.specs.Walk.{fault_of, item_of, first_of, entries_of, totals_of, walked_to, walk_of}
-use Rattle.entries.specs.declared.Fault.{Fault}
 use Rattle.entries.specs.declared.Fault.TheVariants.{FileSize, Name}
 use Rattle.entries.specs.declared.Item.{Item}
 use Rattle.entries.specs.declared.Item.TheVariants as item

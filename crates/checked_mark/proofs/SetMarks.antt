@@ -77,6 +77,8 @@ entry_alike b c a = record {
 lists_alike : {fs gs : List File} → All FileBack fs → All FileBack gs → Pairs FileAlike fs gs → ListsAlike (list_for fs) (list_for gs)
 unfolding flatten
 lists_alike all_none all_none pairs_none = rest-same []
+lists_alike all_none (all_more c cs) p = elim p [ ]
+lists_alike (all_more b bs) all_none p = elim p [ ]
 lists_alike (all_more b bs) (all_more c cs) (pairs_more a ps) = entry_more (entry_sized b) (entry_alike b c a) (lists_alike bs cs ps)
 
 list_length : {fs gs : List File} → Pairs FileAlike fs gs → length (list_for fs) ≡ length (list_for gs)

@@ -3,7 +3,6 @@ pub mod ReplayLaws
 mod CallLaws
 pub mod CodeCalls
 mod Determined
-mod HashWalks
 pub mod Kept
 mod LoadLaws
 mod MulAddCalls

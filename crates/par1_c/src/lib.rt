@@ -2,6 +2,7 @@
 // document's number of a refusal; some of them tell the place of the refusal too, or the length that they wrote, in one number. A refusal
 // changes no byte, save that the end of a job ends it also where it is refused, unless with 20.
 #![tactic(auto)]
+
 ghost use Rattle.std.specs.Prelude.{◌≡◌, ◌^◌, ◌<◌};
 ghost use Rattle.gf256.specs.Answer.{inverse_answer};
 ghost use Rattle.md5_digest.specs.Digest.{digest_into};
