@@ -1,44 +1,61 @@
 // Replays the log of arrivals on standard input (document 02, 2026-11): thin over the crate `replay`, one line at a time.
 #![tactic(auto)]
-use libc::{STDIN_FILENO, STDOUT_FILENO};
+
+ghost use Rattle.std.specs.Prelude.{◌≤◌, length, IfOk};
+
 use refusals::MAX_LISTED_LENGTH;
+use std::io::{self, Read, Write};
 
 // Room for the longest line, of 254 numbers (crate replay, specs/Claim, `LinesFit`).
 const LINE_ROOM: usize = 1024;
 
-fn main() {
+fn main(rt: HostRuntime) -> io::Result<()> {
     // one byte more than the longest log, so that a longer one is seen
     let mut input = [0u8; MAX_LISTED_LENGTH + 1];
-    let length = io::read_full(STDIN_FILENO, &mut input);
-    replay_log(&input[..length]);
+    let length = read_full(&mut rt.stdin(), &mut input)?;
+    replay_log(&input[..length], &mut rt.stdout())
+}
+
+// Reads until `buffer` is full or the input ends, and answers how many bytes it put at the start of `buffer`.
+fn read_full(input: &mut impl Read, buffer: &mut [u8]) -> io::Result<usize>
+    ensures { IfOk result (λ n. n ≤ length buffer.new) }
+{
+    let mut done = 0;
+    while done < buffer.len() {
+        let n = input.read(&mut buffer[done..])?;
+        if n == 0 {
+            break;
+        }
+        done += n;
+    }
+    Ok(done)
 }
 
 // Prints the lines of a replay, one after another (crate replay, specs/Claim, `LinesJoined`).
-fn replay_log(log: &[u8]) {
+fn replay_log(log: &[u8], out: &mut impl Write) -> io::Result<()> {
     let opened = replay::open(log);
     if opened.over {
-        print(opened);
-        return;
+        return print(out, opened);
     }
     let mut from = opened.from;
     let mut inventory = opened.inventory;
     loop {
         let event = replay::next(log, from, inventory);
-        print(event);
+        print(out, event)?;
         if event.over {
-            return;
+            return Ok(());
         }
         from = event.from;
-        let now = event.inventory;
-        inventory = now;
+        inventory = event.inventory;
     }
 }
 
 // Prints the line after an event.
-fn print(event: replay::Event) {
+fn print(out: &mut impl Write, event: replay::Event) -> io::Result<()> {
     let mut line = [0u8; LINE_ROOM];
     let end = replay::put_line(&mut line, 0, event);
     if end <= LINE_ROOM {
-        io::write_all(STDOUT_FILENO, &line[..end]);
+        out.write_all(&line[..end])?;
     }
+    Ok(())
 }
