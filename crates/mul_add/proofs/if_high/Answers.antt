@@ -1,4 +1,4 @@
--- `parity::if_high` meets its contract: a law for each of its branches.
+-- `mul_add::if_high` meets its contract: a law for each of its branches.
 -- Assumes nothing.
 use borrow.Author.Rules.{rules}
 use Rattle.mul_add.proofs.Bits.{high_clear, high_set}
