@@ -4,7 +4,6 @@ use mathlib.Core.Path.{sym}
 use native.Mathlib.Omega.{arith}
 use lib.ListN.{length-take}
 use lib.Seq.{take_all}
-use borrow.Author.Rules.{rules}
 use Rattle.par1_rules.proofs.hashes.first_part.Goals as goal
 
 pub returns-then-contents-le-FIRST_BYTES : goal.returns-then-contents-le-FIRST_BYTES

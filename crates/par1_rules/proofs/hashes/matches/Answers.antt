@@ -2,7 +2,6 @@
 -- Assumes nothing.
 use mathlib.Core.Path.{ap, ◌∙◌}
 use Rattle.lent_bytes.specs.Equal.{equal}
-use borrow.Author.Rules.{rules}
 use Rattle.par1_rules.proofs.hashes.matches.Goals as goal
 
 pub returns : goal.returns

@@ -1,19 +1,13 @@
 -- `par1_rules::hashes::of_set` meets its contract. The loop's invariant: the hash so far, pushed over the entries that remain, ends in
 -- the set hash.
 -- Assumes nothing.
-use mathlib.Core.Path.{◌≡◌, sym, ap, ap₂, ◌∙◌}
-use Prim.Native.Nat.{ℕ, ◌≤◌, ◌-◌}
-use native.Mathlib.Omega.{arith}
+use mathlib.Core.Path.{◌≡◌}
+use Prim.Native.Nat.{◌≤◌, ◌-◌}
 use lib.ListN.{length, drop}
-use mathlib.Core.List.{List}
-use Rattle.md5_digest.specs.declared.Md5.{Md5}
 use Rattle.md5_digest.specs.Running.{finished}
 use Rattle.entries.specs.Walk.{entries_of}
-use Rattle.entries.proofs.EntryLaws.{EntryAt, entry_at}
-use Rattle.entries.proofs.WalkLaws.{entries_none}
-use Rattle.par1_rules.specs.Hashes.{set_hash, hash_entry}
-use Rattle.par1_rules.proofs.HashLaws.{pushed_over, set-start, set_more, set-none, hash_part}
-use borrow.Author.Rules.{rules}
+use Rattle.par1_rules.specs.Hashes.{set_hash}
+use Rattle.par1_rules.proofs.HashLaws.{pushed_over}
 use Rattle.par1_rules.proofs.hashes.of_set.Given as goal
 
 abbrev pub invariant-loop-length : goal.invariant-loop-length

@@ -1,7 +1,6 @@
 -- `par1_rules::hashes::with_entry` meets its contract: the two cases of whether the entry is saved.
 -- Assumes nothing.
 use mathlib.Core.Path.{sym, ◌∙◌}
-use borrow.Author.Rules.{rules}
 use Rattle.par1_rules.proofs.hashes.with_entry.Goals as goal
 
 pub returns-then-is_saved : goal.returns-then-is_saved

@@ -6,7 +6,6 @@ use native.Mathlib.Omega.{arith}
 use lib.ListN.{length, take, drop, length-take, length-drop, drop_of_length-le}
 use lib.Seq.{take_all, take-nil}
 use Rattle.lent_bytes.proofs.PartLaws.{part_to_end}
-use borrow.Author.Rules.{rules}
 use Rattle.par1_rules.proofs.layout.part.Goals as goal
 
 pub returns-then-bytes-at : goal.returns-then-bytes-at

@@ -3,7 +3,6 @@
 use mathlib.Core.Path.{sym, ◌∙◌}
 use native.Mathlib.Omega.{arith}
 use Rattle.par1_rules.proofs.RuleLaws.{not_laid, laid_out}
-use borrow.Author.Rules.{rules}
 use Rattle.par1_rules.proofs.rules.layout_allowed.Goals as goal
 
 pub returns-then-read64-ne-LIST_START : goal.returns-then-read64-ne-LIST_START

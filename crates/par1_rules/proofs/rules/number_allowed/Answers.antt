@@ -4,7 +4,6 @@ use Prim.Native.Nat.{◌+◌}
 use native.Mathlib.Omega.{arith}
 use borrow.Author.Tests.{ne_eqb, eq-eqb, lt-leb, le-leb}
 use Rattle.par1_rules.specs.Rules.{number_allowed}
-use borrow.Author.Rules.{rules}
 use Rattle.par1_rules.proofs.rules.number_allowed.Goals as goal
 
 pub returns-then-saved-gt-MAX_FILES : goal.returns-then-saved-gt-MAX_FILES
