@@ -1,5 +1,6 @@
 // Writing of Par 1.0 files and of their entries (document 01, "What comes back").
 #![tactic(auto)]
+
 mod entry_writing;
 mod volume_writing;
 

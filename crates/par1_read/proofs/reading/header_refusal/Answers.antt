@@ -7,7 +7,6 @@ use Rattle.refusals.proofs.TestLaws.{test_of}
 use Rattle.par1_rules.specs.Rules.{version_allowed}
 use Rattle.par1_rules.proofs.RuleLaws.{signature_is}
 use Rattle.par1_read.specs.Reading.{header_refusal}
-use borrow.Author.Rules.{rules}
 use Rattle.par1_read.proofs.reading.header_refusal.Goals as goal
 
 pub returns : goal.returns

@@ -3,7 +3,6 @@
 use mathlib.Core.Path.{sym, ap, ◌∙◌}
 use Rattle.refusals.specs.Tests.{bare}
 use Rattle.par1_read.specs.Reading.{list_refusal}
-use borrow.Author.Rules.{rules}
 use Rattle.par1_read.proofs.reading.list_refusal.Goals as goal
 
 pub returns-in-Entries : goal.returns-in-Entries

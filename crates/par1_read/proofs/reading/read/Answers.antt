@@ -2,14 +2,12 @@
 -- Assumes nothing.
 use mathlib.Core.Path.{sym, ap, ◌∙◌}
 use Prim.Native.Nat.{ℕ}
-use mathlib.Core.List.{List}
 use native.Mathlib.Omega.{arith}
 use lib.ListN.{length, take, drop}
 use Rattle.lent_bytes.proofs.PartLaws.{part_to_end}
 use Rattle.md5_digest.specs.Digest.{md5}
 use Rattle.par1_read.specs.declared.reading.Reading.TheVariants.{Refused}
 use Rattle.par1_read.proofs.ReadingLaws.{HeaderPassed, header_passed, header_refused, read_as}
-use borrow.Author.Rules.{rules}
 use Rattle.par1_read.proofs.reading.read.Goals as goal
 
 pub returns-then-number-ne0 : goal.returns-then-number-ne0

@@ -3,7 +3,6 @@
 use mathlib.Core.Path.{sym, ap, ◌∙◌}
 use Rattle.refusals.specs.declared.Refusal.{Refusal}
 use Rattle.par1_read.proofs.ReadingLaws.{from_refused, from_accepted}
-use borrow.Author.Rules.{rules}
 use Rattle.par1_read.proofs.reading.read_from.Goals as goal
 
 pub returns-then-refusal-ne0 : goal.returns-then-refusal-ne0

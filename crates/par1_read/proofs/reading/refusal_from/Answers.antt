@@ -1,7 +1,6 @@
 -- `par1_read::reading::refusal_from` meets its contract.
 -- Assumes nothing.
 use Rattle.par1_read.specs.Reading.{refusal_from}
-use borrow.Author.Rules.{rules}
 use Rattle.par1_read.proofs.reading.refusal_from.Goals as goal
 
 pub returns : goal.returns

@@ -1,6 +1,5 @@
 -- `par1_read::reading::refusal_of` meets its contract.
 -- Assumes nothing.
-use borrow.Author.Rules.{rules}
 use Rattle.par1_read.proofs.reading.refusal_of.Goals as goal
 
 pub returns-in-Accepted : goal.returns-in-Accepted

@@ -1,7 +1,6 @@
 -- `par1_read::reading::totals_refusal` meets its contract.
 -- Assumes nothing.
 use Rattle.par1_read.specs.Reading.{totals_refusal}
-use borrow.Author.Rules.{rules}
 use Rattle.par1_read.proofs.reading.totals_refusal.Goals as goal
 
 pub returns : goal.returns

@@ -1,7 +1,6 @@
 -- `par1_write::entry_writing::entry_refusal` meets its contract.
 -- Assumes nothing.
 use Rattle.par1_write.specs.EntryWriting.{entry_refusal}
-use borrow.Author.Rules.{rules}
 use Rattle.par1_write.proofs.entry_writing.entry_refusal.Goals as goal
 
 pub returns : goal.returns

@@ -8,7 +8,6 @@ use Rattle.little_endian.proofs.Numbers.{length-to_le}
 use Rattle.par1_rules.proofs.HashLaws.{length-md5}
 use Rattle.md5_digest.specs.Digest.{md5}
 use Rattle.par1_write.specs.EntryWriting.{entry_bytes}
-use borrow.Author.Rules.{rules}
 use Rattle.par1_write.proofs.entry_writing.put_entry.Goals as goal
 
 pub returns : goal.returns

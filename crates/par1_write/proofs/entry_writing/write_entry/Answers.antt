@@ -3,7 +3,6 @@
 use mathlib.Core.Path.{refl}
 use native.Mathlib.Omega.{arith}
 use Rattle.par1_write.proofs.EntryWritingLaws.{entry-refused, entry_short, entry-over}
-use borrow.Author.Rules.{rules}
 use Rattle.par1_write.proofs.entry_writing.write_entry.Goals as goal
 
 pub returns-then-number-ne0 : goal.returns-then-number-ne0

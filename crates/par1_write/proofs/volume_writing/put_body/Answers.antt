@@ -5,7 +5,6 @@ use Rattle.lent_bytes.proofs.StoreLaws.{stored_all, stored, stored_as, stores_fl
 use Rattle.par1_write.specs.VolumeWriting.{body_bytes}
 use Rattle.par1_rules.proofs.HashLaws.{length-set_hash}
 use Rattle.little_endian.proofs.NumberLists.{length-numbers}
-use borrow.Author.Rules.{rules}
 use Rattle.par1_write.proofs.volume_writing.put_body.Goals as goal
 
 pub returns : goal.returns

@@ -7,7 +7,6 @@ use Rattle.par1_rules.proofs.HashLaws.{length-md5}
 use Rattle.little_endian.specs.Bytes.{to_le}
 use Rattle.par1_write.specs.VolumeWriting.{head_bytes}
 use Rattle.par1_rules.proofs.RuleLaws.{signature_is}
-use borrow.Author.Rules.{rules}
 use Rattle.par1_write.proofs.volume_writing.put_head.Goals as goal
 
 pub returns : goal.returns

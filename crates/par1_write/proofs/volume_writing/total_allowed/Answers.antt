@@ -4,7 +4,6 @@ use mathlib.Core.Path.{sym}
 use Prim.Native.Nat.{◌+◌}
 use native.Mathlib.Omega.{arith}
 use Rattle.par1_rules.proofs.RuleLaws.{too_long, long_enough}
-use borrow.Author.Rules.{rules}
 use Rattle.par1_write.proofs.volume_writing.total_allowed.Goals as goal
 
 pub returns-then-list_len-most : goal.returns-then-list_len-most

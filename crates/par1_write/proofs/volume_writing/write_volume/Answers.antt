@@ -12,7 +12,6 @@ use Rattle.refusals.specs.declared.Refusal.{Refusal}
 use Rattle.par1_rules.proofs.RuleLaws.{Between}
 use Rattle.refusals.specs.Tests.{bare}
 use Rattle.par1_write.proofs.VolumeWritingLaws.{volume_passed, volume_refused, volume_short, volume_over}
-use borrow.Author.Rules.{rules}
 use Rattle.par1_write.proofs.volume_writing.write_volume.Goals as goal
 
 pub returns-then-refusal-ne0 : goal.returns-then-refusal-ne0
