@@ -1,5 +1,6 @@
 // The list of a Par 1.0 file, walked as its bytes come in (document 02, 2026-03).
 #![tactic(auto)]
+
 ghost use Rattle.std.specs.Prelude.{◌≡◌, ◌+◌, ◌*◌, ◌%◌, ◌^◌, ◌<◌, ◌≤◌, true, ◌⊎◌, length};
 ghost use Rattle.entries.specs.Entry.{status_of, file_size_of, md5_of, units_of};
 ghost use Rattle.entries.specs.Walk.{add_entry};

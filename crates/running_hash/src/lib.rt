@@ -1,5 +1,6 @@
 // A running hash that its owner keeps between the calls (document 02, 2026-03: "Logs too long to hold"): a job, by value.
 #![tactic(auto)]
+
 ghost use Rattle.std.specs.Prelude.{◌≡◌};
 ghost use Rattle.running_hash.specs.Hash.{start_hash, push_of, end_of};
 

@@ -1,5 +1,6 @@
 // A running mul_add: a fragment that comes in successive chunks (document 02, 2026-03: folding).
 #![tactic(auto)]
+
 ghost use Rattle.std.specs.Prelude.{◌≡◌};
 ghost use Rattle.running_mul_add.specs.Running.{mul_add_at, position_after, start_mul_add, refused, push_of, end_of};
 

@@ -1,5 +1,6 @@
 // Reading of a Par 1.0 file that comes in chunks (document 02, 2026-03: "Logs too long to hold").
 #![tactic(auto)]
+
 ghost use Rattle.std.specs.Prelude.{◌≡◌, ◌-◌, ◌≤◌, take, drop};
 ghost use Rattle.running_read.specs.Running.{cap, start_read, counts_of, is_open, push_of, reading_of, over_of, push_answer, end_answer};
 

@@ -1,6 +1,6 @@
 -- `list_scan::added` meets its contract: each field of the totals by the function for it.
 -- Assumes nothing.
-use Rattle.std.proofs.Common.{arith, rules}
+use Rattle.std.proofs.Common.{arith}
 use Rattle.entries.specs.Walk.{add_entry}
 use Rattle.entries.proofs.WalkLaws.{saved_most}
 use Rattle.list_scan.proofs.added.Goals as goal

@@ -3,8 +3,7 @@
 -- Assumes nothing.
 use Rattle.std.proofs.Common.{◌≡◌, ◌+◌, ◌-◌, ◌≤◌, length, take, drop, sym, ap, arith, length-drop, rules}
 use Rattle.lent_bytes.proofs.PartLaws.{part_to_end}
-use Rattle.list_scan.specs.Scan.{scan_with}
-use Rattle.list_scan.proofs.RunLaws.{Kept, kept_start, kept_done, run_fits, run_length, run_ends, run_goes_on}
+use Rattle.list_scan.proofs.RunLaws.{kept_start, kept_done, run_fits, run_length, run_ends, run_goes_on}
 use Rattle.list_scan.proofs.after.Goals as goal
 
 pub loop-i-init : goal.loop-i-init

@@ -1,10 +1,9 @@
 -- `list_scan::after` meets its contract. The loop's invariant: the scan so far ends, over the bytes that remain, as the scan before them all,
 -- and its counts have room for them.
 -- Assumes nothing.
-use Rattle.std.proofs.Common.{◌≡◌, ◌+◌, ◌-◌, ◌≤◌, length, take, drop, sym, ap, arith, length-drop, rules}
-use Rattle.lent_bytes.proofs.PartLaws.{part_to_end}
+use Rattle.std.proofs.Common.{◌-◌, length}
 use Rattle.list_scan.specs.Scan.{scan_with}
-use Rattle.list_scan.proofs.RunLaws.{Kept, kept_start, kept_done, run_fits, run_length, run_ends, run_goes_on}
+use Rattle.list_scan.proofs.RunLaws.{Kept}
 use Rattle.list_scan.proofs.after.Given as goal
 
 abbrev pub invariant-loop-i : goal.invariant-loop-i

@@ -2,7 +2,7 @@
 -- Assumes nothing.
 use mathlib.Core.Bool.{not}
 use mathlib.Core.Path.{ap}
-use Rattle.std.proofs.Common.{◌≡◌, cond, sym, ◌∙◌, rules, le-leb}
+use Rattle.std.proofs.Common.{◌≡◌, cond, sym, ◌∙◌, le-leb}
 use borrow.Author.Tests.{not-true, not-false, lt-leb}
 use Rattle.entries.specs.Entry.{file_size_allowed}
 use Rattle.entries.specs.declared.Fault.TheVariants.{FileSize, Name}
@@ -15,8 +15,8 @@ returns-then-not-entry_size_allowed c = simp (sym c.read64.ensures, sym c.entry_
 
 pub returns-then-read64-gt-MAX_FILE_SIZE : goal.returns-then-read64-gt-MAX_FILE_SIZE
 unfolding fault_at
-returns-then-read64-gt-MAX_FILE_SIZE c = simp ((let h : let a = c.args in fault_at a.head.now a.at ≡ cond (file_size_allowed c.read64-2.result) Name FileSize = simp ( sym c.read64.ensures, sym c.entry_size_allowed.ensures ∙ not-false _ (ap not c.if-not-entry_size_allowed.false), sym c.read64-2.ensures, ) in h), lt-leb _ _ c.if-read64-gt-MAX_FILE_SIZE.true)
+returns-then-read64-gt-MAX_FILE_SIZE c = simp ((let h : let a = c.args in fault_at a.head.now a.at ≡ cond (file_size_allowed c.read64-2.result) Name FileSize = simp (sym c.read64.ensures, sym c.entry_size_allowed.ensures ∙ not-false _ (ap not c.if-not-entry_size_allowed.false), sym c.read64-2.ensures) in h), lt-leb _ _ c.if-read64-gt-MAX_FILE_SIZE.true)
 
 pub returns : goal.returns
 unfolding fault_at
-returns c = simp ((let h : let a = c.args in fault_at a.head.now a.at ≡ cond (file_size_allowed c.read64-2.result) Name FileSize = simp ( sym c.read64.ensures, sym c.entry_size_allowed.ensures ∙ not-false _ (ap not c.if-not-entry_size_allowed.false), sym c.read64-2.ensures, ) in h), le-leb _ _ c.if-read64-gt-MAX_FILE_SIZE.false)
+returns c = simp ((let h : let a = c.args in fault_at a.head.now a.at ≡ cond (file_size_allowed c.read64-2.result) Name FileSize = simp (sym c.read64.ensures, sym c.entry_size_allowed.ensures ∙ not-false _ (ap not c.if-not-entry_size_allowed.false), sym c.read64-2.ensures) in h), le-leb _ _ c.if-read64-gt-MAX_FILE_SIZE.false)

@@ -2,7 +2,6 @@
 -- Assumes nothing.
 use Rattle.list_scan.specs.Found.{found_of}
 use Rattle.list_scan.proofs.FoundLaws.{found_refused}
-use Rattle.std.proofs.Common.{rules}
 use Rattle.list_scan.proofs.found.Goals as goal
 
 pub returns-then-scan-eq0 : goal.returns-then-scan-eq0

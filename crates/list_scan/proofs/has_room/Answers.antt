@@ -2,7 +2,6 @@
 -- Assumes nothing.
 use mathlib.Core.Bool.{and_assoc}
 use Rattle.list_scan.specs.Room.{has_room}
-use Rattle.std.proofs.Common.{rules}
 use Rattle.list_scan.proofs.has_room.Goals as goal
 
 pub returns : goal.returns

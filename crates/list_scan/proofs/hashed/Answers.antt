@@ -1,6 +1,6 @@
 -- `list_scan::hashed` meets its contract.
 -- Assumes nothing.
-use Rattle.std.proofs.Common.{◌∙◌, ap₂, rules}
+use Rattle.std.proofs.Common.{◌∙◌, ap₂}
 use Rattle.par1_rules.specs.Hashes.{hash_entry}
 use Rattle.list_scan.proofs.hashed.Goals as goal
 

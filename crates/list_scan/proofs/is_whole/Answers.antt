@@ -2,7 +2,6 @@
 -- Assumes nothing.
 use mathlib.Core.Bool.{and_assoc}
 use Rattle.list_scan.specs.Scan.{is_whole}
-use Rattle.std.proofs.Common.{rules}
 use Rattle.list_scan.proofs.is_whole.Goals as goal
 
 pub returns : goal.returns

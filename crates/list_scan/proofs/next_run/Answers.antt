@@ -1,6 +1,6 @@
 -- `list_scan::next_run` meets its contract: each kind of run.
 -- Assumes nothing.
-use Rattle.std.proofs.Common.{sym, arith, length-take-le, rules}
+use Rattle.std.proofs.Common.{sym, arith, length-take-le}
 use Rattle.list_scan.proofs.RunLaws.{run_head, run_high, run_low, run_units}
 use Rattle.list_scan.proofs.next_run.Goals as goal
 

@@ -1,7 +1,6 @@
 -- `list_scan::start` meets its contract.
 -- Assumes nothing.
 use Rattle.list_scan.specs.Scan.{scan_start}
-use Rattle.std.proofs.Common.{rules}
 use Rattle.list_scan.proofs.start.Goals as goal
 
 pub returns : goal.returns

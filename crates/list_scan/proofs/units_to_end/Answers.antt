@@ -1,6 +1,6 @@
 -- `list_scan::units_to_end` meets its contract: the end is past, or not within the bytes, or within them.
 -- Assumes nothing.
-use Rattle.std.proofs.Common.{inl, inr, arith, rules}
+use Rattle.std.proofs.Common.{inl, inr, arith}
 use Rattle.list_scan.proofs.units_to_end.Goals as goal
 
 pub returns-then-size-at : goal.returns-then-size-at

@@ -6,7 +6,6 @@ use mathlib.Core.List.{List}
 use Rattle.lent_bytes.specs.Writing.{written, with_number}
 use Rattle.running_hash.specs.Hash.{ended_by}
 use Rattle.running_hash.proofs.HashLaws.{end_open, end_over}
-use borrow.Author.Rules.{rules}
 use Rattle.running_hash.proofs.end.Goals as goal
 
 pub returns-then-hash-ne0 : goal.returns-then-hash-ne0

@@ -4,7 +4,6 @@ use mathlib.Core.Path.{sym, ap, ◌∙◌}
 use Rattle.md5_digest.specs.declared.Md5.{Md5}
 use Rattle.running_hash.specs.Hash.{running, outcome}
 use Rattle.running_hash.proofs.HashLaws.{push_open, push_over}
-use borrow.Author.Rules.{rules}
 use Rattle.running_hash.proofs.push.Goals as goal
 
 pub returns-then-hash-ne0 : goal.returns-then-hash-ne0

@@ -2,7 +2,6 @@
 -- Assumes nothing.
 use mathlib.Core.Path.{ap}
 use Rattle.running_hash.specs.Hash.{running, start_hash}
-use borrow.Author.Rules.{rules}
 use Rattle.running_hash.proofs.start.Goals as goal
 
 pub returns : goal.returns

@@ -2,7 +2,6 @@
 -- Assumes nothing.
 use mathlib.Core.Path.{sym, ◌∙◌}
 use Rattle.running_mul_add.proofs.PushLaws.{end_over, end_going}
-use borrow.Author.Rules.{rules}
 use Rattle.running_mul_add.proofs.end.Goals as goal
 
 pub returns-then-job : goal.returns-then-job

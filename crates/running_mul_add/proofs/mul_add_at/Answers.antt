@@ -2,7 +2,6 @@
 -- Assumes nothing.
 use mathlib.Core.Path.{sym}
 use Rattle.running_mul_add.proofs.PushLaws.{at_past, at_part}
-use borrow.Author.Rules.{rules}
 use Rattle.running_mul_add.proofs.mul_add_at.Goals as goal
 
 pub returns-then-buffer-at : goal.returns-then-buffer-at

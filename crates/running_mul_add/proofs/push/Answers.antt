@@ -3,7 +3,6 @@
 use mathlib.Core.Path.{sym, ap, ◌∙◌}
 use Rattle.running_mul_add.proofs.PushLaws.{push_over, push_going}
 use Rattle.running_mul_add.specs.declared.Outcome.{Outcome}
-use borrow.Author.Rules.{rules}
 use Rattle.running_mul_add.proofs.push.Goals as goal
 
 pub returns-then-job : goal.returns-then-job

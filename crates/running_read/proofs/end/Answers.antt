@@ -9,7 +9,6 @@ use Rattle.par1_read.specs.declared.reading.Reading.TheVariants.{Refused}
 use Rattle.running_read.specs.declared.RunningRead.{RunningRead}
 use Rattle.running_read.proofs.OpenLaws.{tested}
 use Rattle.running_read.proofs.PushLaws.{end_open, end_refused}
-use borrow.Author.Rules.{rules}
 use Rattle.running_read.proofs.end.Goals as goal
 
 pub returns-then-not-is_open : goal.returns-then-not-is_open

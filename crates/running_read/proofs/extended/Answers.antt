@@ -5,7 +5,6 @@ use native.Mathlib.Omega.{arith}
 use lib.ListN.{length, length-take}
 use Rattle.running_read.specs.Running.{cap}
 use Rattle.running_read.proofs.PushLaws.{push_by}
-use borrow.Author.Rules.{rules}
 use Rattle.running_read.proofs.extended.Goals as goal
 
 pub overflow_add-result : goal.overflow_add-result

@@ -7,7 +7,6 @@ use native.Mathlib.Omega.{arith}
 use Rattle.running_read.specs.declared.Counts.{Counts}
 use Rattle.running_read.specs.Running.{cap, is_open}
 use Rattle.running_read.proofs.OpenLaws.{open_not, open_set}
-use borrow.Author.Rules.{rules}
 use Rattle.running_read.proofs.is_open.Goals as goal
 
 -- the counts, where all tests but the last have passed
@@ -40,8 +39,8 @@ returns-then-counts-2 c = sym (open_not _ (λ o. omega (arith, o.some, c.if-coun
 
 pub overflow_mul-result : goal.overflow_mul-result
 unfolding cap
-overflow_mul-result c = let t = (let h : Told c.args.counts = record { goes = c.if-counts.false; short = c.if-counts-gt-CAP.false; control_is = c.if-counts-less.false ∙ c.less.ensures; within = omega (arith, c.if-counts-room-2.false, c.if-counts-room.false, c.less-room.ensures); some = c.if-counts-2.false; } in h) in omega (arith, t.short, t.within, t.some)
+overflow_mul-result c = let t = (let h : Told c.args.counts = record { goes = c.if-counts.false; short = c.if-counts-gt-CAP.false; control_is = c.if-counts-less.false ∙ c.less.ensures; within = omega (arith, c.if-counts-room-2.false, c.if-counts-room.false, c.less-room.ensures); some = c.if-counts-2.false } in h) in omega (arith, t.short, t.within, t.some)
 
 pub returns : goal.returns
 unfolding cap
-returns c = let t = (let h : Told c.args.counts = record { goes = c.if-counts.false; short = c.if-counts-gt-CAP.false; control_is = c.if-counts-less.false ∙ c.less.ensures; within = omega (arith, c.if-counts-room-2.false, c.if-counts-room.false, c.less-room.ensures); some = c.if-counts-2.false; } in h) in sym (open_set _ t.goes t.short t.control_is t.within t.some)
+returns c = let t = (let h : Told c.args.counts = record { goes = c.if-counts.false; short = c.if-counts-gt-CAP.false; control_is = c.if-counts-less.false ∙ c.less.ensures; within = omega (arith, c.if-counts-room-2.false, c.if-counts-room.false, c.less-room.ensures); some = c.if-counts-2.false } in h) in sym (open_set _ t.goes t.short t.control_is t.within t.some)

@@ -8,7 +8,6 @@ use Rattle.running_read.specs.declared.RunningRead.{RunningRead}
 use Rattle.running_read.specs.Running.{counts_of, is_open}
 use Rattle.running_read.proofs.OpenLaws.{tested, open_short}
 use Rattle.running_read.proofs.PushLaws.{push_open, push_refused}
-use borrow.Author.Rules.{rules}
 use Rattle.running_read.proofs.push.Goals as goal
 
 pub returns-then-not-is_open : goal.returns-then-not-is_open

@@ -1,7 +1,6 @@
 -- `running_read::reading_of` meets its contract.
 -- Assumes nothing.
 use Rattle.running_read.specs.Running.{reading_of}
-use borrow.Author.Rules.{rules}
 use Rattle.running_read.proofs.reading_of.Goals as goal
 
 pub returns : goal.returns

@@ -1,7 +1,6 @@
 -- `running_read::start` meets its contract.
 -- Assumes nothing.
 use Rattle.running_read.specs.Running.{start_read}
-use borrow.Author.Rules.{rules}
 use Rattle.running_read.proofs.start.Goals as goal
 
 pub returns : goal.returns
