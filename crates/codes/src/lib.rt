@@ -1,5 +1,6 @@
 // The two codes (document 02, 2026-13): by which coefficients a volume is made.
 #![tactic(auto)]
+
 ghost use Rattle.std.specs.Prelude.{◌≡◌};
 ghost use Rattle.codes.specs.Codes.{is_code, code_of, code_number, same};
 

@@ -1,6 +1,7 @@
 // Arithmetic of bytes as elements of the field with 256 elements (document 01, "The parity bytes").
 // The sum is the language's exclusive or; products and powers go by tables.
 #![tactic(auto)]
+
 ghost use Rattle.std.specs.Prelude.{◌≡◌};
 ghost use Rattle.gf256.specs.Answer.{inverse_answer};
 ghost use Rattle.gf256.specs.Field.{product, power};

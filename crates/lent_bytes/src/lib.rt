@@ -1,5 +1,6 @@
 // Stores into lent bytes, what a call answers that writes there (document 01, "What comes back"), and the comparing of bytes and of lengths.
 #![tactic(auto)]
+
 ghost use Rattle.std.specs.Prelude.{◌≡◌, ◌-◌, min, max};
 ghost use Rattle.std.proofs.lemmas.List.Edits.{sets};
 ghost use Rattle.lent_bytes.specs.Writing.{written, writing_refusal, with_number};

@@ -1,6 +1,7 @@
 // Numbers in slices of bytes, lowest byte first. Any place is allowed: past the end of a slice bytes are read as 0, and bytes
 // written there are dropped.
 #![tactic(auto)]
+
 ghost use Rattle.std.specs.Prelude.{◌≡◌, ◌+◌, ◌-◌, ◌^◌, min, length};
 ghost use Rattle.std.proofs.lemmas.List.Edits.{sets};
 ghost use Rattle.little_endian.specs.Bytes.{to_le, le_at, numbers as numbers_of, numbers_at};

@@ -1,5 +1,6 @@
 // Sets of numbers below 256, one bit each: number k is bit k mod 64 of word k div 64.
 #![tactic(auto)]
+
 ghost use Rattle.std.specs.Prelude.{◌≡◌};
 ghost use Rattle.computed_tests.specs.Numbers.{one_to};
 ghost use Rattle.number_sets.specs.Sets.{member, inserted, removed, size_below, within, apart, Ones};

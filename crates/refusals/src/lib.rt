@@ -1,6 +1,7 @@
 // Refusals: the limits (document 01, "Sizes"; document 02, 2026-08), the numbers of the table of refusals (document 01, "What comes back", and
 // document 02 from 16 on), a refusal with its place, and tests one after another.
 #![tactic(auto)]
+
 ghost use Rattle.std.specs.Prelude.{◌≡◌};
 ghost use Rattle.refusals.specs.Tests.{bare, test, or_else};
 

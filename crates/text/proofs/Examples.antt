@@ -62,7 +62,7 @@ at_the_end = refl
 
 -- ---- lines and words
 
-a_line : line_length (ascii "F 7\n_v") ≡ 4
+a_line : line_length (ascii "F 7\nV") ≡ 4
 unfolding line_length
 a_line = refl
 

@@ -1,13 +1,12 @@
 -- `lent_bytes::put` meets its contract. The loop's invariant: the bytes so far are stored.
 -- Assumes nothing.
 use mathlib.Core.Path.{◌≡◌, refl, ap, ◌∙◌}
-use Prim.Native.Nat.{ℕ, ◌≤◌, ◌-◌}
+use Prim.Native.Nat.{ℕ}
 use mathlib.Core.List.{List}
 use native.Mathlib.Omega.{arith}
 use lib.ListN.{length, take}
 use lib.Seq.{sets, length-sets}
 use Rattle.lent_bytes.proofs.StoreLaws.{sets_more, sets_fitting}
-use borrow.Author.Rules.{rules}
 use Rattle.lent_bytes.proofs.put.Goals as goal
 
 -- the stores keep the length

@@ -1,6 +1,5 @@
 -- `lent_bytes::refusal_of` meets its contract.
 -- Assumes nothing.
-use borrow.Author.Rules.{rules}
 use Rattle.lent_bytes.proofs.refusal_of.Goals as goal
 
 pub returns-in-Written : goal.returns-in-Written

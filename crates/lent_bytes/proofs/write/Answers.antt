@@ -4,7 +4,6 @@ use mathlib.Core.Path.{refl, ap, ◌∙◌}
 use Rattle.lent_bytes.specs.Writing.{with_number}
 use Rattle.lent_bytes.proofs.StoreLaws.{sets_over}
 use Rattle.lent_bytes.proofs.WritingLaws.{written_fits, written_short}
-use borrow.Author.Rules.{rules}
 use Rattle.lent_bytes.proofs.write.Goals as goal
 
 pub returns-then-out-bytes : goal.returns-then-out-bytes

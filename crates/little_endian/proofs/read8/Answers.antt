@@ -1,7 +1,6 @@
 -- `little_endian::read8` meets its contract: a number of one byte is the byte, 0 past the end.
 -- Assumes nothing.
 use mathlib.Core.Path.{sym, ◌∙◌}
-use borrow.Author.Rules.{rules}
 use lib.ListN.{get_or-eq_default}
 use Rattle.little_endian.proofs.Reading.{le_at_byte}
 use Rattle.little_endian.proofs.read8.Goals as goal

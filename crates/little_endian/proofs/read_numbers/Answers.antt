@@ -1,7 +1,7 @@
 -- `little_endian::read_numbers` meets its contract.
 -- Assumes nothing.
 use mathlib.Core.Path.{◌≡◌, refl, sym, ap, ◌∙◌}
-use Prim.Native.Nat.{ℕ, ◌≤◌, ◌-◌}
+use Prim.Native.Nat.{ℕ, ◌-◌}
 use native.Mathlib.Nat.{sub-zero}
 use native.Mathlib.Omega.{arith}
 use mathlib.Core.List.{◌++◌, append-nil}
@@ -9,7 +9,6 @@ use lib.ListN.{length, take, length-set}
 use lib.Seq.{take_all}
 use Rattle.little_endian.specs.Bytes.{numbers_at}
 use Rattle.little_endian.proofs.NumberLists.{read_more}
-use borrow.Author.Rules.{rules}
 use Rattle.little_endian.proofs.read_numbers.Goals as goal
 
 pub loop-i-init : goal.loop-i-init

@@ -1,14 +1,10 @@
 -- `little_endian::write_numbers` meets its contract.
 -- Assumes nothing.
-use mathlib.Core.Path.{◌≡◌, refl, sym, ap, ◌∙◌}
-use Prim.Native.Nat.{ℕ, ◌≤◌, ◌-◌}
-use native.Mathlib.Omega.{arith}
-use mathlib.Core.List.{List}
-use lib.ListN.{length, drop, drop_of_length-le}
-use lib.Seq.{sets, length-sets}
+use mathlib.Core.Path.{◌≡◌}
+use Prim.Native.Nat.{◌≤◌, ◌-◌}
+use lib.ListN.{length, drop}
+use lib.Seq.{sets}
 use Rattle.little_endian.specs.Bytes.{numbers as numbers_of}
-use Rattle.little_endian.proofs.NumberLists.{write_more}
-use borrow.Author.Rules.{rules}
 use Rattle.little_endian.proofs.write_numbers.Given as goal
 
 abbrev pub invariant-loop-i : goal.invariant-loop-i

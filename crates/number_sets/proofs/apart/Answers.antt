@@ -1,15 +1,11 @@
 -- `number_sets::apart` meets its contract.
 -- Assumes nothing.
-use mathlib.Core.Path.{◌≡◌, sym, ap, ap₂, ◌∙◌}
-use mathlib.Core.Logic.{⊎_elim}
-use Prim.Native.Nat.{ℕ, ◌≤◌, ◌<◌, ◌-◌}
+use mathlib.Core.Path.{◌≡◌, sym, ap₂, ◌∙◌}
 use native.Mathlib.Omega.{arith}
-use mathlib.Core.Bool.{Bool, true, not, ◌&&◌, and-false}
+use mathlib.Core.Bool.{Bool, not, ◌&&◌}
 use native.Mathlib.Nat.{not-suc-le-zero}
 use Rattle.computed_tests.proofs.Tests.{all_false, all_true}
 use Rattle.number_sets.specs.Sets.{member, apart}
-use Rattle.number_sets.proofs.Ranges.{one_more}
-use borrow.Author.Rules.{rules}
 use Rattle.number_sets.proofs.apart.Goals as goal
 
 pub loop-number-init : goal.loop-number-init

@@ -2,9 +2,8 @@
 -- Assumes nothing.
 use mathlib.Core.Path.{ap₂, ◌∙◌}
 use Prim.Native.Nat.{◌+◌, ◌<◌, ◌^◌}
-use lib.ListN.{get_or, set}
+use lib.ListN.{get_or}
 use Rattle.number_sets.proofs.Words.{size_by_ones, below_four}
-use borrow.Author.Rules.{rules}
 use Rattle.number_sets.proofs.size.Goals as goal
 
 pub returns : goal.returns

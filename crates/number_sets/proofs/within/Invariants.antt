@@ -1,18 +1,10 @@
 -- `number_sets::within` meets its contract.
 -- Assumes nothing.
-use mathlib.Core.Path.{◌≡◌, sym, ap₂, ◌∙◌}
-use mathlib.Core.Logic.{⊎_elim}
+use mathlib.Core.Path.{◌≡◌}
 use Prim.Native.Nat.{ℕ, ◌≤◌, ◌<◌, ◌-◌}
-use native.Mathlib.Omega.{arith}
-use lib.ListN.{set}
-use mathlib.Core.Bool.{Bool, true, not, ◌||◌}
-use native.Mathlib.Nat.{not-suc-le-zero}
+use mathlib.Core.Bool.{true, not, ◌||◌}
 use Rattle.computed_tests.specs.Numbers.{one_to}
-use Rattle.computed_tests.proofs.Tests.{all_false, all_true}
-use Rattle.number_sets.specs.Sets.{member, within}
-use Rattle.number_sets.proofs.Ranges.{one_more, or_left, or_right}
-use borrow.Author.Tests.{not-true, not-false}
-use borrow.Author.Rules.{rules}
+use Rattle.number_sets.specs.Sets.{member}
 use Rattle.number_sets.proofs.within.Given as goal
 
 abbrev pub invariant-loop-k : goal.invariant-loop-k

@@ -1,12 +1,9 @@
 -- `lent_bytes::same` meets its contract. The loop's invariant: the test on what remains of both decides.
 -- Assumes nothing.
-use mathlib.Core.Path.{◌≡◌, refl, sym, ◌∙◌}
+use mathlib.Core.Path.{◌≡◌}
 use Prim.Native.Nat.{◌≤◌, ◌-◌}
-use native.Mathlib.Omega.{arith}
 use lib.ListN.{length, drop}
-use borrow.Author.Tests.{ne_eqb, eq-eqb}
 use Rattle.lent_bytes.specs.Equal.{equal}
-use Rattle.lent_bytes.proofs.EqualLaws.{equal_lengths, equal_more, equal_end}
 use Rattle.lent_bytes.proofs.comparing.same.Given as goal
 
 abbrev pub invariant-loop-i : goal.invariant-loop-i
