@@ -24,7 +24,7 @@ use borrow.Author.Tests.{le-leb, lt-leb}
 use Rattle.codes.specs.declared.Code.{Code}
 use Rattle.lent_bytes.specs.Writing.{refused, accepted, written_unless}
 use Rattle.lent_bytes.specs.declared.Writing.{Writing}
-use Rattle.lent_bytes.specs.declared.Writing.TheVariants.{Written, Refused}
+use Rattle.lent_bytes.specs.declared.Writing.TheVariants.{Written}
 use Rattle.lent_bytes.proofs.WritingLaws.{written_short, unless_none, unless_refused, unless_accepted, unless_tells, never, refused_exactly}
 use Rattle.par1.specs.Checking.{lone_refusal}
 use Rattle.par1.proofs.Faults.{lone_number_lem, lone_some, lone_first, lone_passed, lone_kept}

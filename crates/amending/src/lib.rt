@@ -1,5 +1,6 @@
 // Volumes kept current while their files change (document 02, 2026-05).
 #![tactic(auto)]
+
 ghost use Rattle.std.specs.Prelude.{◌≡◌};
 ghost use Rattle.parity.specs.Coefficient.{rule_of};
 ghost use Rattle.amending.specs.Call.{change_of, amend_of};

@@ -1,5 +1,6 @@
 // Answers in lent bytes: a byte of the field, the parts of a file, and the first entry of a list.
 #![tactic(auto)]
+
 ghost use Rattle.std.specs.Prelude.{◌≡◌};
 ghost use Rattle.answer_bytes.specs.Results.{byte_into, parts_bytes, read_into, entry_numbers, entry_into};
 ghost use Rattle.lent_bytes.specs.Writing.{written, with_number};

@@ -1,5 +1,6 @@
 // The comparison of two index files or volumes, as text into a lent buffer (document 02, 2026-06).
 #![tactic(auto)]
+
 ghost use Rattle.std.specs.Prelude.{◌≡◌};
 ghost use Rattle.lent_bytes.specs.Writing.{written};
 ghost use Rattle.text.specs.Buffer.{buffer, put as put_of};

@@ -1,5 +1,6 @@
 // Jobs in lent bytes (document 02, 2026-03): the caller keeps the bytes from one call to the next.
 #![tactic(auto)]
+
 mod marks;
 mod mul_adds;
 mod reads;

@@ -1,5 +1,6 @@
 // The listing of an index file or volume, as text into a lent buffer (document 01, "What comes back").
 #![tactic(auto)]
+
 ghost use Rattle.std.specs.Prelude.{◌≡◌};
 ghost use Rattle.lent_bytes.specs.Writing.{written};
 ghost use Rattle.text.specs.Buffer.{buffer, put as put_of};

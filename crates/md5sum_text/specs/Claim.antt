@@ -29,7 +29,7 @@ use Rattle.little_endian.specs.Bytes.{Bytes}
 use Rattle.refusals.specs.Tests.{bare}
 use Rattle.refusals.specs.declared.Refusal.{Refusal}
 use Rattle.lent_bytes.specs.Writing.{accepted, RefusedExactly}
-use Rattle.lent_bytes.specs.declared.Writing.TheVariants.{Written, Refused}
+use Rattle.lent_bytes.specs.declared.Writing.TheVariants.{Written}
 use Rattle.cut_lists.specs.All.{All}
 use Rattle.entries.specs.Claim.{Unstorable}
 use Rattle.entries.specs.Entry.{md5_of, name_of, units_of}

@@ -1,5 +1,6 @@
 // The sums of a file's list as md5sum text, and such text held against the list (document 02, 2026-07).
 #![tactic(auto)]
+
 ghost use Rattle.std.specs.Prelude.{◌≡◌};
 ghost use Rattle.md5sum_text.specs.Export.{export_into};
 ghost use Rattle.md5sum_text.specs.Import.{import_into};

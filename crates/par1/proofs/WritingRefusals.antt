@@ -14,7 +14,6 @@ use native.Mathlib.Omega.{arith}
 use lib.ListN.{length}
 use borrow.Author.Tests.{le-leb, lt-leb}
 use Rattle.lent_bytes.specs.Writing.{refused, accepted, written_unless}
-use Rattle.lent_bytes.specs.declared.Writing.TheVariants.{Refused}
 use Rattle.lent_bytes.proofs.WritingLaws.{refused_exactly, unless_refused}
 use Rattle.codes.specs.declared.Code.{Code}
 use Rattle.entries.specs.Claim.{BadName}

@@ -11,7 +11,6 @@ use Rattle.amending.specs.Plan.{plan_of}
 use Rattle.amending.specs.declared.planning.Planned.TheVariants as planned
 use Rattle.amending.proofs.PatchLaws.{amend_refuses, amend_short, plan_right, amend_over}
 use Rattle.amending.proofs.Refusals.{amend_past}
-use borrow.Author.Rules.{rules}
 use Rattle.amending.proofs.amend.Goals as goal
 
 pub returns-then-volume-length : goal.returns-then-volume-length

@@ -5,7 +5,6 @@ use mathlib.Core.List.{[], ◌∷◌}
 use Prim.Native.Nat.{ℕ}
 use Rattle.little_endian.specs.Bytes.{numbers, to_le}
 use Rattle.answer_bytes.specs.Results.{parts_bytes}
-use borrow.Author.Rules.{rules}
 use Rattle.answer_bytes.proofs.bytes_of_parts.Goals as goal
 
 pub returns : goal.returns

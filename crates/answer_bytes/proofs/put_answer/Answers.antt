@@ -1,7 +1,6 @@
 -- `answer_bytes::put_answer` meets its contract.
 -- Assumes nothing.
 use Rattle.answer_bytes.specs.Results.{byte_into}
-use borrow.Author.Rules.{rules}
 use Rattle.answer_bytes.proofs.put_answer.Goals as goal
 
 pub returns-in-Refused : goal.returns-in-Refused

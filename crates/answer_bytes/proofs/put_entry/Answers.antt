@@ -1,7 +1,6 @@
 -- `answer_bytes::put_entry` meets its contract.
 -- Assumes nothing.
 use Rattle.answer_bytes.specs.Results.{entry_into}
-use borrow.Author.Rules.{rules}
 use Rattle.answer_bytes.proofs.put_entry.Goals as goal
 
 pub returns-in-Entry : goal.returns-in-Entry

@@ -6,7 +6,6 @@ use mathlib.Core.List.{List}
 use Rattle.lent_bytes.specs.Writing.{written, with_number}
 use Rattle.little_endian.specs.Bytes.{numbers, to_le}
 use Rattle.answer_bytes.specs.Results.{entry_numbers}
-use borrow.Author.Rules.{rules}
 use Rattle.answer_bytes.proofs.put_numbers.Goals as goal
 
 pub returns : goal.returns

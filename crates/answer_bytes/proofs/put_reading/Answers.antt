@@ -6,7 +6,6 @@ use mathlib.Core.List.{List}
 use Rattle.lent_bytes.specs.Writing.{written, with_number}
 use Rattle.lent_bytes.proofs.WritingLaws.{written_refusal}
 use Rattle.answer_bytes.specs.Results.{read_into}
-use borrow.Author.Rules.{rules}
 use Rattle.answer_bytes.proofs.put_reading.Goals as goal
 
 pub returns-in-Refused : goal.returns-in-Refused

@@ -4,7 +4,6 @@ use native.Mathlib.Omega.{arith}
 use Rattle.text.proofs.FitLaws.{fit_written, fit_refused}
 use Rattle.comparing.specs.Comparing.{comparison_of}
 use Rattle.comparing.proofs.CallLaws.{fit_none}
-use borrow.Author.Rules.{rules}
 use Rattle.comparing.proofs.compare.Goals as goal
 
 pub returns-then-length-eq0 : goal.returns-then-length-eq0

@@ -14,7 +14,6 @@ use Rattle.comparing.specs.Runs.{run_lines}
 use Rattle.comparing.specs.Comparing.{refusal_lines}
 use Rattle.comparing.proofs.CallLaws.{comparison_refused, comparison_refused_2, comparison_accepted, data_part}
 use Rattle.par1_read.proofs.ReadingLaws.{read_list}
-use borrow.Author.Rules.{rules}
 use Rattle.comparing.proofs.put_comparison.Goals as goal
 
 pub returns-in_default : goal.returns-in_default

@@ -5,7 +5,6 @@ use Rattle.par1_read.specs.declared.reading.Reading.{Reading}
 use Rattle.lent_bytes.specs.Writing.{written}
 use Rattle.listing.specs.Listing.{listing_by, listing_of}
 use Rattle.listing.proofs.AcceptedLaws.{list_in}
-use borrow.Author.Rules.{rules}
 use Rattle.listing.proofs.list.Goals as goal
 
 pub list_as-requires : goal.list_as-requires

@@ -3,7 +3,6 @@
 use native.Mathlib.Omega.{arith}
 use Rattle.text.proofs.FitLaws.{fit_written, fit_refused}
 use Rattle.listing.specs.Listing.{listing_by}
-use borrow.Author.Rules.{rules}
 use Rattle.listing.proofs.list_as.Goals as goal
 
 pub returns-then-length-out : goal.returns-then-length-out

@@ -2,7 +2,6 @@
 -- Assumes nothing.
 use borrow.Author.Tests.{le-leb, lt-leb}
 use Rattle.listing.specs.Listing.{input_listing}
-use borrow.Author.Rules.{rules}
 use Rattle.listing.proofs.list_input.Goals as goal
 
 pub returns-then-input-le-MAX_LISTED_LENGTH : goal.returns-then-input-le-MAX_LISTED_LENGTH

@@ -1,9 +1,8 @@
 -- `listing::put_listing` meets its contract.
 -- Assumes nothing.
 use mathlib.Core.Path.{◌≡◌, sym, ap, ◌∙◌, subst}
-use Prim.Native.Nat.{ℕ, ◌-◌, ◌+◌}
+use Prim.Native.Nat.{◌-◌, ◌+◌}
 use native.Mathlib.Omega.{arith}
-use mathlib.Core.List.{List}
 use Rattle.par1_rules.specs.Layout.{list_size_of}
 use Rattle.par1_read.specs.declared.reading.Reading.{Reading}
 use Rattle.par1_read.specs.declared.reading.Reading.TheVariants.{Accepted}
@@ -13,7 +12,6 @@ use Rattle.listing.specs.Lines.{refused_line}
 use Rattle.par1_read.specs.Reading.{reading_refusal}
 use Rattle.refusals.specs.declared.Refusal.{Refusal}
 use Rattle.listing.specs.Listing.{listing_by, ListIn}
-use borrow.Author.Rules.{rules}
 use Rattle.listing.proofs.put_listing.Goals as goal
 
 pub returns-in_default : goal.returns-in_default

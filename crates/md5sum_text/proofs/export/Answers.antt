@@ -5,7 +5,6 @@ use mathlib.Core.Path.{◌≡◌, sym, ap, ◌∙◌}
 use mathlib.Core.List.{List}
 use Prim.Native.Nat.{ℕ}
 use borrow.Author.Tests.{not-true, not-false}
-use borrow.Author.Rules.{rules}
 use Rattle.lent_bytes.specs.Writing.{refused, written}
 use Rattle.refusals.specs.declared.Refusal.{Refusal}
 use Rattle.par1_read.specs.Reading.{entries_in, read_of, reading_refusal}

@@ -9,7 +9,6 @@ use borrow.Author.Tests.{not-true, not-false, ne_eqb, eq-eqb}
 use Rattle.lent_bytes.specs.Equal.{equal}
 use Rattle.entries.specs.Entry.{file_size_of, name_of}
 use Rattle.amending.specs.Call.{stretch_allowed, change_allowed}
-use borrow.Author.Rules.{rules}
 use Rattle.amending.proofs.planning.change_allowed.Goals as goal
 
 pub returns-then-not-stretch_allowed : goal.returns-then-not-stretch_allowed

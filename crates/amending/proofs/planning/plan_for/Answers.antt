@@ -3,7 +3,6 @@
 use mathlib.Core.Path.{sym, ◌∙◌}
 use Rattle.parity.specs.Coefficient.{rule_of}
 use Rattle.amending.proofs.PlanLaws.{plan_unread}
-use borrow.Author.Rules.{rules}
 use Rattle.amending.proofs.planning.plan_for.Goals as goal
 
 pub plan_read-requires : goal.plan_read-requires

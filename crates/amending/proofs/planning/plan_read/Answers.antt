@@ -11,7 +11,6 @@ use Rattle.amending.specs.Call.{change_of, entry_in, file_allowed}
 use Rattle.amending.specs.Plan.{span_in, tests_refusal, PartsFit, sized_plan}
 use Rattle.amending.specs.declared.finding.Span.{Span}
 use Rattle.amending.proofs.PlanLaws.{span_is, was_is, numbered_is, plan_refused, parts_fit, plan_sized}
-use borrow.Author.Rules.{rules}
 use Rattle.amending.proofs.planning.plan_read.Goals as goal
 
 pub returns-then-refusal-ne0 : goal.returns-then-refusal-ne0

@@ -3,7 +3,6 @@
 use native.Mathlib.Omega.{arith}
 use Rattle.parity.specs.Coefficient.{rule_of}
 use Rattle.amending.proofs.PlanLaws.{sized_short, sized_over}
-use borrow.Author.Rules.{rules}
 use Rattle.amending.proofs.planning.sized_plan.Goals as goal
 
 pub returns-then-data_start-data_size : goal.returns-then-data_start-data_size

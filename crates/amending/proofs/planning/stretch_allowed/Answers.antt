@@ -2,7 +2,6 @@
 -- Assumes nothing.
 use mathlib.Core.Path.{sym, ◌∙◌}
 use borrow.Author.Tests.{ne_eqb, eq-eqb}
-use borrow.Author.Rules.{rules}
 use Rattle.amending.proofs.planning.stretch_allowed.Goals as goal
 
 pub returns-then-is_inside : goal.returns-then-is_inside

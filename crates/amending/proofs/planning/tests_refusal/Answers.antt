@@ -1,7 +1,6 @@
 -- `amending::planning::tests_refusal` meets its contract.
 -- Assumes nothing.
 use Rattle.amending.specs.Plan.{tests_refusal}
-use borrow.Author.Rules.{rules}
 use Rattle.amending.proofs.planning.tests_refusal.Goals as goal
 
 pub returns : goal.returns

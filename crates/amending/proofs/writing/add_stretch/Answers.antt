@@ -7,7 +7,6 @@ use mathlib.Core.List.{List, ◌++◌}
 use lib.ListN.{take, drop}
 use lib.Seq.{drop-drop}
 use Rattle.mul_add.specs.MulAdd.{mul_add}
-use borrow.Author.Rules.{rules}
 use Rattle.amending.proofs.writing.add_stretch.Goals as goal
 
 -- what follows the part of a list from n to m

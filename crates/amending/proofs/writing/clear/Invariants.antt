@@ -1,12 +1,9 @@
 -- `amending::writing::clear` meets its contract. The loop's invariant: zeros stand so far.
 -- Assumes nothing.
-use mathlib.Core.Path.{◌≡◌, sym, ap, ap₂, ◌∙◌}
-use Prim.Native.Nat.{ℕ, ◌+◌, ◌-◌, ◌≤◌, ◌<◌, max}
-use native.Mathlib.Omega.{arith}
-use mathlib.Core.List.{List}
-use lib.ListN.{length, take, set, replicate, length-replicate, get_or-replicate}
-use lib.Seq.{sets, length-sets, take_all}
-use Rattle.lent_bytes.proofs.StoreLaws.{sets_more}
+use mathlib.Core.Path.{◌≡◌}
+use Prim.Native.Nat.{◌-◌, ◌≤◌, max}
+use lib.ListN.{take, replicate}
+use lib.Seq.{sets}
 use Rattle.amending.proofs.writing.clear.Given as goal
 
 abbrev pub invariant-loop-at : goal.invariant-loop-at

@@ -1,6 +1,5 @@
 -- `amending::writing::patch` meets its contract.
 -- Assumes nothing.
-use borrow.Author.Rules.{rules}
 use Rattle.amending.proofs.writing.patch.Goals as goal
 
 pub returns : goal.returns

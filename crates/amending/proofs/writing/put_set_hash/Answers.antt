@@ -6,7 +6,6 @@ use mathlib.Core.List.{List}
 use lib.Seq.{sets}
 use Rattle.entries.specs.Walk.{entries_of}
 use Rattle.par1_rules.specs.Hashes.{set_hash}
-use borrow.Author.Rules.{rules}
 use Rattle.amending.proofs.writing.put_set_hash.Goals as goal
 
 pub returns : goal.returns

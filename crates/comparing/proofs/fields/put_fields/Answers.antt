@@ -13,7 +13,6 @@ use Rattle.comparing.specs.Lines.{entry, entry_text}
 use Rattle.text.specs.Ascii.{ascii}
 use Rattle.comparing.specs.Differences.{entry_table}
 use Rattle.comparing.proofs.FieldLaws.{differing_text}
-use borrow.Author.Rules.{rules}
 use Rattle.comparing.proofs.fields.put_fields.Goals as goal
 
 pub returns : goal.returns

@@ -3,7 +3,6 @@
 use mathlib.Core.Path.{sym, ◌∙◌}
 use native.Mathlib.Omega.{arith}
 use Rattle.text.proofs.BufferLaws.{put_nil}
-use borrow.Author.Rules.{rules}
 use Rattle.comparing.proofs.fields.put_head_field.Goals as goal
 
 pub returns-then-same_part : goal.returns-then-same_part

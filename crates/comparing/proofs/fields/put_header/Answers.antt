@@ -8,7 +8,6 @@ use Rattle.text.proofs.BufferLaws.{put-length, last, then, puts}
 use Rattle.comparing.specs.Lines.{head}
 use Rattle.comparing.specs.Differences.{head_table, head_lines}
 use Rattle.comparing.proofs.FieldLaws.{differing_text}
-use borrow.Author.Rules.{rules}
 use Rattle.comparing.proofs.fields.put_header.Goals as goal
 
 pub returns : goal.returns

@@ -2,7 +2,6 @@
 -- Assumes nothing.
 use mathlib.Core.Path.{ap₂, ◌∙◌}
 use Rattle.lent_bytes.specs.Equal.{equal}
-use borrow.Author.Rules.{rules}
 use Rattle.comparing.proofs.fields.same_part.Goals as goal
 
 pub returns : goal.returns

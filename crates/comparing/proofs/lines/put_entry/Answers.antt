@@ -3,7 +3,6 @@
 use native.Mathlib.Omega.{arith}
 use Rattle.text.proofs.BufferLaws.{last, then, puts}
 use Rattle.comparing.specs.Lines.{entry_text}
-use borrow.Author.Rules.{rules}
 use Rattle.comparing.proofs.lines.put_entry.Goals as goal
 
 pub returns : goal.returns

@@ -8,7 +8,6 @@ use mathlib.Core.List.{append-nil, flatten}
 use Rattle.par1_read.specs.declared.reading.Reading.{Reading}
 use Rattle.comparing.specs.Lines.{refused_text, text_of}
 use Rattle.comparing.specs.Comparing.{refusal_lines}
-use borrow.Author.Rules.{rules}
 use Rattle.comparing.proofs.lines.put_refusal.Goals as goal
 
 pub returns-in_default : goal.returns-in_default

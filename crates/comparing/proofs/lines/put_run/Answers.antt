@@ -3,7 +3,6 @@
 use native.Mathlib.Omega.{arith}
 use Rattle.text.proofs.BufferLaws.{last, then, puts}
 use Rattle.comparing.specs.Lines.{run_text}
-use borrow.Author.Rules.{rules}
 use Rattle.comparing.proofs.lines.put_run.Goals as goal
 
 pub returns : goal.returns

@@ -1,18 +1,11 @@
 -- `comparing::lists::put_all` meets its contract. The loop's invariant: the lines on the entries that remain, put after those so far, are all of
 -- them.
 -- Assumes nothing.
-use mathlib.Core.Path.{◌≡◌, refl, ◌∙◌}
-use Prim.Native.Nat.{◌≤◌, ◌-◌, ◌+◌}
+use mathlib.Core.Path.{refl, ◌∙◌}
 use native.Mathlib.Omega.{arith}
-use lib.ListN.{length, drop}
-use Rattle.text.specs.Buffer.{buffer, usize_max, put}
 use Rattle.text.proofs.BufferLaws.{put-over, put_goes}
-use Rattle.entries.specs.Walk.{entries_of}
 use Rattle.entries.proofs.WalkLaws.{EntryHere, entry_here, no_entry}
-use Rattle.comparing.specs.Lines.{text_of}
-use Rattle.comparing.specs.Differences.{all_lines}
 use Rattle.comparing.proofs.ListLaws.{none_lacking, more_lacking}
-use borrow.Author.Rules.{rules}
 use Rattle.comparing.proofs.lists.put_all.Goals as goal
 
 pub loop-to-init : goal.loop-to-init

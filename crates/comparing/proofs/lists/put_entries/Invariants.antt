@@ -1,19 +1,13 @@
 -- `comparing::lists::put_entries` meets its contract. The loop's invariant: the lines on the entries that remain, put after those so far, are
 -- all of them.
 -- Assumes nothing.
-use mathlib.Core.Path.{◌≡◌, refl, sym, ap, ap₂, ◌∙◌}
-use Prim.Native.Nat.{ℕ, ◌≤◌, ◌-◌, ◌+◌}
-use native.Mathlib.Omega.{arith}
+use mathlib.Core.Path.{◌≡◌}
+use Prim.Native.Nat.{◌≤◌, ◌-◌, ◌+◌}
 use lib.ListN.{length, drop}
 use Rattle.text.specs.Buffer.{buffer, usize_max, put}
-use Rattle.text.proofs.BufferLaws.{put_goes}
-use mathlib.Core.List.{List, map, ◌++◌}
 use Rattle.entries.specs.Walk.{entries_of}
-use Rattle.entries.proofs.WalkLaws.{EntryHere, entry_here, no_entry}
-use Rattle.comparing.specs.Lines.{Line, entry, text_of}
-use Rattle.comparing.specs.Differences.{entry_table, differing, entry_lines}
-use Rattle.comparing.proofs.ListLaws.{lines_left, lines_right, lines_more}
-use borrow.Author.Rules.{rules}
+use Rattle.comparing.specs.Lines.{text_of}
+use Rattle.comparing.specs.Differences.{entry_lines}
 use Rattle.comparing.proofs.lists.put_entries.Given as goal
 
 abbrev pub invariant-loop-out : goal.invariant-loop-out

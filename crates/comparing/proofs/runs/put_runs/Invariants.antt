@@ -1,17 +1,13 @@
 -- `comparing::runs::put_runs` meets its contract. The loop's invariant: the lines on the runs from the position on, put after those so far, are all of
 -- them.
 -- Assumes nothing.
-use mathlib.Core.Path.{◌≡◌, refl, sym, ap, ◌∙◌}
-use Prim.Native.Nat.{ℕ, ◌≤◌, ◌<◌, ◌-◌, max}
-use native.Mathlib.Omega.{arith}
+use mathlib.Core.Path.{◌≡◌}
+use Prim.Native.Nat.{◌≤◌, ◌-◌, max}
 use lib.ListN.{length}
 use Rattle.text.specs.Buffer.{buffer, usize_max, put}
-use Rattle.text.proofs.BufferLaws.{put-over, put_goes}
-use mathlib.Core.List.{List, ◌∷◌, map, flatten}
+use mathlib.Core.List.{map}
 use Rattle.comparing.specs.Lines.{text_of}
-use Rattle.comparing.specs.Runs.{Run, run_of, run_line, run_lines, runs_of, runs_from, differs}
-use Rattle.comparing.proofs.RunLaws.{runs_next, runs_none}
-use borrow.Author.Rules.{rules}
+use Rattle.comparing.specs.Runs.{run_line, run_lines, runs_from, differs}
 use Rattle.comparing.proofs.runs.put_runs.Given as goal
 
 abbrev pub invariant-loop-start : goal.invariant-loop-start

@@ -2,14 +2,12 @@
 -- Assumes nothing.
 use mathlib.Core.Path.{◌≡◌, ap}
 use mathlib.Core.Logic.{⊎_elim}
-use Prim.Native.Nat.{ℕ, ◌≤◌, ◌<◌, ◌-◌, max}
+use Prim.Native.Nat.{ℕ, ◌≤◌}
 use native.Mathlib.Omega.{arith}
-use lib.ListN.{length}
 use Rattle.comparing.specs.Runs.{differs}
 use mathlib.Core.Bool.{true, not}
 use Rattle.comparing.proofs.ScanLaws.{order, same_byte, other_byte, one_side}
 use borrow.Author.Count.{below_more}
-use borrow.Author.Rules.{rules}
 use Rattle.comparing.proofs.scan.agreement_from.Goals as goal
 
 pub loop-p-init : goal.loop-p-init

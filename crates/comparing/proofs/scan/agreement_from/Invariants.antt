@@ -1,15 +1,10 @@
 -- `comparing::scan::agreement_from` meets its contract. The loop's invariant: the places passed differ.
 -- Assumes nothing.
-use mathlib.Core.Path.{◌≡◌, ap}
-use mathlib.Core.Logic.{⊎_elim}
+use mathlib.Core.Path.{◌≡◌}
 use Prim.Native.Nat.{ℕ, ◌≤◌, ◌<◌, ◌-◌, max}
-use native.Mathlib.Omega.{arith}
 use lib.ListN.{length}
 use Rattle.comparing.specs.Runs.{differs}
-use mathlib.Core.Bool.{true, not}
-use Rattle.comparing.proofs.ScanLaws.{order, same_byte, other_byte, one_side}
-use borrow.Author.Count.{below_more}
-use borrow.Author.Rules.{rules}
+use mathlib.Core.Bool.{true}
 use Rattle.comparing.proofs.scan.agreement_from.Given as goal
 
 abbrev pub invariant-loop-p : goal.invariant-loop-p

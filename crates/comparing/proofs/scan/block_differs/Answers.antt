@@ -1,11 +1,6 @@
 -- `comparing::scan::block_differs` meets its contract. The loop's invariant: while nothing was found, the bytes passed agree.
 -- Assumes nothing.
-use mathlib.Core.Path.{◌≡◌}
-use mathlib.Core.Logic.{⊎_elim}
-use Prim.Native.Nat.{ℕ, ◌≤◌, ◌<◌, ◌-◌, ◌+◌}
 use native.Mathlib.Omega.{arith}
-use lib.ListN.{get_or}
-use borrow.Author.Count.{below_more}
 use Rattle.comparing.proofs.scan.block_differs.Goals as goal
 
 pub loop-i-init : goal.loop-i-init

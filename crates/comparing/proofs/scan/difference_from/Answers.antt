@@ -1,13 +1,12 @@
 -- `comparing::scan::difference_from` meets its contract. The loop's invariant: the places passed agree.
 -- Assumes nothing.
 use mathlib.Core.Path.{◌≡◌}
-use Prim.Native.Nat.{ℕ, ◌≤◌, ◌<◌, ◌-◌}
+use Prim.Native.Nat.{◌≤◌}
 use native.Mathlib.Omega.{arith}
 use Rattle.comparing.specs.Runs.{differs}
 use mathlib.Core.Bool.{false}
 use Rattle.comparing.proofs.ScanLaws.{same_byte, other_byte, one_side}
 use borrow.Author.Count.{below_more}
-use borrow.Author.Rules.{rules}
 use Rattle.comparing.proofs.scan.difference_from.Goals as goal
 
 pub loop-p-init : goal.loop-p-init
@@ -23,7 +22,7 @@ loop-p-preserved c = let l = c.loop-p in let a = c.args.a.now in let b = c.args.
 
 pub returns : goal.returns
 returns c = let l = c.loop-p in let common = c.lesser-common.ensures in record {
-      low = l.invariant.0;
-      none_before = l.invariant.1;
-      found = λ h. one_side c.args.a.now c.args.b.now l.p (omega arith);
-    }
+  low = l.invariant.0;
+  none_before = l.invariant.1;
+  found = λ h. one_side c.args.a.now c.args.b.now l.p (omega arith);
+}

@@ -2,12 +2,8 @@
 -- Assumes nothing.
 use mathlib.Core.Path.{◌≡◌}
 use Prim.Native.Nat.{ℕ, ◌≤◌, ◌<◌, ◌-◌}
-use native.Mathlib.Omega.{arith}
 use Rattle.comparing.specs.Runs.{differs}
 use mathlib.Core.Bool.{false}
-use Rattle.comparing.proofs.ScanLaws.{same_byte, other_byte, one_side}
-use borrow.Author.Count.{below_more}
-use borrow.Author.Rules.{rules}
 use Rattle.comparing.proofs.scan.difference_from.Given as goal
 
 abbrev pub invariant-loop-p : goal.invariant-loop-p

@@ -1,13 +1,9 @@
 -- `comparing::scan::equal_blocks` meets its contract. The loop's invariant: the blocks passed agree.
 -- Assumes nothing.
 use mathlib.Core.Path.{◌≡◌}
-use mathlib.Core.Logic.{⊎_elim}
 use Prim.Native.Nat.{ℕ, ◌≤◌, ◌<◌, ◌-◌}
-use native.Mathlib.Omega.{arith}
 use Rattle.comparing.specs.Runs.{differs}
 use mathlib.Core.Bool.{false}
-use Rattle.comparing.proofs.ScanLaws.{order, same_byte}
-use borrow.Author.Rules.{rules}
 use Rattle.comparing.proofs.scan.equal_blocks.Given as goal
 
 abbrev pub invariant-loop-at : goal.invariant-loop-at

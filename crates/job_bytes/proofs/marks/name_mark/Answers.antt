@@ -4,7 +4,6 @@ use mathlib.Core.Bool.{Bool, true, false}
 use Prim.Native.Nat.{◌≤◌}
 use native.Mathlib.Omega.{arith}
 use Rattle.job_bytes.specs.Marks.{mark_of}
-use borrow.Author.Rules.{rules}
 use Rattle.job_bytes.proofs.marks.name_mark.Goals as goal
 
 mark-most : (t : Bool) → mark_of t ≤ 1

@@ -5,7 +5,6 @@ use Prim.Native.Nat.{ℕ}
 use Rattle.little_endian.specs.Bytes.{numbers, to_le}
 use mathlib.Core.List.{[], ◌∷◌}
 use Rattle.job_bytes.specs.MulAdds.{mul_add_bytes}
-use borrow.Author.Rules.{rules}
 use Rattle.job_bytes.proofs.mul_adds.bytes_of.Goals as goal
 
 pub returns : goal.returns

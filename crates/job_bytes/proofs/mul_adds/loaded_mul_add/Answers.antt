@@ -4,7 +4,6 @@ use mathlib.Core.Path.{sym, ap₂, ◌∙◌, subst}
 use Prim.Native.Nat.{ℕ, ◌≤◌, ◌<◌}
 use Rattle.job_bytes.proofs.MulAddLaws.{is_mul_add_lem, others, heavy, marked, loaded_going, loaded_over}
 use Rattle.running_mul_add.specs.Running.{mul_add_from}
-use borrow.Author.Rules.{rules}
 use Rattle.job_bytes.proofs.mul_adds.loaded_mul_add.Goals as goal
 
 pub returns-then-bytes-ne-LENGTH : goal.returns-then-bytes-ne-LENGTH

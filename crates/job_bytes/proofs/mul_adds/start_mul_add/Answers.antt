@@ -1,6 +1,5 @@
 -- `job_bytes::mul_adds::start_mul_add` meets its contract.
 -- Assumes nothing.
-use borrow.Author.Rules.{rules}
 use Rattle.job_bytes.proofs.mul_adds.start_mul_add.Goals as goal
 
 pub returns : goal.returns

@@ -3,7 +3,6 @@
 use mathlib.Core.Path.{refl}
 use Rattle.lent_bytes.proofs.WritingLaws.{unless_refused, numbered_as, numbered-none}
 use Rattle.job_bytes.specs.MulAdds.{mul_add_stored}
-use borrow.Author.Rules.{rules}
 use Rattle.job_bytes.proofs.mul_adds.store_mul_add.Goals as goal
 
 pub returns-then-outcome-ne0 : goal.returns-then-outcome-ne0

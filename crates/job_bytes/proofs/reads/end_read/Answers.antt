@@ -1,7 +1,6 @@
 -- `job_bytes::reads::end_read` meets its contract.
 -- Assumes nothing.
 use Rattle.job_bytes.proofs.ReadLaws.{ended_by}
-use borrow.Author.Rules.{rules}
 use Rattle.job_bytes.proofs.reads.end_read.Goals as goal
 
 pub returns : goal.returns

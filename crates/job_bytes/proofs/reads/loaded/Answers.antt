@@ -3,7 +3,6 @@
 use mathlib.Core.Path.{sym, ap, ◌∙◌}
 use Rattle.running_read.specs.Running.{over_of}
 use Rattle.job_bytes.proofs.ReadLaws.{read_of, read_none}
-use borrow.Author.Rules.{rules}
 use Rattle.job_bytes.proofs.reads.loaded.Goals as goal
 
 pub returns-then-bytes-ne-LENGTH : goal.returns-then-bytes-ne-LENGTH

@@ -3,7 +3,6 @@
 use Prim.Native.Nat.{◌+◌}
 use native.Mathlib.Omega.{arith}
 use Rattle.job_bytes.proofs.ReadLaws.{copied}
-use borrow.Author.Rules.{rules}
 use Rattle.job_bytes.proofs.reads.md5_at.Goals as goal
 
 pub overflow_add-at : goal.overflow_add-at

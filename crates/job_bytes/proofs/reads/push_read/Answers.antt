@@ -1,7 +1,6 @@
 -- `job_bytes::reads::push_read` meets its contract.
 -- Assumes nothing.
 use Rattle.job_bytes.proofs.ReadLaws.{pushed_by}
-use borrow.Author.Rules.{rules}
 use Rattle.job_bytes.proofs.reads.push_read.Goals as goal
 
 pub returns : goal.returns

@@ -2,7 +2,6 @@
 -- Assumes nothing.
 use native.Mathlib.Omega.{arith}
 use Rattle.job_bytes.proofs.ReadLaws.{words_stored}
-use borrow.Author.Rules.{rules}
 use Rattle.job_bytes.proofs.reads.put_words.Goals as goal
 
 pub overflow_add-at-3 : goal.overflow_add-at-3

@@ -2,7 +2,6 @@
 -- Assumes nothing.
 use native.Mathlib.Omega.{arith}
 use Rattle.job_bytes.proofs.ReadLaws.{copied}
-use borrow.Author.Rules.{rules}
 use Rattle.job_bytes.specs.Reads.{read_job_in}
 use Rattle.job_bytes.proofs.reads.read_in.Goals as goal
 

@@ -2,7 +2,6 @@
 -- Assumes nothing.
 use native.Mathlib.Omega.{arith}
 use Rattle.job_bytes.proofs.ReadLaws.{copied}
-use borrow.Author.Rules.{rules}
 use Rattle.job_bytes.proofs.reads.scan_in.Goals as goal
 
 pub md5_at-hash-requires : goal.md5_at-hash-requires

@@ -3,7 +3,6 @@
 use mathlib.Core.Path.{ap, ◌∙◌}
 use Rattle.running_read.specs.declared.RunningRead.{RunningRead}
 use Rattle.job_bytes.specs.Reads.{read_stored}
-use borrow.Author.Rules.{rules}
 use Rattle.job_bytes.proofs.reads.start_read.Goals as goal
 
 pub returns : goal.returns

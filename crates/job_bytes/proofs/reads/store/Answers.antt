@@ -3,7 +3,6 @@
 use mathlib.Core.Path.{refl}
 use Rattle.lent_bytes.proofs.WritingLaws.{unless_refused, numbered_as, numbered-none}
 use Rattle.job_bytes.specs.Reads.{read_stored}
-use borrow.Author.Rules.{rules}
 use Rattle.job_bytes.proofs.reads.store.Goals as goal
 
 pub returns-then-number-ne0 : goal.returns-then-number-ne0

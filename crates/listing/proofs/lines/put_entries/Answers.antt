@@ -1,20 +1,19 @@
 -- `listing::lines::put_entries` meets its contract. The loop's invariant: the lines of the entries that remain, put after those so far,
 -- are all of them.
 -- Assumes nothing.
-use mathlib.Core.Path.{◌≡◌, refl, sym, ap, ap₂, ◌∙◌}
-use Prim.Native.Nat.{ℕ, ◌≤◌, ◌-◌, ◌+◌}
+use mathlib.Core.Path.{refl, sym, ap, ap₂, ◌∙◌}
+use Prim.Native.Nat.{ℕ, ◌+◌}
 use native.Mathlib.Omega.{arith}
-use lib.ListN.{length, drop}
+use lib.ListN.{drop}
 use mathlib.Core.List.{List, ◌++◌}
 use Rattle.entries.specs.Entry.{name_of, saved_count}
 use Rattle.entries.specs.Walk.{entries_of}
 use Rattle.entries.proofs.EntryLaws.{EntryAt, entry_at}
 use Rattle.entries.proofs.WalkLaws.{entries_none, saved_most}
-use Rattle.text.specs.Buffer.{buffer, usize_max, put}
+use Rattle.text.specs.Buffer.{buffer, put}
 use Rattle.text.proofs.BufferLaws.{put-over, put_goes}
 use Rattle.listing.specs.Lines.{line_of, entry_lines}
 use Rattle.listing.proofs.LineLaws.{lines_more, lines_none}
-use borrow.Author.Rules.{rules}
 use Rattle.listing.proofs.lines.put_entries.Goals as goal
 
 pub loop-at-init : goal.loop-at-init

@@ -3,7 +3,6 @@
 use native.Mathlib.Omega.{arith}
 use Rattle.text.proofs.BufferLaws.{last, then, puts}
 use Rattle.listing.specs.Lines.{head_line}
-use borrow.Author.Rules.{rules}
 use Rattle.listing.proofs.lines.put_head.Goals as goal
 
 pub returns : goal.returns

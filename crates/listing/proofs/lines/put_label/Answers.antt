@@ -2,7 +2,6 @@
 -- Assumes nothing.
 use mathlib.Core.Path.{sym, ◌∙◌}
 use Rattle.listing.specs.Lines.{label}
-use borrow.Author.Rules.{rules}
 use Rattle.listing.proofs.lines.put_label.Goals as goal
 
 pub returns-then-is_saved : goal.returns-then-is_saved

@@ -1,16 +1,12 @@
 -- `listing::lines::put_name` meets its contract.
 -- Assumes nothing.
-use mathlib.Core.Path.{◌≡◌, refl, sym, ap, ◌∙◌}
-use Prim.Native.Nat.{ℕ, ◌≤◌, ◌-◌, ◌+◌}
-use native.Mathlib.Omega.{arith}
+use mathlib.Core.Path.{◌≡◌}
+use Prim.Native.Nat.{◌≤◌, ◌-◌}
 use lib.ListN.{length, drop}
-use mathlib.Core.List.{List, ◌∷◌, map}
+use mathlib.Core.List.{map}
 use Rattle.entries.specs.Entry.{units_of}
-use Rattle.entries.proofs.NameLaws.{units_more, units_none}
 use Rattle.text.specs.Buffer.{buffer, usize_max, put}
-use Rattle.text.proofs.BufferLaws.{put-over, put_goes}
 use Rattle.listing.specs.Lines.{shown}
-use borrow.Author.Rules.{rules}
 use Rattle.listing.proofs.lines.put_name.Given as goal
 
 abbrev pub invariant-loop-i : goal.invariant-loop-i

@@ -4,7 +4,6 @@ use mathlib.Core.Path.{sym, ◌∙◌}
 use native.Mathlib.Omega.{arith}
 use Rattle.text.proofs.BufferLaws.{put_nil}
 use Rattle.listing.specs.Lines.{place_field}
-use borrow.Author.Rules.{rules}
 use Rattle.listing.proofs.lines.put_place.Goals as goal
 
 pub returns-then-is_placed : goal.returns-then-is_placed

@@ -2,7 +2,6 @@
 -- Assumes nothing.
 use borrow.Author.Tests.{lt-leb, le-leb}
 use Rattle.listing.specs.Lines.{shown}
-use borrow.Author.Rules.{rules}
 use Rattle.listing.proofs.lines.shown.Goals as goal
 
 pub returns-then-unit-lt32 : goal.returns-then-unit-lt32

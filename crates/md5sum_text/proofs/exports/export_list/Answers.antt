@@ -1,7 +1,6 @@
 -- `md5sum_text::exports::export_list` meets its contract.
 -- Assumes nothing.
 use native.Mathlib.Omega.{arith}
-use borrow.Author.Rules.{rules}
 use Rattle.entries.specs.Walk.{entries_of}
 use Rattle.text.proofs.FitLaws.{fit_written, fit_refused}
 use Rattle.md5sum_text.specs.Export.{export_text}

@@ -1,17 +1,11 @@
 -- `md5sum_text::exports::put_lines` meets its contract. The loop's invariant: the lines of the entries that remain, put after those so far, are
 -- all of them.
 -- Assumes nothing.
-use mathlib.Core.Path.{◌≡◌, refl, ap, ◌∙◌}
-use mathlib.Core.Bool.{true}
-use Prim.Native.Nat.{◌-◌, ◌≤◌}
+use mathlib.Core.Path.{refl, ap, ◌∙◌}
 use native.Mathlib.Omega.{arith}
-use lib.ListN.{length, drop}
-use borrow.Author.Rules.{rules}
-use Rattle.entries.specs.Walk.{entries_of}
 use Rattle.entries.proofs.WalkLaws.{EntryHere, entry_here, no_entry}
-use Rattle.text.specs.Buffer.{buffer, usize_max, put}
 use Rattle.text.proofs.BufferLaws.{put-over, put_goes}
-use Rattle.md5sum_text.specs.Export.{export_text, all_fitting}
+use Rattle.md5sum_text.specs.Export.{export_text}
 use Rattle.md5sum_text.proofs.WalkLaws.{text_more, fitting_both}
 use Rattle.md5sum_text.proofs.exports.put_lines.Goals as goal
 
@@ -33,11 +27,10 @@ pub loop-at-smaller : goal.loop-at-smaller
 loop-at-smaller c = let i = (let h : EntryHere c.args.list.now c.loop-at.from c.length_at-length.result = entry_here _ _ c.length_at-length.ensures c.if-length-eq0.false in h) in omega (arith, i.low, i.fits)
 
 pub loop-at-preserved : goal.loop-at-preserved
-loop-at-preserved c = let entry = c.part.ensures in let i = (let h : EntryHere c.args.list.now c.loop-at.from c.length_at-length.result = entry_here _ _ c.length_at-length.ensures c.if-length-eq0.false in h) in
-    (
-      i.fits,
-      c.put_line-at.auto.out ∙ c.loop-at.invariant.1,
-      omega arith,
-      (fitting_both i entry c.loop-at.invariant.3).1,
-      put_goes _ _ c.loop-at.invariant.4 _ _ (omega (arith, c.well_formed.0.0, c.loop-at.invariant.1)) (text_more i entry) c.put_line-at.ensures,
-    )
+loop-at-preserved c = let entry = c.part.ensures in let i = (let h : EntryHere c.args.list.now c.loop-at.from c.length_at-length.result = entry_here _ _ c.length_at-length.ensures c.if-length-eq0.false in h) in (
+  i.fits,
+  c.put_line-at.auto.out ∙ c.loop-at.invariant.1,
+  omega arith,
+  (fitting_both i entry c.loop-at.invariant.3).1,
+  put_goes _ _ c.loop-at.invariant.4 _ _ (omega (arith, c.well_formed.0.0, c.loop-at.invariant.1)) (text_more i entry) c.put_line-at.ensures,
+)

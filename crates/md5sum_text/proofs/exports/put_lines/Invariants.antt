@@ -1,18 +1,13 @@
 -- `md5sum_text::exports::put_lines` meets its contract. The loop's invariant: the lines of the entries that remain, put after those so far, are
 -- all of them.
 -- Assumes nothing.
-use mathlib.Core.Path.{◌≡◌, refl, ap, ◌∙◌}
+use mathlib.Core.Path.{◌≡◌}
 use mathlib.Core.Bool.{true}
 use Prim.Native.Nat.{◌-◌, ◌≤◌}
-use native.Mathlib.Omega.{arith}
 use lib.ListN.{length, drop}
-use borrow.Author.Rules.{rules}
 use Rattle.entries.specs.Walk.{entries_of}
-use Rattle.entries.proofs.WalkLaws.{EntryHere, entry_here, no_entry}
 use Rattle.text.specs.Buffer.{buffer, usize_max, put}
-use Rattle.text.proofs.BufferLaws.{put-over, put_goes}
 use Rattle.md5sum_text.specs.Export.{export_text, all_fitting}
-use Rattle.md5sum_text.proofs.WalkLaws.{text_more, fitting_both}
 use Rattle.md5sum_text.proofs.exports.put_lines.Given as goal
 
 abbrev pub invariant-loop-at : goal.invariant-loop-at

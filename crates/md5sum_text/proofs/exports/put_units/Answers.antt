@@ -1,17 +1,13 @@
 -- `md5sum_text::exports::put_units` meets its contract. The loop's invariant: the units that remain, put after those so far, are all of them.
 -- Assumes nothing.
-use mathlib.Core.Path.{◌≡◌, refl, sym, ap, ◌∙◌}
-use mathlib.Core.Bool.{true}
+use mathlib.Core.Path.{refl, sym, ap, ◌∙◌}
 use mathlib.Core.List.{List, ◌∷◌}
-use Prim.Native.Nat.{ℕ, ◌+◌, ◌-◌, ◌≤◌}
+use Prim.Native.Nat.{ℕ, ◌+◌}
 use native.Mathlib.Omega.{arith}
-use lib.ListN.{length, drop}
-use borrow.Author.Rules.{rules}
+use lib.ListN.{drop}
 use Rattle.entries.specs.Entry.{units_of}
 use Rattle.entries.proofs.NameLaws.{units_more, units_none}
-use Rattle.text.specs.Buffer.{buffer, usize_max, put}
 use Rattle.text.proofs.BufferLaws.{put-over, put_goes}
-use Rattle.md5sum_text.specs.Names.{units_fit}
 use Rattle.md5sum_text.proofs.NameLaws.{fits_first, fits_rest}
 use Rattle.md5sum_text.proofs.exports.put_units.Goals as goal
 

@@ -6,7 +6,6 @@ use mathlib.Core.List.{List}
 use Prim.Native.Nat.{ℕ}
 use native.Mathlib.Omega.{arith}
 use borrow.Author.Tests.{not-true, not-false}
-use borrow.Author.Rules.{rules}
 use Rattle.lent_bytes.specs.Equal.{equal}
 use Rattle.entries.specs.Entry.{units_of}
 use Rattle.md5sum_text.proofs.lines.is_other.Goals as goal

@@ -1,6 +1,5 @@
 -- `md5sum_text::lines::is_shaped` meets its contract.
 -- Assumes nothing.
-use borrow.Author.Rules.{rules}
 use Rattle.md5sum_text.specs.Lines.{is_shaped}
 use Rattle.md5sum_text.proofs.lines.is_shaped.Goals as goal
 

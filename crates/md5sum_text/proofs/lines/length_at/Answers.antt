@@ -4,7 +4,6 @@ use mathlib.Core.Path.{ap, ◌∙◌}
 use Prim.Native.Nat.{ℕ, ◌+◌}
 use native.Mathlib.Omega.{arith}
 use lib.ListN.{drop, length-drop}
-use borrow.Author.Rules.{rules}
 use Rattle.md5sum_text.proofs.LineLaws.{past_sum, has_line}
 use Rattle.md5sum_text.proofs.lines.length_at.Goals as goal
 

@@ -2,15 +2,12 @@
 -- its place.
 -- Assumes nothing.
 use mathlib.Core.Path.{◌≡◌, sym, ap, ◌∙◌}
-use mathlib.Core.Bool.{false}
-use mathlib.Core.List.{List, []}
-use Prim.Native.Nat.{ℕ, ◌-◌, ◌≤◌, ◌<◌}
+use mathlib.Core.List.{[]}
 use native.Mathlib.Omega.{arith}
 use lib.ListN.{drop, get_or}
 use borrow.Author.Count.{below_more}
-use borrow.Author.Rules.{rules}
 use Rattle.md5sum_text.specs.Lines.{shaped_length, lines_of}
-use Rattle.md5sum_text.specs.Walks.{Stands, is_other}
+use Rattle.md5sum_text.specs.Walks.{is_other}
 use Rattle.md5sum_text.proofs.LineLaws.{place, IsLine, line_at, line_of, line_long}
 use Rattle.md5sum_text.proofs.lines.seek.Goals as goal
 
@@ -25,15 +22,15 @@ is_other-requires c = line_long (let h : let s = c.args.text.now in IsLine s (pl
 
 pub returns-then-is_other : goal.returns-then-is_other
 returns-then-is_other c = record {
-      sought =
-          record {
-            low = c.loop-number.invariant.0;
-            high = c.loop-number.invariant.1;
-            before = c.loop-number.invariant.3;
-            found = λ h. sym (let h : let a = c.args in c.is_other.result ≡ is_other a.name.now a.sum.now (get_or (lines_of a.text.now).pieces c.loop-number.number []) = let a = c.args in c.is_other.ensures ∙ ap (is_other a.name.now a.sum.now) (line_of (let h : let s = c.args.text.now in IsLine s (place c.loop-number.number c.loop-number.at) (shaped_length (drop c.loop-number.at s)) = line_at c.args.text.now (place c.loop-number.number c.loop-number.at) c.loop-number.invariant.2 (omega (arith, c.requires.1)) in h) c.length_at-length.ensures c.part.ensures) in h) ∙ c.if-is_other.true;
-          };
-      stands = c.loop-number.invariant.2;
-    }
+  sought =
+      record {
+        low = c.loop-number.invariant.0;
+        high = c.loop-number.invariant.1;
+        before = c.loop-number.invariant.3;
+        found = λ h. sym (let h : let a = c.args in c.is_other.result ≡ is_other a.name.now a.sum.now (get_or (lines_of a.text.now).pieces c.loop-number.number []) = let a = c.args in c.is_other.ensures ∙ ap (is_other a.name.now a.sum.now) (line_of (let h : let s = c.args.text.now in IsLine s (place c.loop-number.number c.loop-number.at) (shaped_length (drop c.loop-number.at s)) = line_at c.args.text.now (place c.loop-number.number c.loop-number.at) c.loop-number.invariant.2 (omega (arith, c.requires.1)) in h) c.length_at-length.ensures c.part.ensures) in h) ∙ c.if-is_other.true;
+      };
+  stands = c.loop-number.invariant.2;
+}
 
 pub overflow_add-at : goal.overflow_add-at
 overflow_add-at c = omega (arith, (let h : let s = c.args.text.now in IsLine s (place c.loop-number.number c.loop-number.at) (shaped_length (drop c.loop-number.at s)) = line_at c.args.text.now (place c.loop-number.number c.loop-number.at) c.loop-number.invariant.2 (omega (arith, c.requires.1)) in h).fits, c.length_at-length.ensures)
@@ -44,7 +41,7 @@ loop-number-preserved c = let i = (let h : let s = c.args.text.now in IsLine s (
 
 pub returns : goal.returns
 returns c = record {
-      sought =
-          record { low = c.loop-number.invariant.0; high = c.loop-number.invariant.1; before = c.loop-number.invariant.3; found = λ h. absurd (omega arith) };
-      stands = c.loop-number.invariant.2;
-    }
+  sought =
+      record { low = c.loop-number.invariant.0; high = c.loop-number.invariant.1; before = c.loop-number.invariant.3; found = λ h. absurd (omega arith) };
+  stands = c.loop-number.invariant.2;
+}

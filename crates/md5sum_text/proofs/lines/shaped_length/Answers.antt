@@ -4,7 +4,6 @@ use mathlib.Core.Path.{◌≡◌, sym, ap, ◌∙◌}
 use mathlib.Core.List.{List}
 use Prim.Native.Nat.{ℕ}
 use lib.ListN.{take, drop}
-use borrow.Author.Rules.{rules}
 use Rattle.text.specs.TextLines.{line_length}
 use Rattle.md5sum_text.specs.Lines.{is_shaped, shaped_length}
 use Rattle.md5sum_text.proofs.lines.shaped_length.Goals as goal

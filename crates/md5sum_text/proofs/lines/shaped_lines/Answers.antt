@@ -1,12 +1,10 @@
 -- `md5sum_text::lines::shaped_lines` meets its contract. The loop's invariant: the lines so far and those that remain are all of them, and the rest
 -- is that of what remains.
 -- Assumes nothing.
-use mathlib.Core.Path.{◌≡◌, refl, sym, ap, ap₂, ◌∙◌}
-use mathlib.Core.List.{List}
-use Prim.Native.Nat.{ℕ, ◌+◌, ◌-◌, ◌≤◌}
+use mathlib.Core.Path.{sym, ap, ap₂, ◌∙◌}
+use Prim.Native.Nat.{ℕ, ◌+◌, ◌≤◌}
 use native.Mathlib.Omega.{arith}
 use lib.ListN.{length, drop, length-drop}
-use borrow.Author.Rules.{rules}
 use Rattle.cut_lists.specs.Pieces.{Cut}
 use Rattle.cut_lists.proofs.CutLaws.{cut-count}
 use Rattle.md5sum_text.specs.Lines.{shaped_length, lines_of}

@@ -1,14 +1,13 @@
 -- `md5sum_text::names::units_are` meets its contract. The loop's invariant: the units and the bytes that remain decide.
 -- Assumes nothing.
-use mathlib.Core.Path.{◌≡◌, refl, sym, ap, ◌∙◌}
+use mathlib.Core.Path.{◌≡◌, sym, ap, ◌∙◌}
 use mathlib.Core.Bool.{◌&&◌}
 use mathlib.Core.List.{List}
-use Prim.Native.Nat.{ℕ, ◌+◌, ◌-◌, ◌*◌, ◌≤◌}
+use Prim.Native.Nat.{ℕ, ◌+◌, ◌*◌, ◌≤◌}
 use native.Mathlib.Omega.{arith}
 use lib.Dec.{eqb}
 use lib.ListN.{length, drop, get_or}
 use borrow.Author.Tests.{eq-eqb, ne_eqb}
-use borrow.Author.Rules.{rules}
 use Rattle.lent_bytes.specs.Equal.{equal}
 use Rattle.little_endian.specs.Bytes.{le_at}
 use Rattle.entries.specs.Entry.{units_of}
@@ -36,12 +35,12 @@ returns-then-read16-text c = let a = c.args in let read = c.read16 in sym
 
 pub loop-i-preserved : goal.loop-i-preserved
 loop-i-preserved c = let a = c.args in let read = c.read16 in (
-      omega arith,
-      sym
-          (here a.name.now a.text.now c.loop-i.i read.result (omega (arith, c.if-name-text.false)) (omega arith) read.ensures
-          ∙ simp (eq-eqb read.result (get_or a.text.now c.loop-i.i 0) c.if-read16-text.false))
-          ∙ c.loop-i.invariant.1,
-    )
+  omega arith,
+  sym
+      (here a.name.now a.text.now c.loop-i.i read.result (omega (arith, c.if-name-text.false)) (omega arith) read.ensures
+      ∙ simp (eq-eqb read.result (get_or a.text.now c.loop-i.i 0) c.if-read16-text.false))
+      ∙ c.loop-i.invariant.1,
+)
 
 pub returns : goal.returns
 returns c = let a = c.args in sym (same_end a.name.now a.text.now c.loop-i.i (omega (arith, c.if-name-text.false)) c.loop-i-test.false) ∙ c.loop-i.invariant.1

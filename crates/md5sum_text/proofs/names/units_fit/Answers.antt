@@ -1,15 +1,11 @@
 -- `md5sum_text::names::units_fit` meets its contract. The loop's invariant: the units that remain decide.
 -- Assumes nothing.
 use mathlib.Core.Bool.{not}
-use mathlib.Core.Path.{◌≡◌, refl, ap, ◌∙◌}
-use Prim.Native.Nat.{◌≤◌, ◌-◌}
+use mathlib.Core.Path.{ap, ◌∙◌}
 use native.Mathlib.Omega.{arith}
-use lib.ListN.{length, drop}
-use borrow.Author.Rules.{rules}
 use Rattle.lent_bytes.proofs.EachLaws.{each_over, each_stops, each_goes}
-use Rattle.entries.specs.Entry.{units_of}
 use Rattle.entries.proofs.NameLaws.{units_none, units_more}
-use Rattle.md5sum_text.specs.Names.{unit_fits, units_fit}
+use Rattle.md5sum_text.specs.Names.{unit_fits}
 use Rattle.md5sum_text.proofs.names.units_fit.Goals as goal
 
 pub returns-then-not-unit_fits : goal.returns-then-not-unit_fits

@@ -1,12 +1,11 @@
 -- `md5sum_text::sums::again_in` meets its contract. The loop's invariant: the entries that remain, held against the lines before the first one
 -- found, give the first of all.
 -- Assumes nothing.
-use mathlib.Core.Path.{◌≡◌, sym, ap, ◌∙◌}
+use mathlib.Core.Path.{sym, ap, ◌∙◌}
 use mathlib.Core.List.{List, [], ◌∷◌}
-use Prim.Native.Nat.{ℕ, ◌+◌, ◌-◌, ◌≤◌}
+use Prim.Native.Nat.{ℕ, ◌+◌}
 use native.Mathlib.Omega.{arith}
-use lib.ListN.{length, take, drop}
-use borrow.Author.Rules.{rules}
+use lib.ListN.{take, drop}
 use Rattle.computed_tests.specs.Lists.{first_below}
 use Rattle.computed_tests.proofs.Lists.{first_is}
 use Rattle.entries.specs.Walk.{entries_of}

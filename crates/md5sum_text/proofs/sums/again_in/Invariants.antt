@@ -1,19 +1,13 @@
 -- `md5sum_text::sums::again_in` meets its contract. The loop's invariant: the entries that remain, held against the lines before the first one
 -- found, give the first of all.
 -- Assumes nothing.
-use mathlib.Core.Path.{◌≡◌, sym, ap, ◌∙◌}
-use mathlib.Core.List.{List, [], ◌∷◌}
-use Prim.Native.Nat.{ℕ, ◌+◌, ◌-◌, ◌≤◌}
-use native.Mathlib.Omega.{arith}
-use lib.ListN.{length, take, drop}
-use borrow.Author.Rules.{rules}
+use mathlib.Core.Path.{◌≡◌}
+use Prim.Native.Nat.{◌-◌, ◌≤◌}
+use lib.ListN.{length, drop}
 use Rattle.computed_tests.specs.Lists.{first_below}
-use Rattle.computed_tests.proofs.Lists.{first_is}
 use Rattle.entries.specs.Walk.{entries_of}
-use Rattle.entries.proofs.WalkLaws.{EntryHere, entry_here, no_entry}
 use Rattle.md5sum_text.specs.Lines.{lines_of}
 use Rattle.md5sum_text.specs.Import.{is_again, again_in}
-use Rattle.md5sum_text.proofs.SumLaws.{again_end, again_more}
 use Rattle.md5sum_text.proofs.sums.again_in.Given as goal
 
 abbrev pub invariant-loop-count : goal.invariant-loop-count

@@ -8,7 +8,6 @@ use Prim.Native.Nat.{ℕ, ◌<◌}
 use native.Mathlib.Omega.{arith}
 use lib.ListN.{length}
 use borrow.Author.Tests.{not-true, not-false}
-use borrow.Author.Rules.{rules}
 use Rattle.lent_bytes.specs.Equal.{equal}
 use Rattle.entries.specs.Entry.{units_of}
 use Rattle.md5sum_text.specs.Lines.{lines_of}

@@ -6,7 +6,6 @@ use Prim.Native.Nat.{ℕ, ◌≤◌}
 use native.Mathlib.Omega.{arith}
 use lib.ListN.{length, take, drop, length-take, replicate}
 use lib.Seq.{take-append_seam}
-use borrow.Author.Rules.{rules}
 use Rattle.lent_bytes.specs.Equal.{equal}
 use Rattle.entries.specs.Entry.{md5_of}
 use Rattle.text.specs.Buffer.{Buffer, buffer, usize_max, put}

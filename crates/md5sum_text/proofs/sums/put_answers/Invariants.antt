@@ -1,16 +1,12 @@
 -- `md5sum_text::sums::put_answers` meets its contract. The loop's invariant: the bytes of the entries that remain, put after those so far, are
 -- all of them.
 -- Assumes nothing.
-use mathlib.Core.Path.{◌≡◌, refl, sym, ap, ◌∙◌}
-use mathlib.Core.List.{List, ◌∷◌, map}
-use Prim.Native.Nat.{ℕ, ◌+◌, ◌-◌, ◌≤◌}
-use native.Mathlib.Omega.{arith}
+use mathlib.Core.Path.{◌≡◌}
+use mathlib.Core.List.{List, map}
+use Prim.Native.Nat.{ℕ, ◌-◌, ◌≤◌}
 use lib.ListN.{length, drop}
-use borrow.Author.Rules.{rules}
 use Rattle.entries.specs.Walk.{entries_of}
-use Rattle.entries.proofs.WalkLaws.{EntryHere, entry_here, no_entry}
 use Rattle.text.specs.Buffer.{buffer, usize_max, put}
-use Rattle.text.proofs.BufferLaws.{put-over, put_goes}
 use Rattle.md5sum_text.specs.Lines.{lines_of}
 use Rattle.md5sum_text.specs.Import.{answer_for}
 use Rattle.md5sum_text.proofs.sums.put_answers.Given as goal

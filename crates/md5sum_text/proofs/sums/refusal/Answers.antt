@@ -4,7 +4,6 @@ use mathlib.Core.Path.{◌≡◌, sym, ap, ◌∙◌}
 use Prim.Native.Nat.{ℕ, ◌+◌}
 use native.Mathlib.Omega.{arith}
 use lib.ListN.{length}
-use borrow.Author.Rules.{rules}
 use Rattle.cut_lists.proofs.CutLaws.{cut-count, cut-length}
 use Rattle.entries.specs.Walk.{entries_of}
 use Rattle.md5sum_text.specs.Lines.{shaped_length, lines_of}

@@ -1,7 +1,6 @@
 -- `par1::check` meets its contract.
 -- Assumes nothing.
 use Rattle.par1.specs.Checking.{check_of}
-use borrow.Author.Rules.{rules}
 use Rattle.par1.proofs.checking.check.Goals as goal
 
 pub returns : goal.returns

@@ -12,7 +12,6 @@ use Rattle.md5_digest.specs.Digest.{md5}
 use Rattle.lent_bytes.specs.Equal.{equal}
 use Rattle.entries.specs.Entry.{file_size_of, md5_of}
 use Rattle.par1.specs.Checking.{is_described}
-use borrow.Author.Rules.{rules}
 use Rattle.par1.proofs.checking.is_described.Goals as goal
 
 pub returns-then-read64-contents : goal.returns-then-read64-contents
