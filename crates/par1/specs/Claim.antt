@@ -139,7 +139,7 @@ ReadWritten =
 
 -- ---- "an accepted volume written again from its parts has the same bytes"
 
--- with the code that reading gave, into any room that holds it, and the rest of the room stays; proved: proofs/WrittenRead.antt, `Written-Read`
+-- with the code that reading gave, into any room that holds it, and the rest of the room stays; proved: proofs/WrittenRead.antt, `written_read`
 abbrev pub WrittenRead : Type 0
 WrittenRead =
     (f : List ℕ) (p : Parts) (out : List ℕ) → Bytes f → read_of f ≡ Accepted p → length f ≤ length out
