@@ -22,50 +22,50 @@
  *   call                 refusals               writes                                      stack
  *
  *   hash and field
- *   par1_md5             14                     16                                          2,000
+ *   par1_md5             14                     16                                          1,900
  *   par1_inverse         10 14                  1                                             600
  *   par1_coefficient     10 14                  1                                             600
- *   par1_mul_add         none                   the buffer, as far as the fragment goes       700
+ *   par1_mul_add         none                   the buffer, as far as the fragment goes       600
  *
  *   index files and volumes
- *   par1_read            R 14                   64                                          2,900
+ *   par1_read            R 14                   64                                          2,700
  *   par1_entry           16-18 14               24                                            200
- *   par1_check           16-18 15               nothing                                     2,200
- *   par1_write_entry     17 18 14               56 + name_len                               2,100
- *   par1_write_volume    10 16-18 7 9 1 14      96 + list_len + data_len                    2,600
- *   par1_amend           14 R 10 16-18 21 1 14  in the volume, up to its new length         3,500
+ *   par1_check           16-18 15               nothing                                     2,000
+ *   par1_write_entry     17 18 14               56 + name_len                               2,000
+ *   par1_write_volume    10 16-18 7 9 1 14      96 + list_len + data_len                    2,500
+ *   par1_amend           14 R 10 16-18 21 1 14  in the volume, up to its new length         3,200
  *
  *   jobs, for what is too long to hold
  *   par1_hash_start      none                   the struct, 96                                100
  *   par1_hash_push       20                     the struct                                  1,900
- *   par1_hash_end        20 14                  16, and the struct                          2,100
+ *   par1_hash_end        20 14                  16, and the struct                          2,000
  *   par1_mul_add_start   14                     24                                            100
- *   par1_mul_add_push    20                     the job's 24, the buffer from the position    800
+ *   par1_mul_add_push    20                     the job's 24, the buffer from the position    700
  *   par1_mul_add_end     20                     the job's 24                                  100
- *   par1_read_start      14                     392                                         1,300
+ *   par1_read_start      14                     392                                         1,500
  *   par1_read_push       20                     the job's 392                               3,100
- *   par1_read_end        20 R 14                64, and the job's 392                       3,200
+ *   par1_read_end        20 R 14                64, and the job's 392                       3,100
  *
  *   what is present, and what comes back
- *   par1_open            10 1 14                144                                         2,700
- *   par1_add_file        10 11                  the inventory's 144                           800
- *   par1_remove_file     10 11                  the inventory's 144                           800
+ *   par1_open            10 1 14                144                                         3,000
+ *   par1_add_file        10 11                  the inventory's 144                         1,100
+ *   par1_remove_file     10 11                  the inventory's 144                         1,100
  *   par1_add_volume      10 29 27 11            the inventory's 144                           900
- *   par1_remove_volume   10 11                  the inventory's 144                         1,000
- *   par1_quarantine      10 11                  the inventory's 144                         1,000
- *   par1_release         10 11                  the inventory's 144                         1,000
+ *   par1_remove_volume   10 11                  the inventory's 144                           900
+ *   par1_quarantine      10 11                  the inventory's 144                         1,300
+ *   par1_release         10 11                  the inventory's 144                         1,300
  *   par1_count           10 14                  24                                            400
- *   par1_query           10 13 12 14            255                                        68,900
+ *   par1_query           10 13 12 14            255                                        70,200
  *
  *   text
- *   par1_compare         14                     the text                                    3,000
- *   par1_export          R 24 14                the text, at most as long as the list       3,000
- *   par1_import          R, 22 or 23, 14        1 for each entry                            3,100
- *   par1_replay          14                     the text, at most 14,760,448               75,200
+ *   par1_compare         14                     the text                                    2,800
+ *   par1_export          R 24 14                the text, at most as long as the list       2,800
+ *   par1_import          R, 22 or 23, 14        1 for each entry                            2,900
+ *   par1_replay          14                     the text, at most 14,760,448               76,000
  *
  *   catalogs
- *   par1_catalog_open    R 26 14                16 + 28 for each entry                      3,100
- *   par1_catalog_add     R 30 10 25 26 11 14    in the catalog, and 28 on its end           3,300
+ *   par1_catalog_open    R 26 14                16 + 28 for each entry                      2,800
+ *   par1_catalog_add     R 30 10 25 26 11 14    in the catalog, and 28 on its end           3,100
  *   par1_catalog_drop    30 10 11               in the catalog                                300
  *   par1_catalog_load    30 14                  a record, 32, for each entry                  300
  *
@@ -390,7 +390,7 @@ uint32_t par1_count(const uint8_t *inventory, size_t inventory_len, uint8_t *out
  * volume v's at n + v - 1: par1_mul_add of each fragment present with its weight, in any order, into zeros of the file's size gives the
  * file. 13: it is present. 12: it is undetermined, what is present does not determine it; of an inventory of PAR1_CAUCHY it is so exactly where fewer
  * volumes are present than files of size 1 or more are missing, and the file is one of these. Refuses with 10 where the file is not 1 to n, and
- * with 14, after 13 and 12, where `out` is shorter. Takes 68 KiB of stack, and one elimination over the missing files of size 1 or more and the
+ * with 14, after 13 and 12, where `out` is shorter. Takes 69 KiB of stack, and one elimination over the missing files of size 1 or more and the
  * volumes present: less than a millisecond for 127 of them and 128, on a server (docs/BENCHMARKS.md). */
 uint32_t par1_query(const uint8_t *inventory, size_t inventory_len, uint64_t file, uint8_t *out, size_t out_len);
 
@@ -451,7 +451,7 @@ par1_answer par1_import(const uint8_t *file, size_t file_len, const uint8_t *tex
  *
  * Refuses with 14 where `out` is shorter than the text, and with nothing else. No text is longer than PAR1_MAX_REPLAY_LENGTH, 14,760,448 bytes, that of
  * 254 empty files and 16,256 events; a line is at most 908. Each event takes an elimination, as a query does, and the text is worked out twice, to be
- * measured and to be written. Takes 74 KiB of stack. */
+ * measured and to be written. Takes 75 KiB of stack. */
 par1_answer par1_replay(const uint8_t *log, size_t log_len, uint8_t *out, size_t out_len);
 
 /* -------- Catalogs ---------------------------------------------------------------------------------------------------------------------------- */
