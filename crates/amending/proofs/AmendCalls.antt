@@ -5,6 +5,7 @@
 --   amend_accepted     so it is made
 --   calls_afresh       after any run of calls
 -- Assumes nothing.
+use Rattle.std.specs.Prelude.{Ok}
 use mathlib.Core.Path.{◌≡◌, sym, ap, ap₂, ◌∙◌, subst}
 use mathlib.Core.Bool.{true, ◌&&◌}
 use mathlib.Core.List.{List, [], ◌++◌}
@@ -17,8 +18,7 @@ use Rattle.codes.specs.declared.Code.{Code}
 use Rattle.cut_lists.specs.All.{All}
 use Rattle.cut_lists.proofs.AllLaws.{all_at}
 use Rattle.lent_bytes.specs.Writing.{accepted, written_unless}
-use Rattle.lent_bytes.specs.declared.Writing.{Writing}
-use Rattle.lent_bytes.specs.declared.Writing.TheVariants.{Written}
+use Rattle.lent_bytes.specs.Writing.{Writing}
 use Rattle.lent_bytes.proofs.WritingLaws.{unless_accepted, unless_tells}
 use Rattle.computed_tests.proofs.Tests.{and_both}
 use Rattle.entries.specs.Entry.{file_size_of, file_size_allowed}
@@ -157,7 +157,7 @@ module _ (code : Code) (program v : ℕ) (fs : List File) (c : Change) (n : ℕ)
     held : Holds code program v (amended c fs) k room
 
   amend_written : {k : ℕ} {room : List ℕ} → take (length c.old) (drop c.place (contents_of fs c.file)) ≡ c.old
-      → amend_of rule_of n c (entry_after c fs) out ≡ (Written k, room) → Amended k room
+      → amend_of rule_of n c (entry_after c fs) out ≡ (Ok k, room) → Amended k room
   amend_written {k} {room} old_true e = let d : List ℕ = entry_after c fs in
       let vol : List ℕ = volume_for (version_for code) (rule_of code) program v fs in
       let s : List ℕ = amend_volume rule_of c d vol in
@@ -165,8 +165,8 @@ module _ (code : Code) (program v : ℕ) (fs : List File) (c : Change) (n : ℕ)
       let call = sym (amend_holds d) ∙ e in
       let told = unless_tells m s out call in
       let a : AmendRight c fs = amend_tells code program v fs p right c old_true told.none in
-      let both : accepted s out ≡ (Written k, room) = sym (unless_accepted m s out told.none told.fits) ∙ call in
-      let answer : Written (length s) ≡ Written k = ap (λ (p : Writing × List ℕ). p.0) both in
+      let both : accepted s out ≡ (Ok k, room) = sym (unless_accepted m s out told.none told.fits) ∙ call in
+      let answer : Ok (length s) ≡ Ok k = ap (λ (p : Writing × List ℕ). p.0) both in
       let size : length s ≡ k = cc in
       let held : s ++ drop (length s) out ≡ room = ap (λ (p : Writing × List ℕ). p.1) both in
       let inside : k ≤ length room = omega (arith, length-append s (drop (length s) out), ap length held) in

@@ -7,6 +7,7 @@
 --   amend_to, amend_volume_lem          one amendment
 --   amended_afresh                  a run of them
 -- Assumes nothing.
+use Rattle.std.specs.Prelude.{Ok}
 use mathlib.Core.Path.{◌≡◌, refl, sym, ap, ap₂, ◌∙◌, subst}
 use mathlib.Core.Bool.{true}
 use mathlib.Core.List.{List, [], ◌∷◌, flatten}
@@ -27,7 +28,6 @@ use Rattle.parity.specs.Parity.{parity}
 use Rattle.parity.proofs.Changes.{stretched, parity_longer, parity_stretched}
 use Rattle.par1_read.specs.Reading.{entries_in, read_of}
 use Rattle.par1_read.specs.declared.reading.Parts.{Parts}
-use Rattle.par1_read.specs.declared.reading.Reading.TheVariants.{Accepted}
 use Rattle.par1_read.proofs.ReadingLaws.{read_tells}
 use Rattle.par1_rules.specs.Layout.{version_for, version_of, volume_number_of, data_size_of, list_of, data_of}
 use Rattle.par1_rules.specs.Hashes.{set_hash}
@@ -75,7 +75,7 @@ amended_right v c fs right a = let count = amended-count c fs a.low a.high in
 
 pub record VolumeIs (vol : List ℕ) (code : Code) (program v : ℕ) (fs : List File) : Type 0 where
   pub files_are : All FileBack fs
-  pub read_is : (p : Parts) × (read_of vol ≡ Accepted p)
+  pub read_is : (p : Parts) × (read_of vol ≡ Ok p)
   pub code_is : code_in (version_of vol) ≡ code
   pub number_is : volume_number_of vol ≡ v
   pub size_is : data_size_of vol ≡ data_size_for fs

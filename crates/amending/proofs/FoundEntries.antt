@@ -4,6 +4,7 @@
 --   Found, found                     where the file's entry stands, and what fits, where the tests 10, 16 to 18 and 21 have passed
 --   length_list, length_data, length-amended     the lengths of the amended list, data and volume
 -- Assumes nothing.
+use Rattle.std.specs.Prelude.{Ok}
 use mathlib.Core.Path.{◌≡◌, sym, ap, ◌∙◌}
 use mathlib.Core.Bool.{true}
 use mathlib.Core.List.{List, [], ◌∷◌, ◌++◌, flatten}
@@ -30,7 +31,6 @@ use Rattle.par1.specs.Checking.{lone_refusal}
 use Rattle.par1.proofs.CheckingLaws.{lone_tells}
 use Rattle.par1_read.specs.Reading.{entries_in, read_of}
 use Rattle.par1_read.specs.declared.reading.Parts.{Parts}
-use Rattle.par1_read.specs.declared.reading.Reading.TheVariants as reading
 use Rattle.par1_read.proofs.ReadingLaws.{parts_of, read_tells, list_joined}
 use Rattle.par1_rules.specs.Hashes.{set_hash}
 use Rattle.par1_rules.specs.Layout.{volume_number_of, list_size_of, data_size_of, list_of, data_of}
@@ -53,7 +53,7 @@ pub record Read (vol : List ℕ) : Type 0 where
   pub joined : flatten (entries_in vol) ≡ list_of vol
   pub number_right : number_allowed (volume_number_of vol) (length (saved_of (entries_in vol))) ≡ true
 
-pub volume_read : (vol : List ℕ) {p : Parts} → read_of vol ≡ reading.Accepted p → Read vol × (p ≡ parts_of vol)
+pub volume_read : (vol : List ℕ) {p : Parts} → read_of vol ≡ Ok p → Read vol × (p ≡ parts_of vol)
 volume_read vol {p} e = let told = read_tells vol p e in
     let tests = told.tests in
     let header = tests.header in

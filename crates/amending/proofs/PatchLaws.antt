@@ -4,6 +4,7 @@
 --   patched_is       the writes make the amended volume, and leave the rest of the room
 --   amend_refuses, amend_short, amend_over     what the call gives: refused by the tests, refused with 14, and the volume amended
 -- Assumes nothing.
+use Rattle.std.specs.Prelude.{Ok, Err}
 use mathlib.Core.Path.{◌≡◌, refl, sym, ap, ap₂, ◌∙◌}
 use mathlib.Core.List.{List, [], ◌∷◌, ◌++◌, append_assoc, append-nil, flatten}
 use Prim.Native.Nat.{ℕ, suc, ◌+◌, ◌-◌, ◌≤◌, ◌<◌}
@@ -15,7 +16,6 @@ use Rattle.refusals.specs.Tests.{bare}
 use Rattle.refusals.specs.declared.Refusal.{Refusal}
 use Rattle.little_endian.specs.Bytes.{to_le}
 use Rattle.lent_bytes.specs.Writing.{refused}
-use Rattle.lent_bytes.specs.declared.Writing.TheVariants as writing
 use Rattle.lent_bytes.proofs.PartLaws.{split}
 use Rattle.lent_bytes.proofs.WritingLaws.{written_fits, written_short, unless_none, unless_refused}
 use Rattle.md5_digest.specs.Digest.{md5}
@@ -28,7 +28,6 @@ use Rattle.amending.specs.Amending.{Change, place_in, amended_list, amended_data
 use Rattle.amending.specs.Call.{amend_of}
 use Rattle.amending.specs.Plan.{plan_for, plan_of, patched}
 use Rattle.amending.specs.declared.planning.Plan.{Plan}
-use Rattle.amending.specs.declared.planning.Planned.TheVariants as planned
 use Rattle.amending.proofs.Amends.{five_parts}
 use Rattle.amending.proofs.EntryPlaces.{split_entries, set_joined}
 use Rattle.amending.proofs.FoundEntries.{Read, Found, length_list, length-amended}
@@ -132,11 +131,11 @@ module _ (rules : Code → ℕ → ℕ → ℕ) (c : Change) (d vol out : List �
 -- ---- the call
 
 module _ (rules : Code → ℕ → ℕ → ℕ) (n : ℕ) (c : Change) (d out : List ℕ) (h : n ≤ length out) where
-  pub amend_refuses : {r : Refusal} → plan_of rules c d (take n out) ≡ planned.Refused r → refused r out ≡ amend_of rules n c d out
+  pub amend_refuses : {r : Refusal} → plan_of rules c d (take n out) ≡ Err r → refused r out ≡ amend_of rules n c d out
   amend_refuses e = let told = refusal_tells rules c d (take n out) e in
       unless_refused (amend_volume rules c d (take n out)) out (sym told.0) told.1 refl ∙ sym (amend_is rules n c d out h refl)
 
-  module _ {plan : Plan} (e : plan_of rules c d (take n out) ≡ planned.Amend plan) where
+  module _ {plan : Plan} (e : plan_of rules c d (take n out) ≡ Ok plan) where
     total_is : length (amend_volume rules c d (take n out)) ≡ plan.total
     total_is = let told = plan_tells rules c d (take n out) e in
         length-amended (take n out) told.read c d told.at rules ∙ sym (ap (λ (p : Plan). p.total) told.plan_is)
@@ -153,7 +152,7 @@ module _ (rules : Code → ℕ → ℕ → ℕ) (n : ℕ) (c : Change) (d out : 
         (rw told.plan_is (omega arith), rw told.plan_is (omega arith))
 
     pub amend_over : {t : List ℕ} → plan.total ≤ length out → t ≡ patched plan n c.old c.new d out
-        → (writing.Written plan.total, t) ≡ amend_of rules n c d out
+        → (Ok plan.total, t) ≡ amend_of rules n c d out
     amend_over fits wrote = let told = plan_tells rules c d (take n out) e in
         let vol : List ℕ = take n out in
         let s : List ℕ = amend_volume rules c d vol in

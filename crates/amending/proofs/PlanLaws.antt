@@ -7,6 +7,7 @@
 --   plan_unread, plan_refused, plan_sized     what planning gives
 --   refusal_tells, PlanTold, plan_tells       and what its answer tells
 -- Assumes nothing.
+use Rattle.std.specs.Prelude.{Ok, Err, Result}
 use mathlib.Core.Path.{◌≡◌, refl, sym, ap, ap₂, ◌∙◌}
 use mathlib.Core.Bool.{Bool, true, false, cond, ◌&&◌, false≢true}
 use mathlib.Core.List.{List}
@@ -26,8 +27,7 @@ use Rattle.parity.specs.Parity.{is_file}
 use Rattle.par1.specs.Checking.{lone_refusal}
 use Rattle.par1_read.specs.Reading.{entries_in, read_of}
 use Rattle.par1_read.specs.declared.reading.Parts.{Parts}
-use Rattle.par1_read.specs.declared.reading.Reading.{Reading}
-use Rattle.par1_read.specs.declared.reading.Reading.TheVariants as reading
+use Rattle.par1_read.specs.Reading.{Reading}
 use Rattle.par1_read.proofs.ReadingLaws.{refused_some}
 use Rattle.par1_rules.specs.Layout.{volume_number_of, list_size_of, list_of}
 use Rattle.par1_rules.specs.Rules.{length_allowed}
@@ -37,8 +37,6 @@ use Rattle.amending.specs.Call.{change_allowed, entry_in, file_allowed, change_r
 use Rattle.amending.specs.Plan.{span_in, tests_refusal, PartsFit, sized_plan, plan_for, plan_of}
 use Rattle.amending.specs.declared.finding.Span.{Span}
 use Rattle.amending.specs.declared.planning.Plan.{Plan}
-use Rattle.amending.specs.declared.planning.Planned.{Planned}
-use Rattle.amending.specs.declared.planning.Planned.TheVariants.{Amend, Refused}
 use Rattle.amending.proofs.Refusals.{change_passed}
 use Rattle.amending.proofs.WriteLaws.{plan_with}
 use Rattle.amending.proofs.EntryPlaces.{part_of_entries, from_within}
@@ -46,7 +44,7 @@ use Rattle.amending.proofs.FoundEntries.{Read, volume_read, Found, found, length
 
 -- ---- the tests
 
-module _ (vol : List ℕ) {p : Parts} (read : read_of vol ≡ reading.Accepted p) (f : ℕ) where
+module _ (vol : List ℕ) {p : Parts} (read : read_of vol ≡ Ok p) (f : ℕ) where
   -- the list, and the entry's part of it, as the code takes them
   module _ {list : List ℕ} {span : Span} (part : list ≡ take p.list_size (drop 96 vol))
       (found : span ≡ span_in (entries_of list).pieces (f - 1)) where
@@ -93,34 +91,34 @@ decided true zero true y h = absurd (h refl)
 
 -- and 1, where none does
 by_length : (b : Bool) (x : Plan)
-    → cond (eqb (bare (test 1 b 0)).number 0) (Amend x) (Refused (bare (test 1 b 0))) ≡ cond b (Amend x) (Refused (bare 1))
+    → cond (eqb (bare (test 1 b 0)).number 0) (Ok x) (Err (bare (test 1 b 0))) ≡ cond b (Ok x) (Err (bare 1))
 by_length true x = refl
 by_length false x = refl
 
 module _ (rules : Code → ℕ → ℕ → ℕ) (p : Parts) (from file place size : ℕ) {m : ℕ} (e : m ≡ max p.data_size size) where
-  pub sized_short : {r : Refusal} → r ≡ bare 1 → max_volume_length < 96 + p.list_size + m → Refused r ≡ sized_plan rules p from file place size
+  pub sized_short : {r : Refusal} → r ≡ bare 1 → max_volume_length < 96 + p.list_size + m → Err r ≡ sized_plan rules p from file place size
   unfolding sized_plan
   sized_short is h = simp (is, too_long (96 + p.list_size + max p.data_size size) (omega arith))
 
   pub sized_over : {w : ℕ} → w ≡ rules p.code file p.number → 96 + p.list_size + m ≤ max_volume_length
-      → Amend (plan_with from place w p.list_size m) ≡ sized_plan rules p from file place size
+      → Ok (plan_with from place w p.list_size m) ≡ sized_plan rules p from file place size
   unfolding sized_plan
   sized_over is h =
       simp (long_enough (96 + p.list_size + max p.data_size size) (omega arith) (omega arith))
-      (ap₂ (λ (x y : ℕ). Amend (plan_with from place x p.list_size y)) is e)
+      (ap₂ (λ (x y : ℕ). Ok (plan_with from place x p.list_size y)) is e)
 
 module _ (rules : Code → ℕ → ℕ → ℕ) (c : Change) (d vol : List ℕ) where
   -- from the refusal by the tests
-  abbrev answer : Refusal → Planned
-  answer k = cond (eqb k.number 0) (Amend (plan_for rules c d vol)) (Refused k)
+  abbrev answer : Refusal → Result Plan Refusal
+  answer k = cond (eqb k.number 0) (Ok (plan_for rules c d vol)) (Err k)
 
-  pub plan_unread : {r : Refusal} → read_of vol ≡ reading.Refused r → Refused r ≡ plan_of rules c d vol
+  pub plan_unread : {r : Refusal} → read_of vol ≡ Err r → Err r ≡ plan_of rules c d vol
   unfolding plan_of
   plan_unread {r} e = simp (e, ne_eqb r.number 0 (refused_some vol e))
 
-  module _ {p : Parts} (read : read_of vol ≡ reading.Accepted p) {r : Refusal}
+  module _ {p : Parts} (read : read_of vol ≡ Ok p) {r : Refusal}
       (is : r ≡ tests_refusal (file_allowed c.file vol) c.place (length c.old) (length c.new) (entry_in c.file (entries_in vol)) d) where
-    pub plan_refused : (r.number ≡ 0 → ⊥) → Refused r ≡ plan_of rules c d vol
+    pub plan_refused : (r.number ≡ 0 → ⊥) → Err r ≡ plan_of rules c d vol
     unfolding plan_of tests_refusal change_refusal
     plan_refused some = let e : List ℕ = entry_in c.file (entries_in vol) in
         let same : change_refusal rules c d vol ≡ r =
@@ -165,13 +163,13 @@ module _ (rules : Code → ℕ → ℕ → ℕ) (c : Change) (d vol : List ℕ) 
 
   -- ---- what its answer tells
 
-  pub refusal_tells : {r : Refusal} → plan_of rules c d vol ≡ Refused r
+  pub refusal_tells : {r : Refusal} → plan_of rules c d vol ≡ Err r
       → (amend_refusal rules c d vol (read_of vol) ≡ r) × (r.number ≡ 0 → ⊥)
   unfolding plan_of
   refusal_tells {r} e = by (eqb (amend_refusal rules c d vol (read_of vol)).number 0) refl e
     where
       by : (b : Bool) → eqb (amend_refusal rules c d vol (read_of vol)).number 0 ≡ b
-          → cond b (Amend (plan_for rules c d vol)) (Refused (amend_refusal rules c d vol (read_of vol))) ≡ Refused r
+          → cond b (Ok (plan_for rules c d vol)) (Err (amend_refusal rules c d vol (read_of vol))) ≡ Err r
           → (amend_refusal rules c d vol (read_of vol) ≡ r) × (r.number ≡ 0 → ⊥)
       by true z e = absurd (let z : ◌≡◌ {A = ℕ} 0 1 = cc in omega arith)
       by false z e = let same : amend_refusal rules c d vol (read_of vol) ≡ r = cc in
@@ -184,17 +182,17 @@ module _ (rules : Code → ℕ → ℕ → ℕ) (c : Change) (d vol : List ℕ) 
     pub at : Found vol c.file c.place d
 
   accepted_found : (k : Reading) → read_of vol ≡ k → (amend_refusal rules c d vol k).number ≡ 0 → Read vol × Found vol c.file c.place d
-  accepted_found (reading.Refused r) e z = absurd (refused_some vol e z)
-  accepted_found (reading.Accepted p) e z = let is = (volume_read vol e).0 in
+  accepted_found (Err r) e z = absurd (refused_some vol e z)
+  accepted_found (Ok p) e z = let is = (volume_read vol e).0 in
       let t = change_passed rules c d vol z in
       (is, found vol is c.file c.place (length c.old) (length c.new) d t.file_right t.lone t.change)
 
-  pub plan_tells : {plan : Plan} → plan_of rules c d vol ≡ Amend plan → PlanTold plan
+  pub plan_tells : {plan : Plan} → plan_of rules c d vol ≡ Ok plan → PlanTold plan
   unfolding plan_of
   plan_tells {plan} e = by (eqb (amend_refusal rules c d vol (read_of vol)).number 0) refl e
     where
       by : (b : Bool) → eqb (amend_refusal rules c d vol (read_of vol)).number 0 ≡ b
-          → cond b (Amend (plan_for rules c d vol)) (Refused (amend_refusal rules c d vol (read_of vol))) ≡ Amend plan → PlanTold plan
+          → cond b (Ok (plan_for rules c d vol)) (Err (amend_refusal rules c d vol (read_of vol))) ≡ Ok plan → PlanTold plan
       by true z e = let none = eqb-true _ 0 z in
           let both = accepted_found (read_of vol) refl none in
           record { none = none; plan_is = cc; read = both.0; at = both.1 }

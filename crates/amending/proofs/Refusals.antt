@@ -11,6 +11,7 @@
 --   ChangePassed, change_passed     what the tests after those of reading, passed, tell
 -- A test is passed where it does not hold.
 -- Assumes nothing.
+use Rattle.std.specs.Prelude.{Ok, Err}
 use mathlib.Core.Path.{◌≡◌, refl, sym, ap, ap₂, ◌∙◌}
 use mathlib.Core.Bool.{Bool, true, false, cond}
 use mathlib.Core.List.{List}
@@ -23,15 +24,13 @@ use lib.Seq.{drop-append_seam}
 use borrow.Author.Tests.{le-leb, lt-leb}
 use Rattle.codes.specs.declared.Code.{Code}
 use Rattle.lent_bytes.specs.Writing.{refused, accepted, written_unless}
-use Rattle.lent_bytes.specs.declared.Writing.{Writing}
-use Rattle.lent_bytes.specs.declared.Writing.TheVariants.{Written}
+use Rattle.lent_bytes.specs.Writing.{Writing}
 use Rattle.lent_bytes.proofs.WritingLaws.{written_short, unless_none, unless_refused, unless_accepted, unless_tells, never, refused_exactly}
 use Rattle.par1.specs.Checking.{lone_refusal}
 use Rattle.par1.proofs.Faults.{lone_number_lem, lone_some, lone_first, lone_passed, lone_kept}
 use Rattle.par1_read.specs.Reading.{entries_in, read_of}
 use Rattle.par1_read.specs.declared.reading.Parts.{Parts}
-use Rattle.par1_read.specs.declared.reading.Reading.{Reading}
-use Rattle.par1_read.specs.declared.reading.Reading.TheVariants as reading
+use Rattle.par1_read.specs.Reading.{Reading}
 use Rattle.par1_read.proofs.ReadingLaws.{refused_some}
 use Rattle.par1_rules.specs.Rules.{length_allowed}
 use Rattle.refusals.proofs.OrderLaws.{Decides, passes, fails, fails_where, passes_where}
@@ -70,12 +69,12 @@ module _ (rules : Code → ℕ → ℕ → ℕ) (n : ℕ) (c : Change) (d out : 
         simp (le-leb n (length out) h)
         (ap (λ (t : List ℕ). written_unless (amend_refusal rules c d t (read_of t)) (amend_volume rules c d t) out) is)
 
-    amend_unread : {r : Refusal} → read_of vol ≡ reading.Refused r → amend_of rules n c d out ≡ refused r out
+    amend_unread : {r : Refusal} → read_of vol ≡ Err r → amend_of rules n c d out ≡ refused r out
     amend_unread {r} e =
         amend_is ∙ sym (unless_refused (amend_volume rules c d vol) out
         (sym (ap (λ (k : Reading). amend_refusal rules c d vol k) e)) (refused_some vol e) refl)
 
-    pub amend_read : {p : Parts} → read_of vol ≡ reading.Accepted p
+    pub amend_read : {p : Parts} → read_of vol ≡ Ok p
         → amend_of rules n c d out ≡ written_unless (change_refusal rules c d vol) (amend_volume rules c d vol) out
     amend_read e = amend_is ∙ ap (λ (k : Reading). written_unless (amend_refusal rules c d vol k) (amend_volume rules c d vol) out) e
 
@@ -156,8 +155,8 @@ module _ (rules : Code → ℕ → ℕ → ℕ) (n : ℕ) (c : Change) (d out : 
   ]
     where
       by : n ≤ length out → (k : Reading) → read_of (take n out) ≡ k → P
-      by h (reading.Refused q) is = some _ (claim.unread h is)
-      by h (reading.Accepted p) is =
+      by h (Err q) is = some _ (claim.unread h is)
+      by h (Ok p) is =
           first_of rules c d (take n out) out (volume_read (take n out) is).0 P (λ k f. some _ (claim.fails h is f))
           (λ passed. none (amend_read rules n c d out h refl is ∙ passed))
 
@@ -174,11 +173,11 @@ module _ (rules : Code → ℕ → ℕ → ℕ) (n : ℕ) (c : Change) (d out : 
   amend_by b = let vol : List ℕ = take n out in
       cond b (written_unless (amend_refusal rules c d vol (read_of vol)) (amend_volume rules c d vol) out) (refused (bare 14) out)
 
-  written_kept : {k : ℕ} {room : List ℕ} → amend_of rules n c d out ≡ (Written k, room) → (length room ≡ length out) × (drop k room ≡ drop k out)
+  written_kept : {k : ℕ} {room : List ℕ} → amend_of rules n c d out ≡ (Ok k, room) → (length room ≡ length out) × (drop k room ≡ drop k out)
   unfolding amend_of amend_by
   written_kept {k} {room} e = by (leb n (length out)) e
     where
-      by : (b : Bool) → amend_by b ≡ (Written k, room) → (length room ≡ length out) × (drop k room ≡ drop k out)
+      by : (b : Bool) → amend_by b ≡ (Ok k, room) → (length room ≡ length out) × (drop k room ≡ drop k out)
       by true e = let vol : List ℕ = take n out in
           let s : List ℕ = amend_volume rules c d vol in
           let m : Refusal = amend_refusal rules c d vol (read_of vol) in

@@ -10,20 +10,19 @@
 --   amend_refusal rules c d vol r   that by all tests between the two 14s, where r is what reading the volume gives
 --   amend_of rules n c d out    what the call gives: the volume is the first n bytes of out
 -- Assumes nothing.
-use Rattle.std.specs.Prelude.{Bool, cond, ◌&&◌, ◌||◌, List, [], ℕ, ◌+◌, ◌-◌, leb, eqb, length, take, get_or}
+use Rattle.std.specs.Prelude.{Bool, cond, ◌&&◌, ◌||◌, List, [], ℕ, ◌+◌, ◌-◌, leb, eqb, length, take, get_or, Ok, Err}
 use Rattle.refusals.specs.Tests.{bare, test, or_else}
 use Rattle.refusals.specs.declared.Refusal.{Refusal}
 use Rattle.lent_bytes.specs.Equal.{equal}
 use Rattle.lent_bytes.specs.Writing.{refused, written_unless}
-use Rattle.lent_bytes.specs.declared.Writing.{Writing}
+use Rattle.lent_bytes.specs.Writing.{Writing}
 use Rattle.codes.specs.declared.Code.{Code}
 use Rattle.entries.specs.Entry.{status_of, file_size_of, name_of}
 use Rattle.entries.specs.Numbering.{saved_of}
 use Rattle.parity.specs.Parity.{is_file}
 use Rattle.par1.specs.Checking.{lone_refusal}
 use Rattle.par1_read.specs.Reading.{entries_in, read_of}
-use Rattle.par1_read.specs.declared.reading.Reading.{Reading}
-use Rattle.par1_read.specs.declared.reading.Reading.TheVariants as reading
+use Rattle.par1_read.specs.Reading.{Reading}
 use Rattle.par1_rules.specs.Layout.{volume_number_of}
 use Rattle.par1_rules.specs.Rules.{length_allowed}
 use Rattle.amending.specs.Amending.{Change, place_in, amend_volume}
@@ -57,8 +56,8 @@ change_refusal rules c d vol =
 
 -- "those of reading" come first
 abbrev pub amend_refusal : (Code → ℕ → ℕ → ℕ) → Change → List ℕ → List ℕ → Reading → Refusal
-amend_refusal rules c d vol (reading.Accepted p) = change_refusal rules c d vol
-amend_refusal rules c d vol (reading.Refused r) = r
+amend_refusal rules c d vol (Ok p) = change_refusal rules c d vol
+amend_refusal rules c d vol (Err r) = r
 
 -- "14 if the length passes the room; .. ; 14"
 unfoldable pub amend_of : (Code → ℕ → ℕ → ℕ) → ℕ → Change → List ℕ → List ℕ → Writing × List ℕ

@@ -22,19 +22,17 @@
 -- (`AmendAccepted`), and there are changes of both kinds that may be made (proofs/Examples.antt).
 -- The contract of amend cites amend_of.
 -- Assumes nothing.
-use Rattle.std.specs.Prelude.{◌≡◌, true, List, [], ℕ, ◌+◌, ◌-◌, ◌^◌, ◌<◌, ◌≤◌, max, length, take, drop, get_or}
+use Rattle.std.specs.Prelude.{◌≡◌, true, List, [], ℕ, ◌+◌, ◌-◌, ◌^◌, ◌<◌, ◌≤◌, max, length, take, drop, get_or, Ok, Err}
 use Rattle.refusals.specs.Limits.{max_volume_length}
 use Rattle.refusals.specs.Tests.{bare}
 use Rattle.refusals.specs.declared.Refusal.{Refusal}
 use Rattle.lent_bytes.specs.Writing.{accepted, RefusedExactly}
-use Rattle.lent_bytes.specs.declared.Writing.TheVariants.{Written, Refused}
 use Rattle.codes.specs.declared.Code.{Code}
 use Rattle.entries.specs.Entry.{status_of, file_size_of, name_of, file_size_allowed}
 use Rattle.entries.specs.Numbering.{saved_of}
 use Rattle.par1.specs.Claim.{LoneBreaks}
 use Rattle.par1_read.specs.Reading.{entries_in, read_of}
 use Rattle.par1_read.specs.declared.reading.Parts.{Parts}
-use Rattle.par1_read.specs.declared.reading.Reading.TheVariants as reading
 use Rattle.par1_rules.specs.Layout.{version_for, volume_number_of, data_size_of, list_of, data_of}
 use Rattle.par1_set.specs.Files.{File, no_file, file_count, contents_of, entry_for, list_for, data_size_for}
 use Rattle.par1_set.specs.Volume.{volume_for, VolumeRight}
@@ -113,9 +111,9 @@ pub data Calls : List File → ℕ → List ℕ → List File → ℕ → List �
   -- "given true old bytes and entries"
   calls_written : {fs gs : List File} {n k m : ℕ} {out room w : List ℕ} (c : Change)
       → take (length c.old) (drop c.place (contents_of fs c.file)) ≡ c.old
-      → amend_of rule_of n c (entry_after c fs) out ≡ (Written k, room) → Calls (amended c fs) k room gs m w → Calls fs n out gs m w
+      → amend_of rule_of n c (entry_after c fs) out ≡ (Ok k, room) → Calls (amended c fs) k room gs m w → Calls fs n out gs m w
   calls_refused : {fs gs : List File} {n m : ℕ} {r : Refusal} {out room w : List ℕ} (c : Change) (d : List ℕ)
-      → amend_of rule_of n c d out ≡ (Refused r, room) → Calls fs n room gs m w → Calls fs n out gs m w
+      → amend_of rule_of n c d out ≡ (Err r, room) → Calls fs n room gs m w → Calls fs n out gs m w
 
 -- "After any run of such amendments to a volume true at the start, .. it equals one written afresh from the files as they are now", which
 -- keep the rules; proved: proofs/AmendCalls.antt, `calls_afresh`
@@ -154,8 +152,8 @@ pub data Fails (rules : Code → ℕ → ℕ → ℕ) (c : Change) (d vol out : 
 
 pub data Refuses (rules : Code → ℕ → ℕ → ℕ) (n : ℕ) (c : Change) (d out : List ℕ) : Refusal → Type 0 where
   past_room : length out < n → Refuses rules n c d out (bare 14)
-  unread : {r : Refusal} → n ≤ length out → read_of (take n out) ≡ reading.Refused r → Refuses rules n c d out r
-  fails : {p : Parts} {k : ℕ} → n ≤ length out → read_of (take n out) ≡ reading.Accepted p → Fails rules c d (take n out) out k
+  unread : {r : Refusal} → n ≤ length out → read_of (take n out) ≡ Err r → Refuses rules n c d out r
+  fails : {p : Parts} {k : ℕ} → n ≤ length out → read_of (take n out) ≡ Ok p → Fails rules c d (take n out) out k
       → Refuses rules n c d out (bare k)
 
 -- proved: proofs/Refusals.antt, `amend_refused`
@@ -166,5 +164,5 @@ AmendRefused =
 -- proved: proofs/Refusals.antt, `room_kept`
 abbrev pub RoomKept : Type 0
 RoomKept =
-    (rules : Code → ℕ → ℕ → ℕ) (n : ℕ) (c : Change) (d out : List ℕ) (k : ℕ) (room : List ℕ) → amend_of rules n c d out ≡ (Written k, room)
+    (rules : Code → ℕ → ℕ → ℕ) (n : ℕ) (c : Change) (d out : List ℕ) (k : ℕ) (room : List ℕ) → amend_of rules n c d out ≡ (Ok k, room)
     → (length room ≡ length out) × (drop k room ≡ drop k out)

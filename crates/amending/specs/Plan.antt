@@ -15,7 +15,7 @@
 --   controlled m t             the control hash of a volume of m bytes made new
 --   patched p n old new d t    all writes: the volume had n bytes, and d is the new entry
 -- Assumes nothing.
-use Rattle.std.specs.Prelude.{Bool, cond, ℕ, ◌+◌, ◌-◌, ◌≤◌, ◌<◌, max, eqb, length, take, drop, get_or, replicate}
+use Rattle.std.specs.Prelude.{Bool, cond, ℕ, ◌+◌, ◌-◌, ◌≤◌, ◌<◌, max, eqb, length, take, drop, get_or, replicate, Result, Ok, Err}
 use mathlib.Core.List.{List, [], ◌++◌, flatten}
 use Rattle.std.proofs.lemmas.List.Edits.{sets}
 use Rattle.refusals.specs.Limits.{max_volume_length}
@@ -37,8 +37,6 @@ use Rattle.amending.specs.Amending.{Change, saved_place, statuses_of}
 use Rattle.amending.specs.Call.{change_allowed, amend_refusal}
 use Rattle.amending.specs.declared.finding.Span.{Span}
 use Rattle.amending.specs.declared.planning.Plan.{Plan}
-use Rattle.amending.specs.declared.planning.Planned.{Planned}
-use Rattle.amending.specs.declared.planning.Planned.TheVariants.{Amend, Refused}
 
 -- ---- before a byte is written
 
@@ -68,17 +66,17 @@ plan_from rules p from file place size =
       total = 96 + p.list_size + max p.data_size size;
     }
 
-unfoldable pub sized_plan : (Code → ℕ → ℕ → ℕ) → Parts → ℕ → ℕ → ℕ → ℕ → Planned
+unfoldable pub sized_plan : (Code → ℕ → ℕ → ℕ) → Parts → ℕ → ℕ → ℕ → ℕ → Result Plan Refusal
 sized_plan rules p from file place size =
-    cond (length_allowed (96 + p.list_size + max p.data_size size)) (Amend (plan_from rules p from file place size)) (Refused (bare 1))
+    cond (length_allowed (96 + p.list_size + max p.data_size size)) (Ok (plan_from rules p from file place size)) (Err (bare 1))
 
 abbrev pub plan_for : (Code → ℕ → ℕ → ℕ) → Change → List ℕ → List ℕ → Plan
 plan_for rules c d vol =
     plan_from rules (parts_from vol (length (saved_of (entries_in vol)))) (span_in (entries_in vol) (c.file - 1)).from c.file c.place (file_size_of d)
 
-unfoldable pub plan_of : (Code → ℕ → ℕ → ℕ) → Change → List ℕ → List ℕ → Planned
+unfoldable pub plan_of : (Code → ℕ → ℕ → ℕ) → Change → List ℕ → List ℕ → Result Plan Refusal
 plan_of rules c d vol =
-    let r : Refusal = amend_refusal rules c d vol (read_of vol) in cond (eqb r.number 0) (Amend (plan_for rules c d vol)) (Refused r)
+    let r : Refusal = amend_refusal rules c d vol (read_of vol) in cond (eqb r.number 0) (Ok (plan_for rules c d vol)) (Err r)
 
 -- ---- the writes
 

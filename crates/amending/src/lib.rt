@@ -9,9 +9,7 @@ mod finding;
 mod planning;
 mod writing;
 
-pub use lent_bytes::Writing;
-use planning::Planned;
-use refusals::bare;
+use refusals::{Refusal, bare};
 
 // Amends the volume in the first `length` bytes of `volume`: in file `file` the bytes `old` at `place` became `new`, and its entry is now
 // `entry`. The answer is the volume's new length. The work on the data is that on the stretch; but the volume is read first, and its control
@@ -24,22 +22,22 @@ pub fn amend(
     old: &[u8],
     new: &[u8],
     entry: &[u8],
-) -> Writing
+) -> Result<usize, Refusal>
     ensures { (result, volume.new)
         ≡ amend_of rule_of length (change_of file place old.now new.now) entry.now volume.old }
 {
     if (volume.len() as u64) < length {
-        return Writing::Refused(bare(refusals::NO_ROOM));
+        return Err(bare(refusals::NO_ROOM));
     }
     let length = length as usize;
     match planning::plan_for(&volume[..length], file, place, old, new, entry) {
-        Planned::Amend(plan) => {
+        Ok(plan) => {
             if volume.len() < plan.total {
-                return Writing::Refused(bare(refusals::NO_ROOM));
+                return Err(bare(refusals::NO_ROOM));
             }
             writing::patch(volume, plan, length, old, new, entry);
-            Writing::Written(plan.total)
+            Ok(plan.total)
         }
-        Planned::Refused(refusal) => Writing::Refused(refusal),
+        Err(refusal) => Err(refusal),
     }
 }

@@ -1,14 +1,13 @@
 // The tests of an amendment (document 02, 2026-05), all before a byte is written, and what it is to change.
-ghost use Rattle.std.specs.Prelude.{◌≡◌, ◌+◌, ◌-◌, ◌&&◌, leb, eqb};
+ghost use Rattle.std.specs.Prelude.{◌≡◌, ◌+◌, ◌-◌, ◌&&◌, leb, eqb, Ok};
 ghost use Rattle.parity.specs.Coefficient.{rule_of};
 ghost use Rattle.parity.specs.Parity.{is_file};
 ghost use Rattle.par1_read.specs.Reading.{read_of};
-ghost use Rattle.par1_read.specs.declared.reading.Reading.TheVariants.{Accepted};
 ghost use Rattle.amending.specs.Call.{stretch_allowed, change_allowed, change_of};
 ghost use Rattle.amending.specs.Plan.{tests_refusal, PartsFit, sized_plan, plan_of};
 
 use crate::finding;
-use par1_read::{Parts, Reading};
+use par1_read::Parts;
 use par1_rules::layout;
 use refusals::{Refusal, bare, or_else, test};
 
@@ -24,13 +23,6 @@ pub struct Plan {
     pub total: usize,
 }
 
-// What the tests of an amendment give: what it changes, or its refusal.
-#[derive(Clone, Copy)]
-pub enum Planned {
-    Amend(Plan),
-    Refused(Refusal),
-}
-
 // What an amendment of `volume` changes, or the refusal by the first test that holds; the room is not tested.
 pub(crate) fn plan_for(
     volume: &[u8],
@@ -39,13 +31,13 @@ pub(crate) fn plan_for(
     old: &[u8],
     new: &[u8],
     entry: &[u8],
-) -> Planned
+) -> Result<Plan, Refusal>
     ensures { result
         ≡ plan_of rule_of (change_of file place old.now new.now) entry.now volume.now }
 {
     match par1::read(volume) {
-        Reading::Accepted(parts) => plan_read(volume, parts, file, place, old, new, entry),
-        Reading::Refused(refusal) => Planned::Refused(refusal),
+        Ok(parts) => plan_read(volume, parts, file, place, old, new, entry),
+        Err(refusal) => Err(refusal),
     }
 }
 
@@ -58,8 +50,8 @@ fn plan_read(
     old: &[u8],
     new: &[u8],
     entry: &[u8],
-) -> Planned
-    requires { read_of volume.now ≡ Accepted parts }
+) -> Result<Plan, Refusal>
+    requires { read_of volume.now ≡ Ok parts }
     ensures { result
         ≡ plan_of rule_of (change_of file place old.now new.now) entry.now volume.now }
 {
@@ -76,7 +68,7 @@ fn plan_read(
         entry,
     );
     if refusal.number != 0 {
-        return Planned::Refused(refusal);
+        return Err(refusal);
     }
     sized_plan(
         parts,
@@ -89,7 +81,7 @@ fn plan_read(
 
 // What an amendment of a volume with these parts changes, where the entry of file `file` starts `from` bytes into the list, and the file has
 // `size` bytes now; or 1, where the volume gets too long.
-fn sized_plan(parts: Parts, from: usize, file: u64, place: u64, size: u64) -> Planned
+fn sized_plan(parts: Parts, from: usize, file: u64, place: u64, size: u64) -> Result<Plan, Refusal>
     requires { PartsFit parts from file place size }
     ensures { result ≡ sized_plan rule_of parts from file place size }
 {
@@ -97,10 +89,10 @@ fn sized_plan(parts: Parts, from: usize, file: u64, place: u64, size: u64) -> Pl
     let data_size = entries::greater(parts.data_size, size);
     let data_start = layout::HEADER_LENGTH + list_size;
     if refusals::MAX_VOLUME_LENGTH - data_start < data_size as usize {
-        return Planned::Refused(bare(refusals::SIZE));
+        return Err(bare(refusals::SIZE));
     }
     let code = parts.code;
-    Planned::Amend(Plan {
+    Ok(Plan {
         entry_at: layout::HEADER_LENGTH + from,
         list_size,
         data_size,

@@ -7,12 +7,11 @@
 --   EntryPlaced            so do those of an entry, and three zeros where the list is over
 -- The contracts of put_reading and put_entry cite read_into and entry_into.
 -- Assumes nothing.
-use Rattle.std.specs.Prelude.{◌≡◌, List, ℕ, ◌^◌, ◌<◌}
+use Rattle.std.specs.Prelude.{◌≡◌, List, ℕ, ◌^◌, ◌<◌, Ok}
 use Rattle.codes.specs.Codes.{code_number}
 use Rattle.entries.specs.declared.Item.TheVariants.{Entry, End}
 use Rattle.little_endian.specs.Bytes.{le_at}
 use Rattle.par1_read.specs.declared.reading.Parts.{Parts}
-use Rattle.par1_read.specs.declared.reading.Reading.TheVariants.{Accepted}
 use Rattle.refusals.specs.Tests.{bare}
 use Rattle.answer_bytes.specs.Results.{read_into, entry_into}
 
@@ -39,7 +38,7 @@ pub record PartsAt (p : Parts) (out : List ℕ) : Type 0 where
 
 -- proved: proofs/Places.antt, `parts_placed`
 abbrev pub PartsPlaced : Type 0
-PartsPlaced = (p : Parts) → PartsFit p → (out out' : List ℕ) → read_into (Accepted p) out ≡ (bare 0, out') → PartsAt p out'
+PartsPlaced = (p : Parts) → PartsFit p → (out out' : List ℕ) → read_into (Ok p) out ≡ (bare 0, out') → PartsAt p out'
 
 pub record EntryAt (l status size : ℕ) (out : List ℕ) : Type 0 where
   pub length_at : le_at 8 out 0 ≡ l

@@ -6,7 +6,7 @@
 --   entry_numbers l st n    an entry's length, status and file size: three numbers
 --   entry_into i out      the number of a fault, or 14, and what `out` then holds: the numbers of the entry over its first bytes
 -- Assumes nothing.
-use Rattle.std.specs.Prelude.{List, [], ◌∷◌, ℕ}
+use Rattle.std.specs.Prelude.{List, [], ◌∷◌, ℕ, Ok, Err}
 use Rattle.codes.specs.Codes.{code_number}
 use Rattle.refusals.specs.Tests.{bare}
 use Rattle.refusals.specs.declared.Refusal.{Refusal}
@@ -14,16 +14,14 @@ use Rattle.lent_bytes.specs.Writing.{refused, written, with_refusal, with_number
 use Rattle.entries.specs.Walk.{fault_number}
 use Rattle.entries.specs.declared.Item.{Item}
 use Rattle.entries.specs.declared.Item.TheVariants as item
-use Rattle.gf256.specs.declared.ByteAnswer.{ByteAnswer}
-use Rattle.gf256.specs.declared.ByteAnswer.TheVariants as answer
+use Rattle.gf256.specs.Answer.{ByteAnswer}
 use Rattle.little_endian.specs.Bytes.{numbers}
 use Rattle.par1_read.specs.declared.reading.Parts.{Parts}
-use Rattle.par1_read.specs.declared.reading.Reading.{Reading}
-use Rattle.par1_read.specs.declared.reading.Reading.TheVariants as reading
+use Rattle.par1_read.specs.Reading.{Reading}
 
 unfoldable pub byte_into : ByteAnswer → List ℕ → ℕ × List ℕ
-byte_into (answer.Refused n) out = with_number (refused (bare n) out)
-byte_into (answer.Byte b) out = with_number (written (b ∷ []) out)
+byte_into (Err n) out = with_number (refused (bare n) out)
+byte_into (Ok b) out = with_number (written (b ∷ []) out)
 
 -- program identifier, volume number, entries, saved entries, list size, data start, data size, code
 unfoldable pub parts_bytes : Parts → List ℕ
@@ -40,8 +38,8 @@ parts_bytes p =
     ∷ [])
 
 unfoldable pub read_into : Reading → List ℕ → Refusal × List ℕ
-read_into (reading.Refused r) out = with_refusal (refused r out)
-read_into (reading.Accepted p) out = with_refusal (written (parts_bytes p) out)
+read_into (Err r) out = with_refusal (refused r out)
+read_into (Ok p) out = with_refusal (written (parts_bytes p) out)
 
 unfoldable pub entry_numbers : ℕ → ℕ → ℕ → List ℕ
 entry_numbers l status size = numbers (l ∷ status ∷ size ∷ [])

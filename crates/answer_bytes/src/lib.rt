@@ -6,10 +6,9 @@ ghost use Rattle.answer_bytes.specs.Results.{byte_into, parts_bytes, read_into, 
 ghost use Rattle.lent_bytes.specs.Writing.{written, with_number};
 
 use entries::{Item, fault_number};
-use gf256::ByteAnswer;
 use lent_bytes::write;
 use little_endian::write_numbers;
-use par1_read::{Parts, Reading};
+use par1_read::Parts;
 use refusals::{Refusal, bare};
 
 // The length of the parts of a file, in bytes.
@@ -19,14 +18,14 @@ const PARTS_LENGTH: usize = 64;
 const ENTRY_LENGTH: usize = 24;
 
 // The byte that an answer is, over the first byte of `out`.
-pub fn put_answer(answer: ByteAnswer, out: &mut [u8]) -> u32
+pub fn put_answer(answer: Result<u8, u32>, out: &mut [u8]) -> u32
     ensures { (result, out.new) ≡ byte_into answer out.old }
 {
     match answer {
-        ByteAnswer::Refused(number) => {
+        Err(number) => {
             return number;
         }
-        ByteAnswer::Byte(byte) => {
+        Ok(byte) => {
             let bytes = [byte];
             return write(out, &bytes);
         }
@@ -34,14 +33,14 @@ pub fn put_answer(answer: ByteAnswer, out: &mut [u8]) -> u32
 }
 
 // The parts that a reading gives, over the first bytes of `out`; its refusal, or 14, with the number 0 where there is none.
-pub fn put_reading(reading: Reading, out: &mut [u8]) -> Refusal
+pub fn put_reading(reading: Result<Parts, Refusal>, out: &mut [u8]) -> Refusal
     ensures { (result, out.new) ≡ read_into reading out.old }
 {
     match reading {
-        Reading::Refused(refusal) => {
+        Err(refusal) => {
             return refusal;
         }
-        Reading::Accepted(parts) => {
+        Ok(parts) => {
             let bytes = bytes_of_parts(parts);
             return bare(write(out, &bytes));
         }

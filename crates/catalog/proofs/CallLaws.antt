@@ -10,6 +10,7 @@
 --   length-opened, open_over, open_short, open_many, open_unread     opening
 --   loading_whole, loading_short, loading_other     loading
 -- Assumes nothing.
+use Rattle.std.specs.Prelude.{Ok, Err, Result}
 use mathlib.Core.Path.{◌≡◌, refl, sym, ap, ap₂, ◌∙◌, subst}
 use mathlib.Core.Bool.{Bool, true, false, cond, not, ◌&&◌, true≢false}
 use mathlib.Core.List.{List, [], ◌∷◌, ◌++◌, flatten, append-nil}
@@ -25,7 +26,6 @@ use Rattle.refusals.specs.Tests.{bare, test}
 use Rattle.refusals.specs.declared.Refusal.{Refusal}
 use Rattle.refusals.proofs.TestLaws.{test_passed}
 use Rattle.lent_bytes.specs.Equal.{equal}
-use Rattle.lent_bytes.specs.declared.Writing.TheVariants as writing
 use Rattle.lent_bytes.proofs.StoreLaws.{sets_over}
 use Rattle.lent_bytes.proofs.WritingLaws.{written_fits, written_short, unless_none, unless_refused, unless_accepted}
 use Rattle.little_endian.proofs.Stores.{sets_append}
@@ -33,8 +33,7 @@ use Rattle.cut_lists.specs.All.{all_none}
 use Rattle.entries.specs.Walk.{entries_of}
 use Rattle.par1_read.specs.Reading.{entries_in, read_of}
 use Rattle.par1_read.specs.declared.reading.Parts.{Parts}
-use Rattle.par1_read.specs.declared.reading.Reading.{Reading}
-use Rattle.par1_read.specs.declared.reading.Reading.TheVariants as reading
+use Rattle.par1_read.specs.Reading.{Reading}
 use Rattle.par1_read.proofs.ReadingLaws.{refused_some}
 use Rattle.par1_rules.specs.Layout.{volume_number_of, list_of}
 use Rattle.par1_rules.proofs.RuleLaws.{number_range}
@@ -44,8 +43,6 @@ use Rattle.catalog.specs.Calls.{open_refusal, open_of, volume_in_range, add_numb
 use Rattle.catalog.specs.Plan.{counts_of, place_of, place_in, plan_by, plan_add, plan_drop, spread, closed}
 use Rattle.catalog.specs.declared.checking.Counts.{Counts}
 use Rattle.catalog.specs.declared.planning.Place.{Place}
-use Rattle.catalog.specs.declared.planning.Planned.{Planned}
-use Rattle.catalog.specs.declared.planning.Planned.TheVariants.{Change, Refused}
 use Rattle.catalog.proofs.CatalogLaws.{Catalog, is_catalog_lem}
 use Rattle.catalog.proofs.ChangeLaws.{length_head, at_most, length_catalog, length_added, length_dropped, inserted-over, removed-over}
 use Rattle.catalog.proofs.ListLaws.{length-rows-after, rows_sized_for}
@@ -56,16 +53,16 @@ use Rattle.catalog.proofs.RowLaws.{flatten-rows, length-rows}
 -- ---- plans
 
 module _ (b : List ℕ) where
-  pub plan_drop_other : (v : ℕ) → is_catalog b ≡ false → Refused 30 ≡ plan_drop b v
+  pub plan_drop_other : (v : ℕ) → is_catalog b ≡ false → Err 30 ≡ plan_drop b v
   unfolding plan_drop drop_number
   plan_drop_other v z = simp z
 
-  pub plan_add_other : (vol : List ℕ) → is_catalog b ≡ false → Refused 30 ≡ plan_add b vol
+  pub plan_add_other : (vol : List ℕ) → is_catalog b ≡ false → Err 30 ≡ plan_add b vol
   unfolding plan_add add_number
   plan_add_other vol z = simp z
 
   module _ (yes : is_catalog b ≡ true) {k : Counts} (counts : k ≡ counts_of b) where
-    pub plan_drop_is : (v : ℕ) {p : Place} {r : Bool} {t n : ℕ} {x : Planned} → p ≡ place_in b v → t ≡ test 11 p.present 0
+    pub plan_drop_is : (v : ℕ) {p : Place} {r : Bool} {t n : ℕ} {x : Result Place ℕ} → p ≡ place_in b v → t ≡ test 11 p.present 0
         → r ≡ one_to (255 - k.saved) v → n ≡ test 10 r t → x ≡ plan_by n p → x ≡ plan_drop b v
     unfolding plan_drop drop_number
     plan_drop_is v {p} {r} {t} {n} place eleven range ten plan =
@@ -74,7 +71,7 @@ module _ (b : List ℕ) where
         let number : n ≡ drop_number b v = ten ∙ ap₂ (λ (a : Bool) (m : ℕ). test 10 a m) e₁₀ e₁₁ ∙ simp yes in
         plan ∙ ap₂ plan_by number place
 
-    pub plan_add_is : (vol : List ℕ) {parts : Parts} {p : Place} {list rows : List ℕ} {r g : Bool} {t₁₁ t₂₆ t₂₅ n : ℕ} {x : Planned}
+    pub plan_add_is : (vol : List ℕ) {parts : Parts} {p : Place} {list rows : List ℕ} {r g : Bool} {t₁₁ t₂₆ t₂₅ n : ℕ} {x : Result Place ℕ}
         → Told vol parts → p ≡ place_in b parts.number → list ≡ take parts.list_size (drop 96 vol) → rows ≡ take (28 * k.entries) (drop 16 b)
         → t₁₁ ≡ test 11 (not p.present) 0 → t₂₆ ≡ test 26 (leb parts.entries 1024) t₁₁
         → g ≡ equal (flatten (rows_for (entries_of list).pieces)) rows → t₂₅ ≡ test 25 g t₂₆
@@ -97,17 +94,17 @@ pub record Planning (b : List ℕ) (number v : ℕ) (p : Place) : Type 0 where
   pub none : number ≡ 0
   pub place_is : p ≡ place_in b v
 
-plan_tells : (b : List ℕ) (number v : ℕ) {p : Place} → plan_by number (place_in b v) ≡ Change p → Planning b number v p
+plan_tells : (b : List ℕ) (number v : ℕ) {p : Place} → plan_by number (place_in b v) ≡ Ok p → Planning b number v p
 plan_tells b number v {p} e = by (eqb number 0) refl e
   where
-    by : (t : Bool) → t ≡ eqb number 0 → cond t (Change (place_in b v)) (Refused number) ≡ Change p → Planning b number v p
+    by : (t : Bool) → t ≡ eqb number 0 → cond t (Ok (place_in b v)) (Err number) ≡ Ok p → Planning b number v p
     by true z f = record { none = eqb-true number 0 (sym z); place_is = cc }
     by false z f = absurd (let n : ◌≡◌ {A = ℕ} 0 1 = cc in omega arith)
 
-plan_refuses : (b : List ℕ) (number v : ℕ) {n : ℕ} → plan_by number (place_in b v) ≡ Refused n → (n ≡ number) × (number ≡ 0 → ⊥)
+plan_refuses : (b : List ℕ) (number v : ℕ) {n : ℕ} → plan_by number (place_in b v) ≡ Err n → (n ≡ number) × (number ≡ 0 → ⊥)
 plan_refuses b number v {n} e = by (eqb number 0) refl e
   where
-    by : (t : Bool) → t ≡ eqb number 0 → cond t (Change (place_in b v)) (Refused number) ≡ Refused n → (n ≡ number) × (number ≡ 0 → ⊥)
+    by : (t : Bool) → t ≡ eqb number 0 → cond t (Ok (place_in b v)) (Err number) ≡ Err n → (n ≡ number) × (number ≡ 0 → ⊥)
     by true z f = absurd (let n : ◌≡◌ {A = ℕ} 0 1 = cc in omega arith)
     by false z f = (cc, eqb-false number 0 (sym z))
 
@@ -158,7 +155,7 @@ module _ (b : List ℕ) (v : ℕ) where
     pub volumes_low : 1 ≤ p.volumes
     pub volumes_high : p.volumes ≤ 255
 
-  pub dropping : {p : Place} → plan_drop b v ≡ Change p → Dropping p
+  pub dropping : {p : Place} → plan_drop b v ≡ Ok p → Dropping p
   unfolding plan_drop
   dropping {p} e = let t = plan_tells b (drop_number b v) v e in
       let d = drop_passed b v t.none in
@@ -176,8 +173,8 @@ module _ (b : List ℕ) (v : ℕ) where
         volumes_high = omega (arith, volumes_few b c);
       }
 
-  pub drop-over : {p : Place} {t u : List ℕ} → plan_drop b v ≡ Change p → t ≡ closed p.at p.to b
-      → u ≡ sets t 0 (catalog_head p.entries (p.volumes - 1)) → (writing.Written (p.to - 28), u) ≡ drop_of b v
+  pub drop-over : {p : Place} {t u : List ℕ} → plan_drop b v ≡ Ok p → t ≡ closed p.at p.to b
+      → u ≡ sets t 0 (catalog_head p.entries (p.volumes - 1)) → (Ok (p.to - 28), u) ≡ drop_of b v
   unfolding drop_of
   drop-over {p} {t} {u} e down put = let d = dropping e in
       let c = d.catalog_is in
@@ -188,14 +185,14 @@ module _ (b : List ℕ) (v : ℕ) where
       let over : length (dropped_bytes b v) ≤ length b = omega (arith, c.within, length_dropped b c v d.held less) in
       simp (d.place_is, made, unless_accepted (bare (drop_number b v)) (dropped_bytes b v) b d.number_none over)
 
-  pub drop_refuses : {n : ℕ} {r : Refusal} → plan_drop b v ≡ Refused n → r ≡ bare n → (writing.Refused r, b) ≡ drop_of b v
+  pub drop_refuses : {n : ℕ} {r : Refusal} → plan_drop b v ≡ Err n → r ≡ bare n → (Err r, b) ≡ drop_of b v
   unfolding plan_drop drop_of
   drop_refuses {n} {r} e is = let t = plan_refuses b (drop_number b v) v e in
       unless_refused (dropped_bytes b v) b (is ∙ ap bare t.0) (λ z. t.1 (sym (ap (λ (q : Refusal). q.number) (is ∙ ap bare t.0)) ∙ z)) refl
 
 -- ---- adding
 
-module _ (b vol : List ℕ) {parts : Parts} (read : read_of vol ≡ reading.Accepted parts) where
+module _ (b vol : List ℕ) {parts : Parts} (read : read_of vol ≡ Ok parts) where
   pub record Adding (p : Place) : Type 0 where
     pub number_none : add_number b vol ≡ 0
     pub catalog_is : Catalog b
@@ -206,7 +203,7 @@ module _ (b vol : List ℕ) {parts : Parts} (read : read_of vol ≡ reading.Acce
     pub volumes_high : p.volumes ≤ 255
     pub to_is : p.to ≡ catalog_length b
 
-  pub adding : {p : Place} → plan_add b vol ≡ Change p → Adding p
+  pub adding : {p : Place} → plan_add b vol ≡ Ok p → Adding p
   unfolding plan_add
   adding {p} e = let t = plan_tells b (add_number b vol) (volume_number_of vol) e in
       let c = add_catalog b vol t.none in
@@ -229,15 +226,15 @@ module _ (b vol : List ℕ) {parts : Parts} (read : read_of vol ≡ reading.Acce
   add_none : add_number b vol ≡ 0 → (add_refusal b vol (read_of vol)).number ≡ 0
   add_none z = ap (λ (r : Reading). (add_refusal b vol r).number) read ∙ z
 
-  pub add_short : {p : Place} {r : Refusal} → plan_add b vol ≡ Change p → r ≡ bare 14 → length b < p.to + 28 → (writing.Refused r, b) ≡ add_of b vol
+  pub add_short : {p : Place} {r : Refusal} → plan_add b vol ≡ Ok p → r ≡ bare 14 → length b < p.to + 28 → (Err r, b) ≡ add_of b vol
   unfolding add_of
   add_short {p} {r} e is short = let d = adding e in
       unless_none (added_bytes b vol) b refl (add_none d.number_none)
-      (ap (λ (q : Refusal). (writing.Refused q, b)) is
+      (ap (λ (q : Refusal). (Err q, b)) is
       ∙ written_short (added_bytes b vol) b (omega (arith, added_length d.catalog_is, d.to_is)))
 
-  pub add_over : {p : Place} {r t u : List ℕ} → plan_add b vol ≡ Change p → p.to + 28 ≤ length b → r ≡ volume_row vol
-      → t ≡ spread p.at p.to r b → u ≡ sets t 0 (catalog_head p.entries (p.volumes + 1)) → (writing.Written (p.to + 28), u) ≡ add_of b vol
+  pub add_over : {p : Place} {r t u : List ℕ} → plan_add b vol ≡ Ok p → p.to + 28 ≤ length b → r ≡ volume_row vol
+      → t ≡ spread p.at p.to r b → u ≡ sets t 0 (catalog_head p.entries (p.volumes + 1)) → (Ok (p.to + 28), u) ≡ add_of b vol
   unfolding add_of
   add_over {p} {r} {t} {u} e fits is up put = let d = adding e in
       let c = d.catalog_is in
@@ -247,16 +244,16 @@ module _ (b vol : List ℕ) {parts : Parts} (read : read_of vol ≡ reading.Acce
       cc in
       let put' : u ≡ sets t 0 (catalog_head (entry_count b) (volume_count b + 1)) = cc in
       let made = inserted-over b c (volume_row vol) (length_volume_row vol i) (omega (arith, d.to_is)) up' put' in
-      ap (λ (q : Place). (writing.Written (q.to + 28), u)) d.place_is ∙ made
+      ap (λ (q : Place). (Ok (q.to + 28), u)) d.place_is ∙ made
       ∙ sym (unless_accepted (add_refusal b vol (read_of vol)) (added_bytes b vol) b (add_none d.number_none) (omega (arith, added_length c, d.to_is)))
 
-  pub add_refuses : {n : ℕ} {r : Refusal} → plan_add b vol ≡ Refused n → r ≡ bare n → (writing.Refused r, b) ≡ add_of b vol
+  pub add_refuses : {n : ℕ} {r : Refusal} → plan_add b vol ≡ Err n → r ≡ bare n → (Err r, b) ≡ add_of b vol
   unfolding plan_add add_of
   add_refuses {n} {r} e is = let t = plan_refuses b (add_number b vol) (volume_number_of vol) e in
       let same : r ≡ add_refusal b vol (read_of vol) = is ∙ ap bare t.0 ∙ sym (ap (λ (q : Reading). add_refusal b vol q) read) in
       unless_refused (added_bytes b vol) b same (λ z. t.1 (sym (ap (λ (q : Refusal). q.number) (is ∙ ap bare t.0)) ∙ z)) refl
 
-pub add_unread : (b vol : List ℕ) {r : Refusal} → read_of vol ≡ reading.Refused r → (writing.Refused r, b) ≡ add_of b vol
+pub add_unread : (b vol : List ℕ) {r : Refusal} → read_of vol ≡ Err r → (Err r, b) ≡ add_of b vol
 unfolding add_of
 add_unread b vol {r} e = unless_refused (added_bytes b vol) b (sym (ap (λ (q : Reading). add_refusal b vol q) e)) (refused_some vol e) refl
 
@@ -269,11 +266,11 @@ module _ (f out : List ℕ) where
   pub length-opened : length opened ≡ 16 + 28 * length (entries_in f)
   length-opened = omega (arith, length_catalog (rows_sized_for (list_of f)) all_none, length-rows-after 0 (entries_in f))
 
-  pub open_unread : {r : Refusal} → read_of f ≡ reading.Refused r → (writing.Refused r, out) ≡ open_of f out
+  pub open_unread : {r : Refusal} → read_of f ≡ Err r → (Err r, out) ≡ open_of f out
   unfolding open_of
   open_unread {r} e = unless_refused opened out (sym (ap (λ (q : Reading). open_refusal f q) e)) (refused_some f e) refl
 
-  module _ {parts : Parts} (read : read_of f ≡ reading.Accepted parts) where
+  module _ {parts : Parts} (read : read_of f ≡ Ok parts) where
     entries_are : parts.entries ≡ length (entries_in f)
     entries_are = (told f read).entries_are
 
@@ -283,22 +280,22 @@ module _ (f out : List ℕ) where
     few_none : parts.entries ≤ 1024 → (open_refusal f (read_of f)).number ≡ 0
     few_none h = ap (λ (r : Refusal). r.number) open_refusal_lem ∙ simp (le-leb (length (entries_in f)) max_entries (omega (arith, entries_are)))
 
-    pub open_many : {r : Refusal} → 1024 < parts.entries → r ≡ bare 26 → (writing.Refused r, out) ≡ open_of f out
+    pub open_many : {r : Refusal} → 1024 < parts.entries → r ≡ bare 26 → (Err r, out) ≡ open_of f out
     unfolding open_of
     open_many {r} h is =
         let many : test 26 (leb (length (entries_in f)) max_entries) 0 ≡ 26 = simp (lt-leb (length (entries_in f)) max_entries (omega (arith, entries_are))) in
         let same : r ≡ open_refusal f (read_of f) = is ∙ sym (ap bare many) ∙ sym open_refusal_lem in
         unless_refused opened out same (λ z. omega (arith, sym (ap (λ (q : Refusal). q.number) is) ∙ z)) refl
 
-    pub open_short : {r : Refusal} → parts.entries ≤ 1024 → length out < 16 + 28 * parts.entries → r ≡ bare 14 → (writing.Refused r, out) ≡ open_of f out
+    pub open_short : {r : Refusal} → parts.entries ≤ 1024 → length out < 16 + 28 * parts.entries → r ≡ bare 14 → (Err r, out) ≡ open_of f out
     unfolding open_of
     open_short {r} h short is =
         unless_none opened out refl (few_none h)
-        (ap (λ (q : Refusal). (writing.Refused q, out)) is ∙ written_short opened out (omega (arith, length-opened, entries_are)))
+        (ap (λ (q : Refusal). (Err q, out)) is ∙ written_short opened out (omega (arith, length-opened, entries_are)))
 
     pub open_over : {list t u : List ℕ} → parts.entries ≤ 1024 → 16 + 28 * parts.entries ≤ length out → list ≡ take parts.list_size (drop 96 f)
         → t ≡ sets out 0 (catalog_head parts.entries 0) → u ≡ sets t 16 (flatten (rows_for (entries_of list).pieces))
-        → (writing.Written (16 + 28 * parts.entries), u) ≡ open_of f out
+        → (Ok (16 + 28 * parts.entries), u) ≡ open_of f out
     unfolding open_of catalog_bytes flatten
     open_over {list} {t} {u} h fits list_is head rows = let es : List (List ℕ) = rows_for (entries_in f) in
         let n : length es ≡ parts.entries = length-rows-after 0 (entries_in f) ∙ sym entries_are in
@@ -316,18 +313,18 @@ module _ (f out : List ℕ) where
 -- ---- loading
 
 module _ (b : List ℕ) (n : ℕ) where
-  pub loading_other : {r : Refusal} → is_catalog b ≡ false → r ≡ bare 30 → writing.Refused r ≡ loading_of b n
+  pub loading_other : {r : Refusal} → is_catalog b ≡ false → r ≡ bare 30 → Err r ≡ loading_of b n
   unfolding loading_of
-  loading_other z is = simp z (ap writing.Refused is)
+  loading_other z is = simp z (ap Err is)
 
   module _ (yes : is_catalog b ≡ true) {k : Counts} (counts : k ≡ counts_of b) where
     count : k.entries ≡ entry_count b
     count = ap (λ (q : Counts). q.entries) counts
 
-    pub loading_short : {r : Refusal} → n < k.entries → r ≡ bare 14 → writing.Refused r ≡ loading_of b n
+    pub loading_short : {r : Refusal} → n < k.entries → r ≡ bare 14 → Err r ≡ loading_of b n
     unfolding loading_of
-    loading_short h is = simp (yes, lt-leb (entry_count b) n (omega (arith, count))) (ap writing.Refused is)
+    loading_short h is = simp (yes, lt-leb (entry_count b) n (omega (arith, count))) (ap Err is)
 
-    pub loading_whole : k.entries ≤ n → writing.Written k.entries ≡ loading_of b n
+    pub loading_whole : k.entries ≤ n → Ok k.entries ≡ loading_of b n
     unfolding loading_of
-    loading_whole h = simp (yes, le-leb (entry_count b) n (omega (arith, count))) (ap writing.Written count)
+    loading_whole h = simp (yes, le-leb (entry_count b) n (omega (arith, count))) (ap Ok count)

@@ -2,6 +2,7 @@
 --
 --   Catalog b      b begins with a catalog
 -- Assumes nothing.
+use Rattle.std.specs.Prelude.{Some, None}
 use mathlib.Core.Path.{◌≡◌, refl, sym, ap}
 use mathlib.Core.Bool.{Bool, true, false, cond}
 use mathlib.Core.List.{List}
@@ -16,8 +17,6 @@ use Rattle.lent_bytes.proofs.PartLaws.{part_to_end}
 use Rattle.catalog.specs.Catalog.{entry_count, entry_start, volume_start, catalog_length, rows_in, entry_rows, volume_rows, saved_rows, greatest_size}
 use Rattle.catalog.specs.Catalog.{entry_rows_allowed, volume_rows_allowed, is_catalog}
 use Rattle.catalog.specs.Plan.{counts_of, found_of, entered_of}
-use Rattle.catalog.specs.declared.checking.Entered.TheVariants as entered
-use Rattle.catalog.specs.declared.checking.Found.TheVariants as found
 
 pub record Catalog (b : List ℕ) : Type 0 where
   pub within : catalog_length b ≤ length b
@@ -55,39 +54,39 @@ module _ (b : List ℕ) where
 
   -- ---- what is found
 
-  pub found_other : (Catalog b → ⊥) → found.Other ≡ found_of b
+  pub found_other : (Catalog b → ⊥) → None ≡ found_of b
   unfolding found_of
   found_other h = simp (no_catalog h)
 
-  pub found_catalog : Catalog b → found.Catalog (counts_of b) ≡ found_of b
+  pub found_catalog : Catalog b → Some (counts_of b) ≡ found_of b
   unfolding found_of
   found_catalog c = simp (catalog_is c)
 
-  pub find_tells : {k : _} → found_of b ≡ found.Catalog k → (is_catalog b ≡ true) × (k ≡ counts_of b)
+  pub find_tells : {k : _} → found_of b ≡ Some k → (is_catalog b ≡ true) × (k ≡ counts_of b)
   unfolding found_of
   find_tells {k} e = by (is_catalog b) refl e
     where
-      by : (t : Bool) → t ≡ is_catalog b → cond t (found.Catalog (counts_of b)) found.Other ≡ found.Catalog k → (is_catalog b ≡ true) × (k ≡ counts_of b)
+      by : (t : Bool) → t ≡ is_catalog b → cond t (Some (counts_of b)) None ≡ Some k → (is_catalog b ≡ true) × (k ≡ counts_of b)
       by true z f = (sym z, cc)
       by false z f = absurd (let n : ◌≡◌ {A = ℕ} 0 1 = cc in omega arith)
 
-  pub find_other : found_of b ≡ found.Other → is_catalog b ≡ false
+  pub find_other : found_of b ≡ None → is_catalog b ≡ false
   unfolding found_of
   find_other e = test_fails (is_catalog b) (λ z. let f = simp z at e in let n : ◌≡◌ {A = ℕ} 0 1 = cc in omega arith)
 
 -- ---- what the entry rows tell
 
 module _ (rs : List (List ℕ)) where
-  pub entered_rows : {s g : ℕ} → entered_of rs ≡ entered.Rows s g → (entry_rows_allowed 0 rs ≡ true) × (s ≡ length (saved_rows rs)) × (g ≡ greatest_size rs)
+  pub entered_rows : {s g : ℕ} → entered_of rs ≡ Some (record { saved = s; greatest = g }) → (entry_rows_allowed 0 rs ≡ true) × (s ≡ length (saved_rows rs)) × (g ≡ greatest_size rs)
   unfolding entered_of
   entered_rows {s} {g} e = by (entry_rows_allowed 0 rs) refl e
     where
-      by : (t : Bool) → t ≡ entry_rows_allowed 0 rs → cond t (entered.Rows (length (saved_rows rs)) (greatest_size rs)) entered.Other ≡ entered.Rows s g
+      by : (t : Bool) → t ≡ entry_rows_allowed 0 rs → cond t (Some (record { saved = length (saved_rows rs); greatest = greatest_size rs })) None ≡ Some (record { saved = s; greatest = g })
           → (entry_rows_allowed 0 rs ≡ true) × (s ≡ length (saved_rows rs)) × (g ≡ greatest_size rs)
       by true z f = (sym z, cc, cc)
       by false z f = absurd (let n : ◌≡◌ {A = ℕ} 0 1 = cc in omega arith)
 
-  pub entered_other : entered_of rs ≡ entered.Other → entry_rows_allowed 0 rs ≡ true → ⊥
+  pub entered_other : entered_of rs ≡ None → entry_rows_allowed 0 rs ≡ true → ⊥
   unfolding entered_of
   entered_other e z = let f = simp z at e in let n : ◌≡◌ {A = ℕ} 0 1 = cc in omega arith
 

@@ -10,6 +10,7 @@
 --   length_removed, length_dropped, removed-over     a row less, likewise
 --   present_is               whether a row is there, as the code sees it
 -- Assumes nothing.
+use Rattle.std.specs.Prelude.{Ok}
 use mathlib.Core.Path.{◌≡◌, refl, sym, ap, ap₂, ◌∙◌}
 use mathlib.Core.Bool.{Bool, true, false, cond, not, ◌&&◌}
 use mathlib.Core.List.{List, [], ◌∷◌, ◌++◌, flatten, append_assoc}
@@ -23,7 +24,6 @@ use Rattle.cut_lists.specs.All.{All, all_none, all_more}
 use Rattle.entries.proofs.KeepLaws.{all_keep}
 use Rattle.little_endian.specs.Bytes.{to_le, le_at}
 use Rattle.lent_bytes.specs.Writing.{accepted}
-use Rattle.lent_bytes.specs.declared.Writing.TheVariants.{Written}
 use Rattle.lent_bytes.proofs.StoreLaws.{sets_over}
 use Rattle.lent_bytes.proofs.PartsInRow.{flatten-append}
 use Rattle.catalog.specs.Rows.{number_of, catalog_head, catalog_bytes}
@@ -126,7 +126,7 @@ module _ (b : List ℕ) (c : Catalog b) where
   -- the rows before place p, others from it on, and what stands past the catalog, under a head for v volumes
   rows-over : (p v k : ℕ) (z : List ℕ) (vs : List (List ℕ)) {t u : List ℕ} → p ≤ m → t ≡ take (16 + 28 * (n + p)) b ++ (z ++ drop k b)
       → u ≡ sets t 0 (catalog_head n v) → length vs ≡ v → flatten vs ≡ flatten (take p (volume_rows b)) ++ z → length (catalog_bytes (entry_rows b) vs) ≡ k
-      → (Written k, u) ≡ accepted (catalog_bytes (entry_rows b) vs) b
+      → (Ok k, u) ≡ accepted (catalog_bytes (entry_rows b) vs) b
   unfolding catalog_bytes
   rows-over p v k z vs {t} {u} h e put count rows size = let head : List ℕ = catalog_head n v in
       let es : List ℕ = flatten (entry_rows b) in
@@ -149,7 +149,7 @@ module _ (b : List ℕ) (c : Catalog b) where
 
   pub inserted-over : (r : List ℕ) {t u : List ℕ} → length r ≡ 28 → catalog_length b + 28 ≤ length b
       → t ≡ spread (16 + 28 * (n + Place (number_of r))) (catalog_length b) r b → u ≡ sets t 0 (catalog_head n (m + 1))
-      → (Written (catalog_length b + 28), u) ≡ accepted (catalog_bytes (entry_rows b) (insert_row r (volume_rows b))) b
+      → (Ok (catalog_length b + 28), u) ≡ accepted (catalog_bytes (entry_rows b) (insert_row r (volume_rows b))) b
   unfolding flatten
   inserted-over r size fits up put = let vs : List (List ℕ) = volume_rows b in
       let p : ℕ = Place (number_of r) in
@@ -178,7 +178,7 @@ module _ (b : List ℕ) (c : Catalog b) where
 
   pub removed-over : (v : ℕ) {t u : List ℕ} → holds v (volume_rows b) ≡ true → Place v < m
       → t ≡ closed (16 + 28 * (n + Place v)) (catalog_length b) b → u ≡ sets t 0 (catalog_head n (m - 1))
-      → (Written (catalog_length b - 28), u) ≡ accepted (catalog_bytes (entry_rows b) (remove_row v (volume_rows b))) b
+      → (Ok (catalog_length b - 28), u) ≡ accepted (catalog_bytes (entry_rows b) (remove_row v (volume_rows b))) b
   removed-over v held less down put = let vs : List (List ℕ) = volume_rows b in
       let p : ℕ = Place v in
       let at : ℕ = 16 + 28 * (n + p) in

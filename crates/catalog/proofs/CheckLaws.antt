@@ -2,6 +2,7 @@
 --
 --   entered_from k g rs    what the entry rows rs tell after those of k saved files of at most g bytes
 -- Assumes nothing.
+use Rattle.std.specs.Prelude.{Option, Some, None}
 use mathlib.Core.Path.{◌≡◌, refl, sym, ap, ap₂, ◌∙◌}
 use mathlib.Core.Bool.{Bool, true, false, cond, not, ◌&&◌, true≢false}
 use mathlib.Core.List.{List, [], ◌∷◌, map, foldr}
@@ -18,36 +19,35 @@ use Rattle.catalog.specs.Rows.{number_of, size_of}
 use Rattle.catalog.specs.Catalog.{rows_in, saved_rows, greatest_size, in_turn, entry_rows_allowed, volume_rows_allowed}
 use Rattle.catalog.specs.Plan.{entered_of, place_of}
 use Rattle.catalog.specs.declared.checking.Entered.{Entered}
-use Rattle.catalog.specs.declared.checking.Entered.TheVariants as entered
 use Rattle.catalog.proofs.RowLaws.{number_at, size_at, rows_more}
 
 -- ---- entry rows
 
-unfoldable pub entered_from : ℕ → ℕ → List (List ℕ) → Entered
-entered_from k g rs = cond (entry_rows_allowed k rs) (entered.Rows (k + length (saved_rows rs)) (max g (greatest_size rs))) entered.Other
+unfoldable pub entered_from : ℕ → ℕ → List (List ℕ) → Option Entered
+entered_from k g rs = cond (entry_rows_allowed k rs) (Some (record { saved = k + length (saved_rows rs); greatest = max g (greatest_size rs) })) None
 
 pub entered_start : (rs : List (List ℕ)) → entered_from 0 0 rs ≡ entered_of rs
 unfolding entered_from entered_of
 entered_start rs = let n : 0 + length (saved_rows rs) ≡ length (saved_rows rs) = omega arith in
     let g : max 0 (greatest_size rs) ≡ greatest_size rs = omega arith in
-    ap₂ (λ (a b : ℕ). cond (entry_rows_allowed 0 rs) (entered.Rows a b) entered.Other) n g
+    ap₂ (λ (a b : ℕ). cond (entry_rows_allowed 0 rs) (Some (record { saved = a; greatest = b })) None) n g
 
 module _ (k g : ℕ) where
-  pub entered_end : {rs : List (List ℕ)} → rs ≡ [] → k ≤ max_files → entered_from k g rs ≡ entered.Rows k g
+  pub entered_end : {rs : List (List ℕ)} → rs ≡ [] → k ≤ max_files → entered_from k g rs ≡ Some (record { saved = k; greatest = g })
   unfolding entered_from entry_rows_allowed
   entered_end e h = let n : k + 0 ≡ k = omega arith in
       let m : max g 0 ≡ g = omega arith in
-      ap (entered_from k g) e ∙ simp (le-leb k max_files h) (ap₂ (λ (a b : ℕ). entered.Rows a b) n m)
+      ap (entered_from k g) e ∙ simp (le-leb k max_files h) (ap₂ (λ (a b : ℕ). (Some (record { saved = a; greatest = b }))) n m)
 
-  pub entered_many : {rs : List (List ℕ)} → rs ≡ [] → max_files < k → entered_from k g rs ≡ entered.Other
+  pub entered_many : {rs : List (List ℕ)} → rs ≡ [] → max_files < k → entered_from k g rs ≡ None
   unfolding entered_from entry_rows_allowed
   entered_many e h = ap (entered_from k g) e ∙ simp (lt-leb k max_files h)
 
   -- a row more in front, which passes the tests, saved or not
-  with_row : List ℕ → List (List ℕ) → Bool → Bool → Entered
+  with_row : List ℕ → List (List ℕ) → Bool → Bool → Option Entered
   with_row r rs t b = let saved : List (List ℕ) = cond (not b) (r ∷ saved_rows rs) (saved_rows rs) in
       cond (t && entry_rows_allowed (cond (not b) (k + 1) k) rs)
-      (entered.Rows (k + length saved) (max g (foldr max 0 (map (λ r. size_of r) saved)))) entered.Other
+      (Some (record { saved = k + length saved; greatest = max g (foldr max 0 (map (λ r. size_of r) saved)) })) None
 
   with_is : (b : Bool) (r : List ℕ) (rs : List (List ℕ)) → with_row r rs true b ≡ entered_from (cond b k (k + 1)) (cond b g (max g (size_of r))) rs
   unfolding with_row entered_from
@@ -55,7 +55,7 @@ module _ (k g : ℕ) where
   with_is false r rs = let s : List (List ℕ) = saved_rows rs in
       let n : k + suc (length s) ≡ k + 1 + length s = omega arith in
       let m : max g (max (size_of r) (greatest_size rs)) ≡ max (max g (size_of r)) (greatest_size rs) = omega arith in
-      ap₂ (λ (a b : ℕ). cond (entry_rows_allowed (k + 1) rs) (entered.Rows a b) entered.Other) n m
+      ap₂ (λ (a b : ℕ). cond (entry_rows_allowed (k + 1) rs) (Some (record { saved = a; greatest = b })) None) n m
 
   more_by : (b : Bool) (r : List ℕ) (rs : List (List ℕ)) → eqb (number_of r) 0 ≡ b → (in_turn k (number_of r) && file_size_allowed (size_of r)) ≡ true
       → entered_from k g (r ∷ rs) ≡ entered_from (cond b k (k + 1)) (cond b g (max g (size_of r))) rs
@@ -63,7 +63,7 @@ module _ (k g : ℕ) where
   more_by b r rs e h = ap₂ (with_row r rs) h e ∙ with_is b r rs
 
   stop_by : (a b : Bool) (r : List ℕ) (rs : List (List ℕ)) → in_turn k (number_of r) ≡ a → file_size_allowed (size_of r) ≡ b → (a && b) ≡ false
-      → entered_from k g (r ∷ rs) ≡ entered.Other
+      → entered_from k g (r ∷ rs) ≡ None
   unfolding entered_from entry_rows_allowed
   stop_by true true r rs e f z = absurd (true≢false z)
   stop_by true false r rs e f z = simp (e, f)
@@ -76,7 +76,7 @@ module _ (k g : ℕ) where
     first_size : size_of (take 28 (drop at s)) ≡ size
     first_size = sym (size_is ∙ size_at s at)
 
-    pub entered_stop : (in_turn k number && file_size_allowed size) ≡ false → entered_from k g (rows_in left (drop at s)) ≡ entered.Other
+    pub entered_stop : (in_turn k number && file_size_allowed size) ≡ false → entered_from k g (rows_in left (drop at s)) ≡ None
     entered_stop z =
         ap (entered_from k g) (rows_more s at left some)
         ∙ stop_by (in_turn k number) (file_size_allowed size) (take 28 (drop at s)) _ (ap (in_turn k) first_number)

@@ -4,6 +4,7 @@
 --   FileRows f           the rows of the file f, which is read
 --   VolumeRow n g vol    the row of the volume vol, which is read, may stand in a catalog of n saved files of at most g bytes
 -- Assumes nothing.
+use Rattle.std.specs.Prelude.{Ok}
 use mathlib.Core.Path.{◌≡◌, refl, sym, ap, ◌∙◌}
 use mathlib.Core.Bool.{Bool, true, false}
 use mathlib.Core.List.{List, ◌∷◌}
@@ -24,7 +25,6 @@ use Rattle.entries.specs.Walk.{greatest_of}
 use Rattle.entries.proofs.FirstFaults.{keeps_first}
 use Rattle.par1_read.specs.Reading.{entries_in, read_of}
 use Rattle.par1_read.specs.declared.reading.Parts.{Parts}
-use Rattle.par1_read.specs.declared.reading.Reading.TheVariants as reading
 use Rattle.par1_rules.specs.Layout.{volume_number_of, data_size_of, list_of}
 use Rattle.par1_rules.specs.Rules.{number_allowed, data_allowed}
 use Rattle.catalog.specs.Rows.{row, number_of, size_of, rows_after, rows_for, volume_row}
@@ -99,7 +99,7 @@ number_few : (v n : ℕ) → number_allowed v n ≡ true → n ≤ max_files
 unfolding number_allowed
 number_few v n e = leb-true _ _ (and_both (leb n max_files) _ e).0
 
-pub file_rows : (f : List ℕ) {p : Parts} → read_of f ≡ reading.Accepted p → FileRows f
+pub file_rows : (f : List ℕ) {p : Parts} → read_of f ≡ Ok p → FileRows f
 file_rows f e = let keeps = cut_all length_of Keeps keeps_first (list_of f) in
     let few : length (saved_of (entries_in f)) ≤ max_files = number_few _ _ (told f e).number_right in
     record {
@@ -120,7 +120,7 @@ pub record VolumeRow (n g : ℕ) (vol : List ℕ) : Type 0 where
   pub number_right : number_allowed (volume_number_of vol) n ≡ true
   pub size_is : size_of (volume_row vol) ≡ g
 
-pub volume_row_lem : (es : List (List ℕ)) (vol : List ℕ) {p : Parts} → read_of vol ≡ reading.Accepted p → rows_for (entries_in vol) ≡ es
+pub volume_row_lem : (es : List (List ℕ)) (vol : List ℕ) {p : Parts} → read_of vol ≡ Ok p → rows_for (entries_in vol) ≡ es
     → 0 < volume_number_of vol → VolumeRow (length (saved_rows es)) (greatest_size es) vol
 unfolding data_allowed
 volume_row_lem es vol e same low = let t = told vol e in

@@ -5,6 +5,7 @@
 --   exactly_30        the claim
 --   nothing_listed, ends_early     a catalog and none
 -- Assumes nothing.
+use Rattle.std.specs.Prelude.{Ok, Err}
 use mathlib.Core.Path.{◌≡◌, refl, sym, ap, ap₂, ◌∙◌, subst}
 use mathlib.Core.Bool.{true, false}
 use mathlib.Core.List.Permᴰ
@@ -18,8 +19,7 @@ use Rattle.cut_lists.proofs.AllLaws.{all_map}
 use Rattle.little_endian.specs.Bytes.{Bytes, from_le, to_le, le_at}
 use Rattle.little_endian.proofs.Numbers.{bytes_drop}
 use Rattle.refusals.specs.Limits.{max_entries}
-use Rattle.lent_bytes.specs.declared.Writing.{Writing}
-use Rattle.lent_bytes.specs.declared.Writing.TheVariants.{Written, Refused}
+use Rattle.lent_bytes.specs.Writing.{Writing}
 use Rattle.lent_bytes.proofs.PartLaws.{split_number}
 use Rattle.par1_read.specs.Reading.{entries_in}
 use Rattle.catalog.specs.Rows.{number_of, rows_for, catalog_head, catalog_bytes}
@@ -57,8 +57,8 @@ after_adds (v ∷ vs) {h} {room} i (all_more w ws) = by (add_of room v).0 refl w
     by : (a : Writing) → (add_of room v).0 ≡ a → IsWritten a → Invariant (held_after (adding v) (add_of room v).0 h) (add_of room v).1
         → ((k : Held) → Invariant k (add_of room v).1 → After k vs (room_after (add_of room v).1 (map adding vs)))
         → After h (v ∷ vs) (room_after (add_of room v).1 (map adding vs))
-    by (Refused _) e x j rest = elim x [ ]
-    by (Written n) e (is_written _) j rest = let with-volume : Held = record { file = h.file; volumes = v ∷ h.volumes } in
+    by (Err _) e x j rest = elim x [ ]
+    by (Ok n) e (is_written _) j rest = let with-volume : Held = record { file = h.file; volumes = v ∷ h.volumes } in
         let m = rest with-volume (subst (λ (a : Writing). Invariant (held_after (adding v) a h) (add_of room v).1) e j) in
         record { held = m.held; invariant = m.invariant; file_is = m.file_is; count_is = omega (arith, m.count_is) }
 
@@ -68,8 +68,8 @@ unfolding answers room_after
 after_open f vs room (all_more w ws) = after_adds vs (by (open_of f room).0 (open_of f room).1 refl w) ws
   where
     by : (a : Writing) (after : List ℕ) → open_of f room ≡ (a, after) → IsWritten a → Invariant (newly_opened f) after
-    by (Refused _) after e x = elim x [ ]
-    by (Written n) after e (is_written _) = (open_next f room e).invariant
+    by (Err _) after e x = elim x [ ]
+    by (Ok n) after e (is_written _) = (open_next f room e).invariant
 
 given_catalog : (b : List ℕ) → Given b → is_catalog b ≡ true
 given_catalog b g = let f : List ℕ = g.file in

@@ -5,6 +5,7 @@
 --   In h                 what is in the catalog may stand in it
 --   Invariant h room     and it stands in the room's first bytes
 -- Assumes nothing.
+use Rattle.std.specs.Prelude.{Ok}
 use mathlib.Core.Path.{◌≡◌, refl, sym, ap, ◌∙◌, subst}
 use mathlib.Core.Bool.{true}
 use mathlib.Core.List.{List, ◌++◌, map, Permᴰ}
@@ -16,7 +17,6 @@ use Rattle.cut_lists.proofs.AllLaws.{all_map}
 use Rattle.refusals.specs.Limits.{max_entries}
 use Rattle.par1_read.specs.Reading.{entries_in, read_of}
 use Rattle.par1_read.specs.declared.reading.Parts.{Parts}
-use Rattle.par1_read.specs.declared.reading.Reading.TheVariants as reading
 use Rattle.par1_rules.specs.Layout.{volume_number_of}
 use Rattle.par1_rules.specs.Rules.{number_allowed}
 use Rattle.catalog.specs.Rows.{number_of, rows_for, volume_row, catalog_bytes}
@@ -43,13 +43,13 @@ catalog_of h = catalog_bytes (entries_of h) (sort_rows (rows_of h.volumes))
 
 pub record VolumeIn (es : List (List ℕ)) (vol : List ℕ) : Type 0 where
   pub parts : Parts
-  pub read : read_of vol ≡ reading.Accepted parts
+  pub read : read_of vol ≡ Ok parts
   pub same : rows_for (entries_in vol) ≡ es
   pub low : 0 < volume_number_of vol
 
 pub record In (h : Held) : Type 0 where
   pub parts : Parts
-  pub read : read_of h.file ≡ reading.Accepted parts
+  pub read : read_of h.file ≡ Ok parts
   pub few : length (entries_in h.file) ≤ max_entries
   pub each : All (VolumeIn (entries_of h)) h.volumes
   pub once : Distinct (rows_of h.volumes)

@@ -4,6 +4,7 @@
 --   Changed            a catalog that is written over another, with its entry rows and other volume rows
 --   open_kept, add_kept, drop_kept     the claims
 -- Assumes nothing.
+use Rattle.std.specs.Prelude.{Ok, Err}
 use mathlib.Core.Path.{◌≡◌, refl, sym, ap, ◌∙◌, subst}
 use mathlib.Core.Bool.{true}
 use mathlib.Core.List.{List, [], ◌∷◌, ◌++◌, flatten}
@@ -26,8 +27,7 @@ use Rattle.little_endian.proofs.Reading.{to_le_at}
 use Rattle.lent_bytes.proofs.PartsInRow.{at_part}
 use Rattle.lent_bytes.proofs.WritingLaws.{Accepted, unless_tells}
 use Rattle.par1_read.specs.Reading.{entries_in, read_of}
-use Rattle.par1_read.specs.declared.reading.Reading.{Reading}
-use Rattle.par1_read.specs.declared.reading.Reading.TheVariants as reading
+use Rattle.par1_read.specs.Reading.{Reading}
 use Rattle.par1_read.proofs.ReadingLaws.{refused_some}
 use Rattle.catalog.specs.Rows.{number_of, rows_for, volume_row, catalog_bytes}
 use Rattle.catalog.specs.Catalog.{entry_count, volume_count, catalog_length, entry_rows, volume_rows, volume_rows_allowed, holds, insert_row, remove_row}
@@ -138,8 +138,8 @@ module _ (b vol room : List ℕ) (n : ℕ) (bytes : Bytes b) where
   by_reading : Accepted (add_refusal b vol (read_of vol)) (added_bytes b vol) b n room → (k : Reading) → read_of vol ≡ k → (add_refusal b vol k).number ≡ 0
       → Kept b room n × (n ≡ catalog_length b + 28) × (n ≡ catalog_length room) × (volume_count room ≡ volume_count b + 1)
       × Moved (volume_row vol) (volume_rows b) (volume_rows room)
-  by_reading w (reading.Refused r) is z = absurd (refused_some vol is z)
-  by_reading w (reading.Accepted p) is z = let a = add_passed b vol z in
+  by_reading w (Err r) is z = absurd (refused_some vol is z)
+  by_reading w (Ok p) is z = let a = add_passed b vol z in
       let c = is_catalog_lem b a.catalog in
       let t = told vol is in
       let r : List ℕ = volume_row vol in

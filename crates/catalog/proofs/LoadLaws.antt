@@ -2,6 +2,7 @@
 --
 --   loads      the records are filled in the order of the list, each with the file number, size and hash of its entry
 -- Assumes nothing.
+use Rattle.std.specs.Prelude.{Ok}
 use mathlib.Core.Path.{◌≡◌, refl, sym, ap, ap₂, ◌∙◌, subst}
 use mathlib.Core.Bool.{Bool, true, false, cond}
 use mathlib.Core.List.{List, [], ◌∷◌, ◌++◌, map}
@@ -14,7 +15,6 @@ use lib.Dec.{leb}
 use borrow.Author.Tests.{leb-true, le-leb}
 use Rattle.cut_lists.proofs.AllLaws.{all_at}
 use Rattle.refusals.specs.Limits.{max_file_size}
-use Rattle.lent_bytes.specs.declared.Writing.TheVariants.{Written}
 use Rattle.entries.specs.Entry.{status_of, file_size_of, md5_of, is_saved, saved_count}
 use Rattle.entries.specs.Claim.{Keeps}
 use Rattle.entries.specs.Numbering.{saved_of, file_number}
@@ -93,8 +93,8 @@ module _ (f : List ℕ) (r : FileRows f) where
       let records : List Row = map (λ r. record_of r) (rows_for es) in
       let many : length records ≡ length es = length-map (rows_for es) (λ r. record_of r) ∙ r.count in
       let after : List Row = records ++ drop (length es) rows in
-      let gives : load_of room rows ≡ (Written (length es), after) =
-      simp (is, right) (ap₂ (λ (n : ℕ) (l : List (List ℕ)). (Written n, map (λ r. record_of r) l ++ drop n rows)) count entries) in
+      let gives : load_of room rows ≡ (Ok (length es), after) =
+      simp (is, right) (ap₂ (λ (n : ℕ) (l : List (List ℕ)). (Ok n, map (λ r. record_of r) l ++ drop n rows)) count entries) in
       subst (Loaded es rows) (sym gives) (record {
         answer_is = refl;
         in_order = λ k h other. get_or-append records (drop (length es) rows) other k (omega arith)

@@ -6,6 +6,7 @@
 --   MadeFile rs n d f  the file f is read, with the list made for rs, as number n with d bytes of data
 --   made_index rs, made_volume rs r     the files
 -- Assumes nothing.
+use Rattle.std.specs.Prelude.{Ok}
 use mathlib.Core.Path.{◌≡◌, refl, sym, ap, ap₂, ◌∙◌, subst}
 use mathlib.Core.Bool.{Bool, true, false, cond, not, ◌||◌}
 use mathlib.Core.List.{List, [], ◌∷◌, ◌++◌, map, foldr, flatten, append_assoc}
@@ -29,7 +30,6 @@ use Rattle.little_endian.proofs.Reading.{to_le_at}
 use Rattle.entries.specs.Entry.{status_of, file_size_of, md5_of, is_saved, saved_count, is_counted, name_allowed, unit_allowed, is_dots, units_of, file_size_allowed, length_of}
 use Rattle.entries.specs.Numbering.{saved_of}
 use Rattle.entries.specs.Walk.{entries_of, greatest_of, totals_of, walked_to, walk_of}
-use Rattle.entries.specs.declared.Walked.TheVariants as walked
 use Rattle.entries.proofs.KeepLaws.{all_keep, keep_same, keep-map}
 use Rattle.par1_write.specs.EntryWriting.{entry_bytes}
 use Rattle.par1_write.specs.VolumeWriting.{volume_bytes}
@@ -39,7 +39,6 @@ use Rattle.par1.proofs.EntryWritten.{entry_back}
 use Rattle.par1.proofs.ReadWritten.{volume_back}
 use Rattle.par1_read.specs.Reading.{entries_in, read_of}
 use Rattle.par1_read.specs.declared.reading.Parts.{Parts}
-use Rattle.par1_read.specs.declared.reading.Reading.TheVariants as reading
 use Rattle.par1_rules.specs.Layout.{volume_number_of, data_size_of}
 use Rattle.par1_rules.proofs.RuleLaws.{number_range}
 use Rattle.par1_rules.specs.Rules.{number_allowed, data_allowed}
@@ -213,7 +212,7 @@ greatest_most (all_more {x = r} h hs) = omega (arith, leb-true (size_of r) max_f
 
 pub record MadeFile (rs : List (List ℕ)) (number size : ℕ) (f : List ℕ) : Type 0 where
   pub parts : Parts
-  pub read : read_of f ≡ reading.Accepted parts
+  pub read : read_of f ≡ Ok parts
   pub entries_are : entries_in f ≡ made_entries rs
   pub number_is : volume_number_of f ≡ number
   pub size_is : data_size_of f ≡ size
@@ -243,7 +242,7 @@ module _ (rs : List (List ℕ)) (allowed : entry_rows_allowed 0 rs ≡ true) (fe
   size_most : greatest_size rs ≤ max_file_size
   size_most = greatest_most (all_keep (λ r. is_saved_row r) (sizes_right 0 rs allowed))
 
-  walk_made : walk_of (made_list rs) ≡ walked.Entries (totals_of (made_entries rs))
+  walk_made : walk_of (made_list rs) ≡ Ok (totals_of (made_entries rs))
   unfolding walk_of
   walk_made = ap (λ (c : Cut). walked_to (totals_of c.pieces) c.rest) (entries_made all_made)
 

@@ -2,6 +2,7 @@
 --
 --   Told f p     what reading tells of a file f with the parts p
 -- Assumes nothing.
+use Rattle.std.specs.Prelude.{Ok}
 use mathlib.Core.Path.{◌≡◌, sym, ap, ◌∙◌}
 use mathlib.Core.Bool.{true}
 use mathlib.Core.List.{List}
@@ -15,7 +16,6 @@ use Rattle.entries.specs.declared.Totals.{Totals}
 use Rattle.entries.proofs.WalkLaws.{walk_totals}
 use Rattle.par1_read.specs.Reading.{entries_in, read_of}
 use Rattle.par1_read.specs.declared.reading.Parts.{Parts}
-use Rattle.par1_read.specs.declared.reading.Reading.TheVariants.{Accepted}
 use Rattle.par1_read.proofs.ReadingLaws.{read_tells}
 use Rattle.par1_rules.specs.Layout.{volume_number_of, data_size_of, control_hash_of, list_of}
 use Rattle.par1_rules.proofs.RuleLaws.{number_range}
@@ -34,7 +34,7 @@ pub record Told (f : List ℕ) (p : Parts) : Type 0 where
   pub short : data_size_of f < 2 ^ 64
   pub low : volume_number_of f ≤ 255
 
-pub told : (f : List ℕ) {p : Parts} → read_of f ≡ Accepted p → Told f p
+pub told : (f : List ℕ) {p : Parts} → read_of f ≡ Ok p → Told f p
 told f {p} e = let r = read_tells f p e in
     let t = r.tests in
     let are = walk_totals (list_of f) t.walk_is in

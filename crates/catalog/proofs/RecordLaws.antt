@@ -5,6 +5,7 @@
 --   length_records, length_filled, filled_more, records_are     their number, a turn of the loop, and the records of rows that lie in the bytes
 --   Filling, filling, filling_none     how many records a load fills, and with what
 -- Assumes nothing.
+use Rattle.std.specs.Prelude.{Ok, Err}
 use mathlib.Core.Path.{◌≡◌, refl, sym, ap, ap₂, ◌∙◌}
 use mathlib.Core.List.{List, [], ◌∷◌, ◌++◌, map, append-nil, append_assoc}
 use Prim.Native.Nat.{ℕ, zero, suc, ◌+◌, ◌*◌, ◌<◌, ◌≤◌}
@@ -16,8 +17,7 @@ use borrow.Author.Tests.{le-leb, lt-leb}
 use Rattle.little_endian.specs.Bytes.{le_at}
 use Rattle.lent_bytes.proofs.StoreLaws.{sets_over}
 use Rattle.catalog.specs.Rows.{hash_of}
-use Rattle.lent_bytes.specs.declared.Writing.{Writing}
-use Rattle.lent_bytes.specs.declared.Writing.TheVariants.{Written, Refused}
+use Rattle.lent_bytes.specs.Writing.{Writing}
 use Rattle.refusals.specs.declared.Refusal.{Refusal}
 use Rattle.catalog.specs.Catalog.{entry_count, rows_in}
 use Rattle.catalog.specs.Calls.{record_of, row_at, loading_of, filled_by}
@@ -105,19 +105,19 @@ pub record Filling (b : List ℕ) (ys : List Row) (count : ℕ) : Type 0 where
   pub filled_is : filled_to b count ys ≡ filled_by (loading_of b (length ys)) b ys
 
 module _ (b : List ℕ) (ys : List Row) where
-  pub filling : (n : ℕ) → loading_of b (length ys) ≡ Written n → Filling b ys n
+  pub filling : (n : ℕ) → loading_of b (length ys) ≡ Ok n → Filling b ys n
   filling n e = by (loading_of b (length ys)) (loading_is b (length ys)) e refl
     where
-      by : (w : Writing) → Loads b (length ys) w → w ≡ Written n → loading_of b (length ys) ≡ w → Filling b ys n
-      by (Written k) (loads c few) z y = let count : entry_count b ≡ n = cc in
+      by : (w : Writing) → Loads b (length ys) w → w ≡ Ok n → loading_of b (length ys) ≡ w → Filling b ys n
+      by (Ok k) (loads c few) z y = let count : entry_count b ≡ n = cc in
           let within = (is_catalog_lem b c).within in
           record {
             most = omega arith;
             filled_is = ap (λ (l : List Row). l ++ drop n ys) (records_are b n (omega arith)
                 ∙ ap (λ (m : ℕ). map (λ r. record_of r) (rows_in m (drop 16 b))) (sym count)) ∙ ap (λ (w : Writing). filled_by w b ys) (sym e);
           }
-      by (Refused r) (loads_not low) z y = absurd (let n : ◌≡◌ {A = ℕ} 0 1 = cc in omega arith)
+      by (Err r) (loads_not low) z y = absurd (let n : ◌≡◌ {A = ℕ} 0 1 = cc in omega arith)
 
-  pub filling_none : {r : Refusal} → loading_of b (length ys) ≡ Refused r → Filling b ys 0
+  pub filling_none : {r : Refusal} → loading_of b (length ys) ≡ Err r → Filling b ys 0
   unfolding records_to
   filling_none e = record { most = omega arith; filled_is = ap (λ (w : Writing). filled_by w b ys) (sym e) }

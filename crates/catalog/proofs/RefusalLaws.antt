@@ -7,6 +7,7 @@
 --   call_refused, load_refused     the claims
 -- A test is passed where it does not hold.
 -- Assumes nothing.
+use Rattle.std.specs.Prelude.{Ok, Err}
 use mathlib.Core.Path.{◌≡◌, refl, sym, ap, ◌∙◌, subst}
 use mathlib.Core.Bool.{Bool, true, false, cond, ◌||◌, true≢false}
 use mathlib.Core.List.{List, [], ◌∷◌, ◌++◌, flatten}
@@ -23,14 +24,12 @@ use Rattle.refusals.specs.Tests.{bare, test}
 use Rattle.refusals.specs.declared.Refusal.{Refusal}
 use Rattle.lent_bytes.specs.Equal.{equal}
 use Rattle.lent_bytes.specs.Writing.{refused, accepted, writing_refusal}
-use Rattle.lent_bytes.specs.declared.Writing.{Writing}
-use Rattle.lent_bytes.specs.declared.Writing.TheVariants.{Written, Refused}
+use Rattle.lent_bytes.specs.Writing.{Writing}
 use Rattle.lent_bytes.proofs.EqualLaws.{equal-same, equal_true}
 use Rattle.lent_bytes.proofs.WritingLaws.{written_short, unless_none, unless_refused, unless_accepted}
 use Rattle.par1_read.specs.Reading.{entries_in, read_of}
 use Rattle.par1_read.specs.declared.reading.Parts.{Parts}
-use Rattle.par1_read.specs.declared.reading.Reading.{Reading}
-use Rattle.par1_read.specs.declared.reading.Reading.TheVariants as reading
+use Rattle.par1_read.specs.Reading.{Reading}
 use Rattle.par1_rules.specs.Layout.{volume_number_of, list_of}
 use Rattle.catalog.specs.Rows.{number_of, rows_for, catalog_bytes}
 use Rattle.catalog.specs.Catalog.{entry_count, catalog_length, entry_rows, volume_rows, is_catalog, holds}
@@ -111,7 +110,7 @@ module _ (b vol : List ℕ) (c : Catalog b) where
 
 -- ---- adding
 
-module _ (b vol : List ℕ) {p : Parts} (read : read_of vol ≡ reading.Accepted p) where
+module _ (b vol : List ℕ) {p : Parts} (read : read_of vol ≡ Ok p) where
   gives_number : {k : ℕ} → add_number b vol ≡ k → add_refusal b vol (read_of vol) ≡ bare k
   gives_number e = ap (λ (r : Reading). add_refusal b vol r) read ∙ ap bare e
 
@@ -142,7 +141,7 @@ module _ (b vol : List ℕ) {p : Parts} (read : read_of vol ≡ reading.Accepted
 
 -- ---- the other calls
 
-module _ (f room : List ℕ) {p : Parts} (read : read_of f ≡ reading.Accepted p) where
+module _ (f room : List ℕ) {p : Parts} (read : read_of f ≡ Ok p) where
   abbrev opened : List ℕ
   opened = catalog_bytes (rows_for (entries_in f)) []
 
@@ -186,17 +185,17 @@ call_refuses c room r (claim.drop_absent {v} is o h) =
 
 data Decided (c : Call) (room : List ℕ) : Type 0 where
   refuses : {r : Refusal} → Refuses c room r → Decided c room
-  accepts : {n : ℕ} {after : List ℕ} → given c room ≡ (Written n, after) → Decided c room
+  accepts : {n : ℕ} {after : List ℕ} → given c room ≡ (Ok n, after) → Decided c room
 
 open_decided : (f room : List ℕ) → Decided (opening f) room
 open_decided f room = by (read_of f) refl (dec_lt max_entries (length (entries_in f))) (dec_lt (length room) (16 + 28 * length (entries_in f)))
   where
     by : (k : Reading) → read_of f ≡ k → Dec (max_entries < length (entries_in f)) → Dec (length room < 16 + 28 * length (entries_in f))
         → Decided (opening f) room
-    by (reading.Refused r) e m s = refuses (claim.open_unread e)
-    by (reading.Accepted p) e (yes m) s = refuses (claim.open_many e m)
-    by (reading.Accepted p) e (no m) (yes s) = refuses (claim.open_short e (omega arith) s)
-    by (reading.Accepted p) e (no m) (no s) = accepts (open_fits f room e (omega arith) (omega arith))
+    by (Err r) e m s = refuses (claim.open_unread e)
+    by (Ok p) e (yes m) s = refuses (claim.open_many e m)
+    by (Ok p) e (no m) (yes s) = refuses (claim.open_short e (omega arith) s)
+    by (Ok p) e (no m) (no s) = accepts (open_fits f room e (omega arith) (omega arith))
 
 add_decided : (vol room : List ℕ) → Decided (adding vol) room
 unfolding add_of
@@ -208,23 +207,23 @@ add_decided vol room =
     by : (k : Reading) → read_of vol ≡ k → (i : Bool) → is_catalog room ≡ i → (r : Bool) → volume_in_range (volume_number_of vol) room ≡ r
         → (q : Bool) → equal (flatten (rows_for (entries_in vol))) (flatten (entry_rows room)) ≡ q → Dec (max_entries < length (entries_in vol))
         → (h : Bool) → holds (volume_number_of vol) (volume_rows room) ≡ h → Dec (length room < catalog_length room + 28) → Decided (adding vol) room
-    by (reading.Refused e) x i is r range q same m h has s = refuses (claim.add_unread x)
-    by (reading.Accepted p) x false is r range q same m h has s = refuses (claim.add_fails x (claim.other_bytes is))
-    by (reading.Accepted p) x true is false range q same m h has s =
+    by (Err e) x i is r range q same m h has s = refuses (claim.add_unread x)
+    by (Ok p) x false is r range q same m h has s = refuses (claim.add_fails x (claim.other_bytes is))
+    by (Ok p) x true is false range q same m h has s =
         refuses (claim.add_fails x (claim.out_of_range is (range_told (volume_number_of vol) (files_in room) range)))
-    by (reading.Accepted p) x true is true range false same m h has s =
+    by (Ok p) x true is true range false same m h has s =
         refuses (claim.add_fails x (claim.other_rows is (range_not (volume_number_of vol) (files_in room) range)
         (λ z. true≢false (sym (equal-same (ap flatten z)) ∙ same))))
-    by (reading.Accepted p) x true is true range true same (yes m) h has s =
+    by (Ok p) x true is true range true same (yes m) h has s =
         refuses (claim.add_fails x (claim.more_entries is (range_not (volume_number_of vol) (files_in room) range)
         (rows_alike room vol (is_catalog_lem room is) same) m))
-    by (reading.Accepted p) x true is true range true same (no m) true has s =
+    by (Ok p) x true is true range true same (no m) true has s =
         refuses (claim.add_fails x (claim.added_twice is (range_not (volume_number_of vol) (files_in room) range)
         (rows_alike room vol (is_catalog_lem room is) same) (omega arith) (held_has (volume_number_of vol) (volume_rows room) has)))
-    by (reading.Accepted p) x true is true range true same (no m) false has (yes s) =
+    by (Ok p) x true is true range true same (no m) false has (yes s) =
         refuses (claim.add_fails x (claim.no_room_to_add is (range_not (volume_number_of vol) (files_in room) range)
         (rows_alike room vol (is_catalog_lem room is) same) (omega arith) (held_not (volume_number_of vol) (volume_rows room) has) s))
-    by (reading.Accepted p) x true is true range true same (no m) false has (no s) =
+    by (Ok p) x true is true range true same (no m) false has (no s) =
         let none = passed room vol x is range (rows_alike room vol (is_catalog_lem room is) same) (omega arith) has in
         accepts (unless_accepted (add_refusal room vol (read_of vol)) (added_bytes room vol) room
         (ap (λ (r : Refusal). r.number) (gives_number room vol x none)) (omega (arith, added_length room vol x (is_catalog_lem room is))))
@@ -251,10 +250,10 @@ call_refused c room r = (call_refuses c room r, λ after e. (by e (decided c), r
     decided (adding vol) = add_decided vol room
     decided (dropping v) = drop_decided v room
 
-    by : {after : List ℕ} → given c room ≡ (Refused r, after) → Decided c room → Refuses c room r
+    by : {after : List ℕ} → given c room ≡ (Err r, after) → Decided c room → Refuses c room r
     by e (refuses {r = q} h) =
         subst (Refuses c room) (ap (λ (p : Writing × List ℕ). writing_refusal p.0) (sym (call_refuses c room q h) ∙ e)) h
-    by e (accepts {n} a) = let answer : Written n ≡ Refused r = ap (λ (p : Writing × List ℕ). p.0) (sym a ∙ e) in
+    by e (accepts {n} a) = let answer : Ok n ≡ Err r = ap (λ (p : Writing × List ℕ). p.0) (sym a ∙ e) in
         absurd (let z : ◌≡◌ {A = ℕ} 0 1 = cc in omega arith)
 
 -- ---- loading
@@ -262,7 +261,7 @@ call_refused c room r = (call_refuses c room r, λ after e. (by e (decided c), r
 entries_count : (b : List ℕ) → length (entry_rows b) ≡ entry_count b
 entries_count b = length-rows (entry_count b) (drop 16 b)
 
-load_refuses : (b : List ℕ) (rows : List Row) (r : Refusal) → LoadRefuses b (length rows) r → load_of b rows ≡ (Refused r, rows)
+load_refuses : (b : List ℕ) (rows : List Row) (r : Refusal) → LoadRefuses b (length rows) r → load_of b rows ≡ (Err r, rows)
 unfolding loading_of
 load_refuses b rows r (claim.load_other z) = simp z
 load_refuses b rows r (claim.load_short is h) =
@@ -273,10 +272,10 @@ unfolding loading_of
 load_refused b rows r = (load_refuses b rows r, λ after e. by (is_catalog b) refl (leb (entry_count b) (length rows)) refl e)
   where
     answer : Bool → Bool → Writing
-    answer i s = cond i (cond s (Written (entry_count b)) (Refused (bare 14))) (Refused (bare 30))
+    answer i s = cond i (cond s (Ok (entry_count b)) (Err (bare 14))) (Err (bare 30))
 
     by : {after : List Row} (i : Bool) → is_catalog b ≡ i → (s : Bool) → leb (entry_count b) (length rows) ≡ s
-        → ◌≡◌ {A = Writing × List Row} (answer i s, filled_by (answer i s) b rows) (Refused r, after)
+        → ◌≡◌ {A = Writing × List Row} (answer i s, filled_by (answer i s) b rows) (Err r, after)
         → LoadRefuses b (length rows) r × (after ≡ rows)
     by false is s short e = (
       subst (LoadRefuses b (length rows)) (ap (λ (p : Writing × List Row). writing_refusal p.0) e) (claim.load_other is),
@@ -287,5 +286,5 @@ load_refused b rows r = (load_refuses b rows r, λ after e. by (is_catalog b) re
           subst (LoadRefuses b (length rows)) (ap (λ (p : Writing × List Row). writing_refusal p.0) e) (claim.load_short is h),
           sym (ap (λ (p : Writing × List Row). p.1) e),
         )
-    by true is true short e = let told : Written (entry_count b) ≡ Refused r = ap (λ (p : Writing × List Row). p.0) e in
+    by true is true short e = let told : Ok (entry_count b) ≡ Err r = ap (λ (p : Writing × List Row). p.0) e in
         absurd (let z : ◌≡◌ {A = ℕ} 0 1 = cc in omega arith)

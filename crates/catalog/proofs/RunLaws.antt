@@ -11,7 +11,7 @@ use lib.ListN.{length, take, drop, length-append, length-drop}
 use lib.Seq.{take_at}
 use Rattle.cut_lists.specs.All.{All, all_none, all_more}
 use Rattle.lent_bytes.specs.Writing.{accepted}
-use Rattle.lent_bytes.specs.declared.Writing.{Writing}
+use Rattle.lent_bytes.specs.Writing.{Writing}
 use Rattle.catalog.specs.Rows.{volume_row, catalog_bytes}
 use Rattle.catalog.specs.Calls.{open_of, added_bytes, add_of}
 use Rattle.catalog.specs.Runs.{Call, opening, adding, answers, given, room_after, Held, held_after, held_run, held_length}

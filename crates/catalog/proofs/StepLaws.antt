@@ -7,6 +7,7 @@
 --   refused-same         a refused call leaves the room
 --   step                 any call keeps that what is in the catalog stands in the room
 -- Assumes nothing.
+use Rattle.std.specs.Prelude.{Ok, Err}
 use mathlib.Core.Path.{◌≡◌, refl, sym, ap, ap₂, ◌∙◌, subst}
 use mathlib.Core.Bool.{true, false, not}
 use mathlib.Core.List.Permᴰ
@@ -25,16 +26,14 @@ use Rattle.refusals.specs.declared.Refusal.{Refusal}
 use Rattle.refusals.proofs.TestLaws.{test_passed}
 use Rattle.lent_bytes.specs.Equal.{equal}
 use Rattle.lent_bytes.specs.Writing.{accepted}
-use Rattle.lent_bytes.specs.declared.Writing.{Writing}
-use Rattle.lent_bytes.specs.declared.Writing.TheVariants.{Written, Refused}
+use Rattle.lent_bytes.specs.Writing.{Writing}
 use Rattle.lent_bytes.proofs.EqualLaws.{equal-same, equal_true}
 use Rattle.lent_bytes.proofs.WritingLaws.{Accepted, unless_accepted, unless_tells, unless_same}
 use Rattle.entries.specs.Numbering.{keep}
 use Rattle.entries.proofs.KeepLaws.{all_keep, keep_same, keep-map}
 use Rattle.par1_read.specs.Reading.{entries_in, read_of}
 use Rattle.par1_read.specs.declared.reading.Parts.{Parts}
-use Rattle.par1_read.specs.declared.reading.Reading.{Reading}
-use Rattle.par1_read.specs.declared.reading.Reading.TheVariants as reading
+use Rattle.par1_read.specs.Reading.{Reading}
 use Rattle.par1_read.proofs.ReadingLaws.{refused_some}
 use Rattle.par1_rules.specs.Layout.{volume_number_of}
 use Rattle.catalog.specs.Rows.{number_of, rows_for, volume_row, catalog_bytes}
@@ -61,15 +60,15 @@ made {s = s} {out = out} h i w e = record {
 
 -- ---- opening
 
-pub open_next : (f out : List ℕ) {n : ℕ} {room : List ℕ} → open_of f out ≡ (Written n, room) → Next (newly_opened f) n room
+pub open_next : (f out : List ℕ) {n : ℕ} {room : List ℕ} → open_of f out ≡ (Ok n, room) → Next (newly_opened f) n room
 unfolding open_of
 open_next f out {n} {room} e =
     let w = unless_tells (open_refusal f (read_of f)) (catalog_bytes (rows_for (entries_in f)) []) out e in made (newly_opened f) (by (read_of f) refl w.none) w refl
   where
     by : (k : Reading) → read_of f ≡ k → (open_refusal f k).number ≡ 0 → In (newly_opened f)
-    by (reading.Accepted p) is z = let passed = test_passed 26 (leb (length (entries_in f)) max_entries) 0 (omega arith) z in
+    by (Ok p) is z = let passed = test_passed 26 (leb (length (entries_in f)) max_entries) 0 (omega arith) z in
         record { parts = p; read = is; few = leb-true _ _ passed.0; each = all_none; once = distinct_none }
-    by (reading.Refused r) is z = absurd (refused_some f is z)
+    by (Err r) is z = absurd (refused_some f is z)
 
 -- a file that may be in it is opened from, where there is room
 pub open_accepted : {h : Held} → In h → (out : List ℕ) → held_length (newly_opened h.file) ≤ length out
@@ -128,21 +127,21 @@ module _ {h : Held} {room : List ℕ} (i : Invariant h room) (vol : List ℕ) wh
       let j = i.inside in
       record { parts = j.parts; read = j.read; few = j.few; each = all_more v j.each; once = distinct_more others j.once }
 
-  volume_in : {p : Parts} → read_of vol ≡ reading.Accepted p → AddPassed room vol → VolumeIn (entries_of h) vol
+  volume_in : {p : Parts} → read_of vol ≡ Ok p → AddPassed room vol → VolumeIn (entries_of h) vol
   volume_in {p} read a = let f = file_rows vol read in
       let r = in_rows h i.inside in
       let same : flatten (rows_for (entries_in vol)) ≡ flatten (entries_of h) = equal_true _ _ a.rows ∙ ap flatten back.entries_are in
       let low = (one_to_inside (255 - length (saved_rows (entry_rows room))) (volume_number_of vol) a.range).0 in
       record { parts = p; read = read; same = rows-equal f.sized r.entries_sized same; low = omega arith }
 
-  pub add_next : {n : ℕ} {after : List ℕ} → add_of room vol ≡ (Written n, after) → Next With n after
+  pub add_next : {n : ℕ} {after : List ℕ} → add_of room vol ≡ (Ok n, after) → Next With n after
   unfolding add_of
   add_next {n} {after} e = let w = unless_tells (add_refusal room vol (read_of vol)) (added_bytes room vol) room e in
       made With (by (read_of vol) refl w.none) w with_bytes
     where
       by : (k : Reading) → read_of vol ≡ k → (add_refusal room vol k).number ≡ 0 → In With
-      by (reading.Accepted p) is z = let a = add_passed room vol z in with_in (volume_in is a) a.new
-      by (reading.Refused r) is z = absurd (refused_some vol is z)
+      by (Ok p) is z = let a = add_passed room vol z in with_in (volume_in is a) a.new
+      by (Err r) is z = absurd (refused_some vol is z)
 
   -- a volume that is not in it yet is added, where there is room
   pub add_accepted : VolumeIn (entries_of h) vol → All (Other (number_of (volume_row vol))) (rows_of h.volumes) → held_length h + 28 ≤ length room
@@ -194,20 +193,20 @@ module _ {h : Held} {room : List ℕ} (i : Invariant h room) (v : ℕ) where
         once = subst Distinct remaining (distinct_remove v j.once);
       }
 
-  drop-next : {n : ℕ} {after : List ℕ} → drop_of room v ≡ (Written n, after) → Next Without n after
+  drop-next : {n : ℕ} {after : List ℕ} → drop_of room v ≡ (Ok n, after) → Next Without n after
   unfolding drop_of
   drop-next e = made Without without_in (unless_tells (bare (drop_number room v)) (dropped_bytes room v) room e) without_bytes
 
 -- ---- any call
 
-pub refused-same : (c : Call) (room : List ℕ) {r : Refusal} {after : List ℕ} → given c room ≡ (Refused r, after) → after ≡ room
+pub refused-same : (c : Call) (room : List ℕ) {r : Refusal} {after : List ℕ} → given c room ≡ (Err r, after) → after ≡ room
 unfolding open_of add_of drop_of
 refused-same (opening f) room e = unless_same _ _ room e
 refused-same (adding vol) room e = unless_same _ _ room e
 refused-same (dropping v) room e = unless_same _ _ room e
 
-pub call_next : {h : Held} {room : List ℕ} → Invariant h room → (c : Call) {n : ℕ} {after : List ℕ} → given c room ≡ (Written n, after)
-    → Next (held_after c (Written n) h) n after
+pub call_next : {h : Held} {room : List ℕ} → Invariant h room → (c : Call) {n : ℕ} {after : List ℕ} → given c room ≡ (Ok n, after)
+    → Next (held_after c (Ok n) h) n after
 call_next i (opening f) e = open_next f _ e
 call_next i (adding vol) e = add_next i vol e
 call_next i (dropping v) e = drop-next i v e
@@ -216,5 +215,5 @@ pub step : {h : Held} {room : List ℕ} → Invariant h room → (c : Call) → 
 step {h} {room} i c = by (given c room).0 (given c room).1 refl
   where
     by : (w : Writing) (after : List ℕ) → given c room ≡ (w, after) → Invariant (held_after c w h) after
-    by (Written n) after e = (call_next i c e).invariant
-    by (Refused r) after e = subst (Invariant h) (sym (refused-same c room e)) i
+    by (Ok n) after e = (call_next i c e).invariant
+    by (Err r) after e = subst (Invariant h) (sym (refused-same c room e)) i

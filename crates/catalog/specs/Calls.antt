@@ -17,7 +17,7 @@
 --   filled_by w b rows    the records after loading, which answers w
 --   load_of b rows        what loading gives
 -- Assumes nothing.
-use Rattle.std.specs.Prelude.{Bool, cond, not, ℕ, ◌+◌, ◌-◌, ◌*◌, leb, length, take, drop, replicate}
+use Rattle.std.specs.Prelude.{Bool, cond, not, ℕ, ◌+◌, ◌-◌, ◌*◌, leb, length, take, drop, replicate, Ok, Err}
 use mathlib.Core.List.{List, [], ◌++◌, map, flatten}
 use Rattle.computed_tests.specs.Numbers.{one_to}
 use Rattle.refusals.specs.Limits.{max_entries}
@@ -25,11 +25,9 @@ use Rattle.refusals.specs.Tests.{bare, test}
 use Rattle.refusals.specs.declared.Refusal.{Refusal}
 use Rattle.lent_bytes.specs.Equal.{equal}
 use Rattle.lent_bytes.specs.Writing.{written_unless}
-use Rattle.lent_bytes.specs.declared.Writing.{Writing}
-use Rattle.lent_bytes.specs.declared.Writing.TheVariants.{Written, Refused}
+use Rattle.lent_bytes.specs.Writing.{Writing}
 use Rattle.par1_read.specs.Reading.{entries_in, read_of}
-use Rattle.par1_read.specs.declared.reading.Reading.{Reading}
-use Rattle.par1_read.specs.declared.reading.Reading.TheVariants as reading
+use Rattle.par1_read.specs.Reading.{Reading}
 use Rattle.par1_rules.specs.Layout.{volume_number_of}
 use Rattle.catalog.specs.Rows.{number_of, size_of, hash_of, rows_for, volume_row, catalog_bytes}
 use Rattle.catalog.specs.Catalog.{entry_count, entry_rows, volume_rows, saved_rows, is_catalog, holds, insert_row, remove_row}
@@ -39,8 +37,8 @@ use Rattle.catalog.specs.declared.records.Row.{Row}
 
 -- "26 more entries"
 abbrev pub open_refusal : List ℕ → Reading → Refusal
-open_refusal f (reading.Accepted p) = bare (test 26 (leb (length (entries_in f)) max_entries) 0)
-open_refusal f (reading.Refused r) = r
+open_refusal f (Ok p) = bare (test 26 (leb (length (entries_in f)) max_entries) 0)
+open_refusal f (Err r) = r
 
 unfoldable pub open_of : List ℕ → List ℕ → Writing × List ℕ
 open_of f out = written_unless (open_refusal f (read_of f)) (catalog_bytes (rows_for (entries_in f)) []) out
@@ -62,8 +60,8 @@ add_number b vol =
 
 -- "Refusals, after those of reading"
 abbrev pub add_refusal : List ℕ → List ℕ → Reading → Refusal
-add_refusal b vol (reading.Accepted p) = bare (add_number b vol)
-add_refusal b vol (reading.Refused r) = r
+add_refusal b vol (Ok p) = bare (add_number b vol)
+add_refusal b vol (Err r) = r
 
 abbrev pub added_bytes : List ℕ → List ℕ → List ℕ
 added_bytes b vol = catalog_bytes (entry_rows b) (insert_row (volume_row vol) (volume_rows b))
@@ -95,12 +93,12 @@ row_at b i =
     cond (leb (16 + 28 * (i + 1)) (length b)) (record_of (take 28 (drop (16 + 28 * i) b))) (record { file = 0; size = 0; md5 = replicate 16 0 })
 
 unfoldable pub loading_of : List ℕ → ℕ → Writing
-loading_of b n = cond (is_catalog b) (cond (leb (entry_count b) n) (Written (entry_count b)) (Refused (bare 14))) (Refused (bare 30))
+loading_of b n = cond (is_catalog b) (cond (leb (entry_count b) n) (Ok (entry_count b)) (Err (bare 14))) (Err (bare 30))
 
 -- "records past the entries, stay"
 abbrev pub filled_by : Writing → List ℕ → List Row → List Row
-filled_by (Written n) b rows = map (λ r. record_of r) (entry_rows b) ++ drop n rows
-filled_by (Refused r) b rows = rows
+filled_by (Ok n) b rows = map (λ r. record_of r) (entry_rows b) ++ drop n rows
+filled_by (Err r) b rows = rows
 
 abbrev pub load_of : List ℕ → List Row → Writing × List Row
 load_of b rows = let w : Writing = loading_of b (length rows) in (w, filled_by w b rows)

@@ -25,7 +25,7 @@
 -- rules are accepted (`SetAdded`).
 -- The contracts of open, add, drop_volume, loading and row_at cite open_of, add_of, drop_of, loading_of and row_at.
 -- Assumes nothing.
-use Rattle.std.specs.Prelude.{◌≡◌, ◌↔◌, true, false, ℕ, ◌+◌, ◌-◌, ◌*◌, ◌^◌, ◌<◌, ◌≤◌, length, take, drop, get_or}
+use Rattle.std.specs.Prelude.{◌≡◌, ◌↔◌, true, false, ℕ, ◌+◌, ◌-◌, ◌*◌, ◌^◌, ◌<◌, ◌≤◌, length, take, drop, get_or, Ok, Err}
 use mathlib.Core.List.{List, [], ◌∷◌, ◌++◌, map, Permᴰ}
 use Rattle.cut_lists.specs.All.{All}
 use Rattle.refusals.specs.Limits.{max_entries}
@@ -33,14 +33,12 @@ use Rattle.refusals.specs.Tests.{bare}
 use Rattle.refusals.specs.declared.Refusal.{Refusal}
 use Rattle.little_endian.specs.Bytes.{Bytes}
 use Rattle.lent_bytes.specs.Writing.{RefusedExactly}
-use Rattle.lent_bytes.specs.declared.Writing.{Writing}
-use Rattle.lent_bytes.specs.declared.Writing.TheVariants.{Written, Refused}
+use Rattle.lent_bytes.specs.Writing.{Writing}
 use Rattle.codes.specs.declared.Code.{Code}
 use Rattle.entries.specs.Entry.{file_size_of, md5_of}
 use Rattle.entries.specs.Numbering.{file_number}
 use Rattle.par1_read.specs.Reading.{entries_in, read_of}
 use Rattle.par1_read.specs.declared.reading.Parts.{Parts}
-use Rattle.par1_read.specs.declared.reading.Reading.TheVariants as reading
 use Rattle.mul_add.specs.Once.{count}
 use Rattle.par1_rules.specs.Layout.{version_for, volume_number_of}
 use Rattle.par1_set.specs.Files.{File}
@@ -56,7 +54,7 @@ use Rattle.catalog.specs.declared.records.Row.{Row}
 -- ---- after any run
 
 pub data IsWritten : Writing → Type 0 where
-  is_written : (n : ℕ) → IsWritten (Written n)
+  is_written : (n : ℕ) → IsWritten (Ok n)
 
 -- "To load it, the caller lends one row record for each listed entry, filled in order. .. records past the entries, stay."; "file number (0 if
 -- not saved)", "size", "MD5"
@@ -64,7 +62,7 @@ abbrev pub record_for : List (List ℕ) → ℕ → Row
 record_for es k = record { file = file_number es k; size = file_size_of (get_or es k []); md5 = md5_of (get_or es k []) }
 
 pub record Loaded (es : List (List ℕ)) (rows : List Row) (w : Writing × List Row) : Type 0 where
-  pub answer_is : w.0 ≡ Written (length es)
+  pub answer_is : w.0 ≡ Ok (length es)
   pub in_order : (k : ℕ) → k < length es → (other : Row) → get_or w.1 k other ≡ record_for es k
   pub length_kept : length w.1 ≡ length rows
   pub past_kept : drop (length es) w.1 ≡ drop (length es) rows
@@ -81,7 +79,7 @@ pub record Stands (h : Held) (room : List ℕ) : Type 0 where
   -- loading tells of each listed entry
   pub loaded : (rows : List Row) → length (entries_in h.file) ≤ length rows → Loaded (entries_in h.file) rows (load_of room rows)
   -- an accepted call answers the length
-  pub answered : (c : Call) (n : ℕ) (after : List ℕ) → given c room ≡ (Written n, after) → n ≡ held_length (held_after c (Written n) h)
+  pub answered : (c : Call) (n : ℕ) (after : List ℕ) → given c room ≡ (Ok n, after) → n ≡ held_length (held_after c (Ok n) h)
   -- "equals one opened from the same list and given only the volumes now in it", in any order: all these calls are accepted in any room that
   -- is long enough, and give the same bytes
   pub afresh : (vs : List (List ℕ)) → Permᴰ vs h.volumes → (other : List ℕ) → held_length h ≤ length other
@@ -92,7 +90,7 @@ pub record Stands (h : Held) (room : List ℕ) : Type 0 where
 -- opening; proved: proofs/RunLaws.antt, `after_run`
 abbrev pub AfterRun : Type 0
 AfterRun =
-    (f out room : List ℕ) (n : ℕ) → open_of f out ≡ (Written n, room) → (cs : List Call)
+    (f out room : List ℕ) (n : ℕ) → open_of f out ≡ (Ok n, room) → (cs : List Call)
     → Stands (held_run (newly_opened f) room cs) (room_after room cs)
 
 -- so that there are such runs: the volumes of a set that keeps the rules, written by our calls, each of any code, are all added, whatever their
@@ -128,21 +126,21 @@ pub record Kept (b room : List ℕ) (n : ℕ) : Type 0 where
 -- "It is opened from one accepted file's list, with no volumes."; proved: proofs/KeptLaws.antt, `open_kept`
 abbrev pub OpenKept : Type 0
 OpenKept =
-    (f out room : List ℕ) (n : ℕ) → open_of f out ≡ (Written n, room)
+    (f out room : List ℕ) (n : ℕ) → open_of f out ≡ (Ok n, room)
     → (n ≡ 16 + 28 * length (entries_in f)) × (take n room ≡ catalog_bytes (rows_for (entries_in f)) []) × (length room ≡ length out)
     × (drop n room ≡ drop n out)
 
 -- the answer is the length of what then stands there; proved: proofs/KeptLaws.antt, `add_kept`
 abbrev pub AddKept : Type 0
 AddKept =
-    (b vol room : List ℕ) (n : ℕ) → Bytes b → add_of b vol ≡ (Written n, room)
+    (b vol room : List ℕ) (n : ℕ) → Bytes b → add_of b vol ≡ (Ok n, room)
     → Kept b room n × (n ≡ catalog_length b + 28) × (n ≡ catalog_length room) × (volume_count room ≡ volume_count b + 1)
     × Moved (volume_row vol) (volume_rows b) (volume_rows room)
 
 -- proved: proofs/KeptLaws.antt, `drop_kept`
 abbrev pub DropKept : Type 0
 DropKept =
-    (b : List ℕ) (v : ℕ) (room : List ℕ) (n : ℕ) → Bytes b → drop_of b v ≡ (Written n, room)
+    (b : List ℕ) (v : ℕ) (room : List ℕ) (n : ℕ) → Bytes b → drop_of b v ≡ (Ok n, room)
     → (r : List ℕ) × Kept b room n × (n + 28 ≡ catalog_length b) × (n ≡ catalog_length room) × (volume_count room + 1 ≡ volume_count b)
     × (number_of r ≡ v) × Moved r (volume_rows room) (volume_rows b)
 
@@ -183,13 +181,13 @@ pub data AddFails (b vol : List ℕ) : ℕ → Type 0 where
       → AddFails b vol 14
 
 pub data Refuses : Call → List ℕ → Refusal → Type 0 where
-  open_unread : {f room : List ℕ} {r : Refusal} → read_of f ≡ reading.Refused r → Refuses (opening f) room r
-  open_many : {f room : List ℕ} {p : Parts} → read_of f ≡ reading.Accepted p → max_entries < length (entries_in f)
+  open_unread : {f room : List ℕ} {r : Refusal} → read_of f ≡ Err r → Refuses (opening f) room r
+  open_many : {f room : List ℕ} {p : Parts} → read_of f ≡ Ok p → max_entries < length (entries_in f)
       → Refuses (opening f) room (bare 26)
-  open_short : {f room : List ℕ} {p : Parts} → read_of f ≡ reading.Accepted p → length (entries_in f) ≤ max_entries
+  open_short : {f room : List ℕ} {p : Parts} → read_of f ≡ Ok p → length (entries_in f) ≤ max_entries
       → length room < 16 + 28 * length (entries_in f) → Refuses (opening f) room (bare 14)
-  add_unread : {vol room : List ℕ} {r : Refusal} → read_of vol ≡ reading.Refused r → Refuses (adding vol) room r
-  add_fails : {vol room : List ℕ} {p : Parts} {k : ℕ} → read_of vol ≡ reading.Accepted p → AddFails room vol k
+  add_unread : {vol room : List ℕ} {r : Refusal} → read_of vol ≡ Err r → Refuses (adding vol) room r
+  add_fails : {vol room : List ℕ} {p : Parts} {k : ℕ} → read_of vol ≡ Ok p → AddFails room vol k
       → Refuses (adding vol) room (bare k)
   drop_other : {v : ℕ} {room : List ℕ} → is_catalog room ≡ false → Refuses (dropping v) room (bare 30)
   drop_range : {v : ℕ} {room : List ℕ} → is_catalog room ≡ true → OutOfRange v (files_in room) → Refuses (dropping v) room (bare 10)
@@ -210,8 +208,8 @@ pub data LoadRefuses (b : List ℕ) (records : ℕ) : Refusal → Type 0 where
 abbrev pub LoadRefused : Type 0
 LoadRefused =
     (b : List ℕ) (rows : List Row) (r : Refusal)
-    → (LoadRefuses b (length rows) r → load_of b rows ≡ (Refused r, rows))
-    × ((after : List Row) → load_of b rows ≡ (Refused r, after) → LoadRefuses b (length rows) r × (after ≡ rows))
+    → (LoadRefuses b (length rows) r → load_of b rows ≡ (Err r, rows))
+    × ((after : List Row) → load_of b rows ≡ (Err r, after) → LoadRefuses b (length rows) r × (after ≡ rows))
 
 -- ---- "30 index bytes that, hashes apart, no list and volumes give, or that end early"
 

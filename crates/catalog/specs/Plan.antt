@@ -10,29 +10,24 @@
 --   spread at to r s   the bytes s with the row r at the byte at: those up to the byte to move up
 --   closed at to s     the bytes s without the row at the byte at: those up to the byte to move down
 -- Assumes nothing.
-use Rattle.std.specs.Prelude.{cond, List, [], ◌∷◌, ◌++◌, ℕ, suc, ◌+◌, ◌-◌, ◌*◌, ltb, eqb, length, take, drop}
+use Rattle.std.specs.Prelude.{cond, List, [], ◌∷◌, ◌++◌, ℕ, suc, ◌+◌, ◌-◌, ◌*◌, ltb, eqb, length, take, drop, Option, Some, None, Result, Ok, Err}
 use Rattle.par1_rules.specs.Layout.{volume_number_of}
 use Rattle.catalog.specs.Rows.{number_of}
 use Rattle.catalog.specs.Catalog.{entry_count, volume_count, catalog_length, entry_rows, volume_rows, saved_rows, greatest_size, entry_rows_allowed}
 use Rattle.catalog.specs.Catalog.{is_catalog, holds}
 use Rattle.catalog.specs.Calls.{add_number, drop_number}
 use Rattle.catalog.specs.declared.checking.Counts.{Counts}
-use Rattle.catalog.specs.declared.checking.Found.{Found}
-use Rattle.catalog.specs.declared.checking.Found.TheVariants as found
 use Rattle.catalog.specs.declared.checking.Entered.{Entered}
-use Rattle.catalog.specs.declared.checking.Entered.TheVariants as entered
 use Rattle.catalog.specs.declared.planning.Place.{Place}
-use Rattle.catalog.specs.declared.planning.Planned.{Planned}
-use Rattle.catalog.specs.declared.planning.Planned.TheVariants.{Change, Refused}
 
 abbrev pub counts_of : List ℕ → Counts
 counts_of b = record { entries = entry_count b; volumes = volume_count b; saved = length (saved_rows (entry_rows b)) }
 
-unfoldable pub found_of : List ℕ → Found
-found_of b = cond (is_catalog b) (found.Catalog (counts_of b)) found.Other
+unfoldable pub found_of : List ℕ → Option Counts
+found_of b = cond (is_catalog b) (Some (counts_of b)) None
 
-unfoldable pub entered_of : List (List ℕ) → Entered
-entered_of rs = cond (entry_rows_allowed 0 rs) (entered.Rows (length (saved_rows rs)) (greatest_size rs)) entered.Other
+unfoldable pub entered_of : List (List ℕ) → Option Entered
+entered_of rs = cond (entry_rows_allowed 0 rs) (Some (record { saved = length (saved_rows rs); greatest = greatest_size rs })) None
 
 unfoldable pub place_of : ℕ → List (List ℕ) → ℕ
 place_of v [] = 0
@@ -48,13 +43,13 @@ place_in b v =
       present = holds v (volume_rows b);
     }
 
-abbrev pub plan_by : ℕ → Place → Planned
-plan_by number p = cond (eqb number 0) (Change p) (Refused number)
+abbrev pub plan_by : ℕ → Place → Result Place ℕ
+plan_by number p = cond (eqb number 0) (Ok p) (Err number)
 
-unfoldable pub plan_add : List ℕ → List ℕ → Planned
+unfoldable pub plan_add : List ℕ → List ℕ → Result Place ℕ
 plan_add b vol = plan_by (add_number b vol) (place_in b (volume_number_of vol))
 
-unfoldable pub plan_drop : List ℕ → ℕ → Planned
+unfoldable pub plan_drop : List ℕ → ℕ → Result Place ℕ
 plan_drop b v = plan_by (drop_number b v) (place_in b v)
 
 abbrev pub spread : ℕ → ℕ → List ℕ → List ℕ → List ℕ

@@ -12,10 +12,9 @@
 --   held_length h           the length of the catalog
 --   Ascend rs              the numbers of the rows rs ascend
 -- Assumes nothing.
-use Rattle.std.specs.Prelude.{not, List, [], ◌∷◌, ℕ, ◌+◌, ◌*◌, ◌<◌, eqb, length}
+use Rattle.std.specs.Prelude.{not, List, [], ◌∷◌, ℕ, ◌+◌, ◌*◌, ◌<◌, eqb, length, Ok, Err}
 use Rattle.cut_lists.specs.All.{All}
-use Rattle.lent_bytes.specs.declared.Writing.{Writing}
-use Rattle.lent_bytes.specs.declared.Writing.TheVariants.{Written, Refused}
+use Rattle.lent_bytes.specs.Writing.{Writing}
 use Rattle.entries.specs.Numbering.{keep}
 use Rattle.par1_read.specs.Reading.{entries_in}
 use Rattle.par1_rules.specs.Layout.{volume_number_of}
@@ -54,10 +53,10 @@ newly_opened f = record { file = f; volumes = [] }
 
 -- what is refused changes nothing; an opening begins anew
 abbrev pub held_after : Call → Writing → Held → Held
-held_after c (Refused r) h = h
-held_after (opening f) (Written n) h = newly_opened f
-held_after (adding vol) (Written n) h = record { file = h.file; volumes = vol ∷ h.volumes }
-held_after (dropping v) (Written n) h = record { file = h.file; volumes = keep (λ vol. not (eqb (volume_number_of vol) v)) h.volumes }
+held_after c (Err r) h = h
+held_after (opening f) (Ok n) h = newly_opened f
+held_after (adding vol) (Ok n) h = record { file = h.file; volumes = vol ∷ h.volumes }
+held_after (dropping v) (Ok n) h = record { file = h.file; volumes = keep (λ vol. not (eqb (volume_number_of vol) v)) h.volumes }
 
 unfoldable pub held_run : Held → List ℕ → List Call → Held
 held_run h room [] = h

@@ -15,47 +15,38 @@ pub struct Counts {
     pub saved: u64,
 }
 
-// What bytes begin with: a catalog, or something else.
+// What entry rows tell: how many files are saved, and the greatest size of one.
 #[derive(Clone, Copy)]
-pub enum Found {
-    Catalog(Counts),
-    Other,
+pub struct Entered {
+    pub saved: u64,
+    pub greatest: u64,
 }
 
-// What entry rows tell: how many files are saved, and the greatest size of one; or they are none.
-#[derive(Clone, Copy)]
-pub enum Entered {
-    Rows { saved: u64, greatest: u64 },
-    Other,
-}
-
-// What `bytes` begin with.
-pub(crate) fn find(bytes: &[u8]) -> Found
+// The catalog that `bytes` begin with, where they do.
+pub(crate) fn find(bytes: &[u8]) -> Option<Counts>
     ensures { result ≡ found_of bytes.now }
 {
     let entries = little_endian::read32(bytes, 0) as usize;
     let volumes = little_endian::read32(bytes, 4) as usize;
     let total = HEAD_LENGTH + ROW_LENGTH * (entries + volumes);
     if bytes.len() < total {
-        return Found::Other;
+        return None;
     }
     if entries as u64 > refusals::MAX_ENTRIES {
-        return Found::Other;
+        return None;
     }
     if little_endian::read32(bytes, 8) as usize != HEAD_LENGTH {
-        return Found::Other;
+        return None;
     }
     let start = HEAD_LENGTH + ROW_LENGTH * entries;
     if little_endian::read32(bytes, 12) as usize != start {
-        return Found::Other;
+        return None;
     }
-    let Entered::Rows { saved, greatest } = read_entries(&bytes[HEAD_LENGTH..], entries) else {
-        return Found::Other;
-    };
+    let Entered { saved, greatest } = read_entries(&bytes[HEAD_LENGTH..], entries)?;
     if !volumes_allowed(&bytes[start..], volumes, saved, greatest) {
-        return Found::Other;
+        return None;
     }
-    Found::Catalog(Counts {
+    Some(Counts {
         entries,
         volumes,
         saved,
@@ -63,7 +54,7 @@ pub(crate) fn find(bytes: &[u8]) -> Found
 }
 
 // What the first `count` rows tell, as entry rows.
-fn read_entries(rows: &[u8], count: usize) -> Entered
+fn read_entries(rows: &[u8], count: usize) -> Option<Entered>
     requires { 28 * count ≤ length rows.now }
     ensures { result ≡ entered_of (rows_in count rows.now) }
 {
@@ -75,10 +66,10 @@ fn read_entries(rows: &[u8], count: usize) -> Entered
         let number = little_endian::read32(rows, at) as u64;
         let size = little_endian::read64(rows, at + 4);
         if !in_turn(saved, number) {
-            return Entered::Other;
+            return None;
         }
         if size > refusals::MAX_FILE_SIZE {
-            return Entered::Other;
+            return None;
         }
         greatest = greatest_after(greatest, number, size);
         saved = saved_after(saved, number);
@@ -86,9 +77,9 @@ fn read_entries(rows: &[u8], count: usize) -> Entered
         left -= 1;
     }
     if saved > refusals::MAX_FILES {
-        return Entered::Other;
+        return None;
     }
-    Entered::Rows { saved, greatest }
+    Some(Entered { saved, greatest })
 }
 
 // Whether the first `count` rows may be the volume rows of a catalog of `saved` saved files of at most `greatest` bytes.

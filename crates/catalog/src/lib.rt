@@ -2,9 +2,8 @@
 // in the first bytes of its room.
 #![tactic(auto)]
 
-ghost use Rattle.std.specs.Prelude.{◌≡◌};
+ghost use Rattle.std.specs.Prelude.{◌≡◌, Ok};
 ghost use Rattle.par1_read.specs.Reading.{read_of};
-ghost use Rattle.par1_read.specs.declared.reading.Reading.TheVariants.{Accepted};
 ghost use Rattle.catalog.specs.Calls.{open_of, add_of, drop_of};
 
 mod checking;
@@ -14,12 +13,10 @@ mod opening;
 mod planning;
 mod records;
 
-pub use lent_bytes::Writing;
-use par1_read::{Parts, Reading};
+use par1_read::Parts;
 use par1_rules::layout;
-use planning::Planned;
 pub use records::{Row, loading, row_at};
-use refusals::bare;
+use refusals::{Refusal, bare};
 
 // The four numbers before the rows.
 pub(crate) const HEAD_LENGTH: usize = 16;
@@ -28,56 +25,56 @@ pub(crate) const HEAD_LENGTH: usize = 16;
 pub(crate) const ROW_LENGTH: usize = 28;
 
 // Writes the catalog of the list of `file`, with no volumes, over the first bytes of `out`.
-pub fn open(file: &[u8], out: &mut [u8]) -> Writing
+pub fn open(file: &[u8], out: &mut [u8]) -> Result<usize, Refusal>
     ensures { (result, out.new) ≡ open_of file.now out.old }
 {
     match par1::read(file) {
-        Reading::Accepted(parts) => opening::open_read(file, parts, out),
-        Reading::Refused(refusal) => Writing::Refused(refusal),
+        Ok(parts) => opening::open_read(file, parts, out),
+        Err(refusal) => Err(refusal),
     }
 }
 
 // Adds the row of `volume` to the catalog; the answer is its new length.
-pub fn add(catalog: &mut [u8], volume: &[u8]) -> Writing
+pub fn add(catalog: &mut [u8], volume: &[u8]) -> Result<usize, Refusal>
     ensures { (result, catalog.new) ≡ add_of catalog.old volume.now }
 {
     match par1::read(volume) {
-        Reading::Accepted(parts) => add_read(catalog, volume, parts),
-        Reading::Refused(refusal) => Writing::Refused(refusal),
+        Ok(parts) => add_read(catalog, volume, parts),
+        Err(refusal) => Err(refusal),
     }
 }
 
 // Drops the row of volume `number` from the catalog; the answer is its new length.
-pub fn drop_volume(catalog: &mut [u8], number: u64) -> Writing
+pub fn drop_volume(catalog: &mut [u8], number: u64) -> Result<usize, Refusal>
     ensures { (result, catalog.new) ≡ drop_of catalog.old number }
 {
     match planning::plan_drop(catalog, number) {
-        Planned::Change(place) => {
+        Ok(place) => {
             moving::remove_row(catalog, place.at, place.to);
             opening::put_head(catalog, place.entries, place.volumes - 1);
-            Writing::Written(place.to - ROW_LENGTH)
+            Ok(place.to - ROW_LENGTH)
         }
-        Planned::Refused(refusal) => Writing::Refused(bare(refusal)),
+        Err(refusal) => Err(bare(refusal)),
     }
 }
 
 // Adds the row of a volume that is read.
-fn add_read(catalog: &mut [u8], volume: &[u8], parts: Parts) -> Writing
-    requires { read_of volume.now ≡ Accepted parts }
+fn add_read(catalog: &mut [u8], volume: &[u8], parts: Parts) -> Result<usize, Refusal>
+    requires { read_of volume.now ≡ Ok parts }
     ensures { (result, catalog.new) ≡ add_of catalog.old volume.now }
 {
     match planning::plan_add(catalog, volume, parts) {
-        Planned::Change(place) => {
+        Ok(place) => {
             let total = place.to + ROW_LENGTH;
             if catalog.len() < total {
-                return Writing::Refused(bare(refusals::NO_ROOM));
+                return Err(bare(refusals::NO_ROOM));
             }
             let hash = layout::part(volume, layout::CONTROL_HASH_AT, layout::HASH_LENGTH);
             let row = entry_rows::row_of(parts.number, parts.data_size, hash);
             moving::insert_row(catalog, place.at, place.to, &row);
             opening::put_head(catalog, place.entries, place.volumes + 1);
-            Writing::Written(total)
+            Ok(total)
         }
-        Planned::Refused(refusal) => Writing::Refused(bare(refusal)),
+        Err(refusal) => Err(bare(refusal)),
     }
 }

@@ -1,34 +1,32 @@
 // The opening of a catalog from a list.
-ghost use Rattle.std.specs.Prelude.{◌≡◌, ◌^◌, ◌<◌, ◌≤◌};
+ghost use Rattle.std.specs.Prelude.{◌≡◌, ◌^◌, ◌<◌, ◌≤◌, Ok};
 ghost use Rattle.std.proofs.lemmas.List.Edits.{sets};
 ghost use Rattle.par1_read.specs.Reading.{read_of};
-ghost use Rattle.par1_read.specs.declared.reading.Reading.TheVariants.{Accepted};
 ghost use Rattle.catalog.specs.Rows.{catalog_head};
 ghost use Rattle.catalog.specs.Calls.{open_of};
 
 use crate::{HEAD_LENGTH, ROW_LENGTH, entry_rows};
-use lent_bytes::Writing;
 use par1_read::Parts;
 use par1_rules::layout;
-use refusals::bare;
+use refusals::{Refusal, bare};
 
 // Writes the catalog of a file that is read.
-pub(crate) fn open_read(file: &[u8], parts: Parts, out: &mut [u8]) -> Writing
-    requires { read_of file.now ≡ Accepted parts }
+pub(crate) fn open_read(file: &[u8], parts: Parts, out: &mut [u8]) -> Result<usize, Refusal>
+    requires { read_of file.now ≡ Ok parts }
     ensures { (result, out.new) ≡ open_of file.now out.old }
 {
     if parts.entries > refusals::MAX_ENTRIES {
-        return Writing::Refused(bare(refusals::ENTRIES));
+        return Err(bare(refusals::ENTRIES));
     }
     let entries = parts.entries as usize;
     let total = HEAD_LENGTH + ROW_LENGTH * entries;
     if out.len() < total {
-        return Writing::Refused(bare(refusals::NO_ROOM));
+        return Err(bare(refusals::NO_ROOM));
     }
     let list = layout::part(file, layout::HEADER_LENGTH, parts.list_size as usize);
     put_head(out, entries, 0);
     entry_rows::put_rows(out, list);
-    Writing::Written(total)
+    Ok(total)
 }
 
 // Writes the four numbers of a catalog with so many rows.

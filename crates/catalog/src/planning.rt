@@ -1,13 +1,12 @@
 // The tests of adding and dropping (document 02, 2026-08), all before a byte is written, and where the row lies.
-ghost use Rattle.std.specs.Prelude.{◌≡◌, true, ◌&&◌, ◌*◌, ◌-◌, ◌≤◌, ltb, eqb, length};
+ghost use Rattle.std.specs.Prelude.{◌≡◌, true, ◌&&◌, ◌*◌, ◌-◌, ◌≤◌, ltb, eqb, length, Ok};
 ghost use Rattle.little_endian.specs.Bytes.{le_at};
 ghost use Rattle.computed_tests.specs.Numbers.{one_to};
 ghost use Rattle.par1_read.specs.Reading.{read_of};
-ghost use Rattle.par1_read.specs.declared.reading.Reading.TheVariants.{Accepted};
 ghost use Rattle.catalog.specs.Catalog.{is_catalog, rows_in};
 ghost use Rattle.catalog.specs.Plan.{counts_of, place_of, place_in, plan_by, plan_add, plan_drop};
 
-use crate::checking::{Counts, Found};
+use crate::checking::Counts;
 use crate::{HEAD_LENGTH, ROW_LENGTH, checking, entry_rows};
 use par1_read::Parts;
 use par1_rules::layout;
@@ -23,20 +22,13 @@ pub struct Place {
     pub present: bool,
 }
 
-// What the tests of a change give: where the row lies, or the number of the refusal.
-#[derive(Clone, Copy)]
-pub enum Planned {
-    Change(Place),
-    Refused(u32),
-}
-
 // Where the row of a volume that is read is to lie, or the number of the first test that holds; the room is not tested.
-pub(crate) fn plan_add(bytes: &[u8], volume: &[u8], parts: Parts) -> Planned
-    requires { read_of volume.now ≡ Accepted parts }
+pub(crate) fn plan_add(bytes: &[u8], volume: &[u8], parts: Parts) -> Result<Place, u32>
+    requires { read_of volume.now ≡ Ok parts }
     ensures { result ≡ plan_add bytes.now volume.now }
 {
-    let Found::Catalog(counts) = checking::find(bytes) else {
-        return Planned::Refused(refusals::CATALOG);
+    let Some(counts) = checking::find(bytes) else {
+        return Err(refusals::CATALOG);
     };
     let place = locate(bytes, counts, parts.number);
     let list = layout::part(volume, layout::HEADER_LENGTH, parts.list_size as usize);
@@ -54,11 +46,11 @@ pub(crate) fn plan_add(bytes: &[u8], volume: &[u8], parts: Parts) -> Planned
 }
 
 // Where the row of volume `number` lies, or the number of the first test that holds.
-pub(crate) fn plan_drop(bytes: &[u8], number: u64) -> Planned
+pub(crate) fn plan_drop(bytes: &[u8], number: u64) -> Result<Place, u32>
     ensures { result ≡ plan_drop bytes.now number }
 {
-    let Found::Catalog(counts) = checking::find(bytes) else {
-        return Planned::Refused(refusals::CATALOG);
+    let Some(counts) = checking::find(bytes) else {
+        return Err(refusals::CATALOG);
     };
     let place = locate(bytes, counts, number);
     let from_11 = test(refusals::ALREADY, place.present, 0);
@@ -71,13 +63,13 @@ pub(crate) fn plan_drop(bytes: &[u8], number: u64) -> Planned
 }
 
 // The change at `place`, unless `number` is that of a refusal.
-fn plan_by(number: u32, place: Place) -> Planned
+fn plan_by(number: u32, place: Place) -> Result<Place, u32>
     ensures { result ≡ plan_by number place }
 {
     if number != 0 {
-        return Planned::Refused(number);
+        return Err(number);
     }
-    Planned::Change(place)
+    Ok(place)
 }
 
 // Where the row of volume `number` lies in a catalog, or is to lie.

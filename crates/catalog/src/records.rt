@@ -3,11 +3,9 @@
 ghost use Rattle.std.specs.Prelude.{◌≡◌};
 ghost use Rattle.catalog.specs.Calls.{loading_of, row_at};
 
-use crate::checking::Found;
 use crate::{HEAD_LENGTH, ROW_LENGTH, checking};
-use lent_bytes::Writing;
 use par1_rules::layout;
-use refusals::bare;
+use refusals::{Refusal, bare};
 
 // A row record, as C's struct par1_row has it: the file number, 0 where the file is not saved, its size, its MD5.
 #[repr(C)]
@@ -19,16 +17,16 @@ pub struct Row {
 }
 
 // What loading a catalog into `room` records answers: how many are filled, or its refusal.
-pub fn loading(catalog: &[u8], room: usize) -> Writing
+pub fn loading(catalog: &[u8], room: usize) -> Result<usize, Refusal>
     ensures { result ≡ loading_of catalog.now room }
 {
-    let Found::Catalog(counts) = checking::find(catalog) else {
-        return Writing::Refused(bare(refusals::CATALOG));
+    let Some(counts) = checking::find(catalog) else {
+        return Err(bare(refusals::CATALOG));
     };
     if room < counts.entries {
-        return Writing::Refused(bare(refusals::NO_ROOM));
+        return Err(bare(refusals::NO_ROOM));
     }
-    Writing::Written(counts.entries)
+    Ok(counts.entries)
 }
 
 // The record of row `i` of a catalog, from 0; zeros where the bytes end before it.

@@ -3,6 +3,7 @@
 --   answer_same    the answer tells no more of the bytes than how many they are
 --   room_cases     either way the room is the same, or both are written
 -- Assumes nothing.
+use Rattle.std.specs.Prelude.{Ok}
 use mathlib.Core.Path.{◌≡◌, refl}
 use mathlib.Core.Bool.{Bool, true, false, cond}
 use mathlib.Core.List.{List, ◌++◌}
@@ -10,7 +11,6 @@ use mathlib.Core.Logic.{◌⊎◌, inl, inr}
 use lib.Dec.{leb, eqb}
 use lib.ListN.{length, drop}
 use Rattle.lent_bytes.specs.Writing.{refused, accepted, written, written_unless}
-use Rattle.lent_bytes.specs.declared.Writing.TheVariants.{Written}
 use Rattle.refusals.specs.Tests.{bare}
 use Rattle.refusals.specs.declared.Refusal.{Refusal}
 use Prim.Native.Nat.{ℕ}
@@ -20,7 +20,7 @@ module _ (r : Refusal) (s t out : List ℕ) (e : length s ≡ length t) where
   unfolding written_unless written
   answer_same = simp e (by (eqb r.number 0) (leb (length t) (length out)))
     where
-      by : (b c : Bool) → (cond b (cond c (Written (length t), s ++ drop (length t) out) (refused (bare 14) out)) (refused r out)).0
+      by : (b c : Bool) → (cond b (cond c (Ok (length t), s ++ drop (length t) out) (refused (bare 14) out)) (refused r out)).0
           ≡ (cond b (cond c (accepted t out) (refused (bare 14) out)) (refused r out)).0
       by true true = refl
       by true false = refl

@@ -5,6 +5,7 @@
 --   Parts, added_parts     what adding gives is the same but for the control hash
 --   opened-same, added_same, rooms_alike     the calls
 -- Assumes nothing.
+use Rattle.std.specs.Prelude.{Ok, Err}
 use mathlib.Core.Path.{◌≡◌, refl, sym, ap, ap₂, ◌∙◌}
 use mathlib.Core.List.{List, ◌∷◌, ◌++◌, append_assoc, append-nil, flatten}
 use mathlib.Core.Logic.{◌⊎◌, inl, inr}
@@ -26,8 +27,7 @@ use Rattle.little_endian.specs.Bytes.{to_le}
 use Rattle.little_endian.proofs.Numbers.{length-to_le}
 use Rattle.little_endian.proofs.Reading.{le_at-append}
 use Rattle.par1_read.specs.Reading.{read_of}
-use Rattle.par1_read.specs.declared.reading.Reading.{Reading}
-use Rattle.par1_read.specs.declared.reading.Reading.TheVariants as reading
+use Rattle.par1_read.specs.Reading.{Reading}
 use Rattle.par1_read.proofs.ReadingLaws.{read_tells, refused_some}
 use Rattle.par1_rules.specs.Layout.{volume_number_of, data_size_of, control_hash_of}
 use Rattle.refusals.specs.Limits.{max_entries}
@@ -128,8 +128,8 @@ parts_room {s} {t} {h} {k} p z e f =
 
 module _ {f g : List ℕ} (a : AlikeButMarks f g) where
   open_refusal_lem : (r : Reading) → open_refusal f r ≡ open_refusal g r
-  open_refusal_lem (reading.Accepted p) = ap (λ (n : ℕ). bare (test 26 (leb n max_entries) 0)) (count_same (entries_alike a))
-  open_refusal_lem (reading.Refused r) = refl
+  open_refusal_lem (Ok p) = ap (λ (n : ℕ). bare (test 26 (leb n max_entries) 0)) (count_same (entries_alike a))
+  open_refusal_lem (Err r) = refl
 
   pub opened-same : (out : List ℕ) → open_of f out ≡ open_of g out
   unfolding open_of
@@ -141,8 +141,8 @@ module _ {f g : List ℕ} (a : AlikeButMarks f g) where
     add_number_lem = simp (volume_number a, rows_same 0 (entries_alike a), count_same (entries_alike a))
 
     add_refusal_lem : (r : Reading) → add_refusal b f r ≡ add_refusal b g r
-    add_refusal_lem (reading.Accepted p) = ap bare add_number_lem
-    add_refusal_lem (reading.Refused r) = refl
+    add_refusal_lem (Ok p) = ap bare add_number_lem
+    add_refusal_lem (Err r) = refl
 
     refusals_same : add_refusal b f (read_of f) ≡ add_refusal b g (read_of g)
     refusals_same = ap (add_refusal b f) (read_same a) ∙ add_refusal_lem (read_of g)
@@ -183,7 +183,7 @@ module _ {f g : List ℕ} (a : AlikeButMarks f g) where
         by (inr e) = let one : (add_of b f).1 ≡ added_bytes b f ++ past = ap (λ w. w.1) one_is ∙ e.0 in
             inr (rw (one, e.1) (parts_room bytes_alike past h k))
 
-    refused_alike : {r : Refusal} → read_of f ≡ reading.Refused r → Alike
+    refused_alike : {r : Refusal} → read_of f ≡ Err r → Alike
     unfolding add_of
     refused_alike {r} e =
         let kept : (s : List ℕ) → (written_unless r s b).1 ≡ b = λ s. ap (λ w. w.1) (sym (unless_refused s b refl (refused_some f e) refl)) in
@@ -197,6 +197,6 @@ module _ {f g : List ℕ} (a : AlikeButMarks f g) where
     rooms_alike = by (read_of f) refl
       where
         by : (r : Reading) → read_of f ≡ r → Alike
-        by (reading.Accepted p) e = let low = (read_tells f p e).tests.header.size.low in
+        by (Ok p) e = let low = (read_tells f p e).tests.header.size.low in
             accepted_alike (simp (length-take, length-drop) (omega arith)) (simp (length-take, length-drop) (omega (arith, a.length-same)))
-        by (reading.Refused r) e = refused_alike e
+        by (Err r) e = refused_alike e

@@ -6,6 +6,7 @@
 --   listing_same, input_same     the listing
 --   chunks_read     reading in chunks is reading, however a file is cut
 -- Assumes nothing.
+use Rattle.std.specs.Prelude.{Ok, Err}
 use mathlib.Core.Path.{◌≡◌, refl, sym, ap, ap₂, ◌∙◌}
 use mathlib.Core.Bool.{Bool, true, false, cond}
 use mathlib.Core.List.{List, ◌++◌, map, flatten, map-id}
@@ -14,8 +15,7 @@ use native.Mathlib.Omega.{arith}
 use lib.Dec.{leb}
 use lib.ListN.{length, take, drop}
 use lib.Seq.{drop-drop}
-use Rattle.entries.specs.declared.Walked.{Walked}
-use Rattle.entries.specs.declared.Walked.TheVariants as walked
+use Rattle.entries.specs.Walk.{Walked}
 use Rattle.entries.specs.Walk.{walk_of}
 use Rattle.lent_bytes.specs.Equal.{equal}
 use Rattle.lent_bytes.proofs.EqualLaws.{equal-same, equal_true}
@@ -24,8 +24,7 @@ use Rattle.listing.specs.Lines.{refused_line, head_line}
 use Rattle.listing.specs.Listing.{listing_by, listing_of, input_listing}
 use Rattle.little_endian.specs.Bytes.{from_le, le_at}
 use Rattle.par1_read.specs.Reading.{header_refusal, control_refusal, totals_refusal, list_refusal, refusal_from, saved_in, parts_from, read_from, entries_in, read_of}
-use Rattle.par1_read.specs.declared.reading.Reading.{Reading}
-use Rattle.par1_read.specs.declared.reading.Reading.TheVariants.{Accepted, Refused}
+use Rattle.par1_read.specs.Reading.{Reading}
 use Rattle.par1_rules.specs.Hashes.{set_hash, control_hash}
 use Rattle.par1_rules.specs.Layout.{control_hash_of, volume_number_of, list_size_of, data_start_of, data_size_of, list_of}
 use Rattle.par1_rules.specs.Rules.{layout_allowed}
@@ -82,9 +81,9 @@ module _ {f g : List ℕ} (a : AlikeButMarks f g) where
 
   list_same : (set : List ℕ) (w : Walked) → list_refusal f set w ≡ list_refusal g set w
   unfolding totals_refusal
-  list_same set (walked.Entries t) =
+  list_same set (Ok t) =
       simp (part_later 0 16 (omega arith), later 8 16 (omega arith), later 8 24 (omega arith), later 8 56 (omega arith))
-  list_same set (walked.Refused r) = refl
+  list_same set (Err r) = refl
 
   parts_same : (saved : ℕ) → parts_from f saved ≡ parts_from g saved
   parts_same saved = let list_size_lem : list_size_of f ≡ list_size_of g = later 8 40 (omega arith) in
@@ -108,8 +107,8 @@ module _ {f g : List ℕ} (a : AlikeButMarks f g) where
   -- ---- the listing
 
   by_same : (r : Reading) → listing_by r f ≡ listing_by r g
-  by_same (Accepted p) = ap (λ (t : List ℕ). head_line p.number p.entries p.saved ++ t) (lines_same 0 entries_alike)
-  by_same (Refused r) = refl
+  by_same (Ok p) = ap (λ (t : List ℕ). head_line p.number p.entries p.saved ++ t) (lines_same 0 entries_alike)
+  by_same (Err r) = refl
 
   pub listing_same : listing_of f ≡ listing_of g
   unfolding listing_of

@@ -5,6 +5,7 @@
 --   answers-same                what an import answers
 --   export_same, import_same    the calls
 -- Assumes nothing.
+use Rattle.std.specs.Prelude.{Ok, Err}
 use mathlib.Core.Path.{◌≡◌, refl, ap, ap₂, fun_ext}
 use mathlib.Core.Bool.{Bool, cond, ◌&&◌, ◌||◌}
 use mathlib.Core.List.{List, [], ◌∷◌, ◌++◌, map}
@@ -18,8 +19,7 @@ use Rattle.md5sum_text.specs.Import.{any, is_listed, has_other, is_again, again_
 use Rattle.md5sum_text.specs.Lines.{lines_of}
 use Rattle.md5sum_text.specs.Names.{is_fitting, is_named}
 use Rattle.par1_read.specs.Reading.{read_of}
-use Rattle.par1_read.specs.declared.reading.Reading.{Reading}
-use Rattle.par1_read.specs.declared.reading.Reading.TheVariants as reading
+use Rattle.par1_read.specs.Reading.{Reading}
 use Rattle.refusals.specs.Tests.{bare, test}
 use Rattle.refusals.specs.declared.Refusal.{Refusal}
 use Rattle.checked_mark.specs.Marks.{Pairs, pairs_none, pairs_more, EntryAlike, AlikeButMarks}
@@ -75,16 +75,16 @@ answers-same ls (pairs_more a ps) = ap₂ (λ (n : ℕ) (ns : List ℕ). n ∷ n
 
 module _ {f g : List ℕ} (a : AlikeButMarks f g) where
   export_refusal_lem : (r : Reading) → export_refusal r f ≡ export_refusal r g
-  export_refusal_lem (reading.Accepted p) = ap (λ (b : Bool). bare (test 24 b 0)) (fitting_same (entries_alike a))
-  export_refusal_lem (reading.Refused r) = refl
+  export_refusal_lem (Ok p) = ap (λ (b : Bool). bare (test 24 b 0)) (fitting_same (entries_alike a))
+  export_refusal_lem (Err r) = refl
 
   pub export_same : (out : List ℕ) → export_into f out ≡ export_into g out
   unfolding export_into
   export_same out = simp (read_same a, export_refusal_lem (read_of g), text_same (entries_alike a))
 
   import_refusal_lem : (r : Reading) (s : List ℕ) → import_refusal r f s ≡ import_refusal r g s
-  import_refusal_lem (reading.Accepted p) s = refusal_same (entries_alike a) (lines_of s)
-  import_refusal_lem (reading.Refused r) s = refl
+  import_refusal_lem (Ok p) s = refusal_same (entries_alike a) (lines_of s)
+  import_refusal_lem (Err r) s = refl
 
   pub import_same : (s out : List ℕ) → import_into f s out ≡ import_into g s out
   unfolding import_into

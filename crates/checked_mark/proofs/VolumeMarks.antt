@@ -5,16 +5,16 @@
 --   volume_alike     those of two such lists differ in marks and control hashes only
 --   written_alike    the claim
 -- Assumes nothing.
+use Rattle.std.specs.Prelude.{Ok}
 use mathlib.Core.Path.{◌≡◌, refl, sym, ap, ap₂, ◌∙◌, subst}
 use mathlib.Core.List.{List, [], ◌∷◌, ◌++◌, append_assoc, append-nil, flatten}
 use Prim.Native.Nat.{ℕ, ◌+◌, ◌^◌, ◌<◌}
 use lib.ListN.{length, take, drop, length-append}
 use Rattle.codes.specs.declared.Code.{Code}
 use Rattle.entries.specs.Walk.{entries_of, walk_of}
-use Rattle.entries.specs.declared.Walked.{Walked}
+use Rattle.entries.specs.Walk.{Walked}
 use Rattle.lent_bytes.specs.Writing.{written_unless}
-use Rattle.lent_bytes.specs.declared.Writing.{Writing}
-use Rattle.lent_bytes.specs.declared.Writing.TheVariants.{Written}
+use Rattle.lent_bytes.specs.Writing.{Writing}
 use Rattle.lent_bytes.proofs.PartsInRow.{At, at_part, at_next}
 use Rattle.lent_bytes.proofs.WritingLaws.{unless_tells}
 use Rattle.little_endian.specs.Bytes.{to_le}
@@ -117,10 +117,10 @@ module _ (code : Code) (program number : ℕ) (area out : List ℕ) {s t : List 
       ∙ ap₂ (λ (w : Walked) (n : ℕ). (written_unless (walk_refusal number w n (length area)) (volume_bytes code program number t area) out).0)
       (walk_same l) (lists_length l)
 
-  files_alike : program < 2 ^ 32 → number < 2 ^ 64 → (n : ℕ) → one.0 ≡ Written n → AlikeButMarks (take n one.1) (take n two.1)
+  files_alike : program < 2 ^ 32 → number < 2 ^ 64 → (n : ℕ) → one.0 ≡ Ok n → AlikeButMarks (take n one.1) (take n two.1)
   unfolding write_volume_of
-  files_alike p v n e = let told : one ≡ (Written n, one.1) = ap (λ (w : Writing). (w, one.1)) e in
-      let other : two ≡ (Written n, two.1) = ap (λ (w : Writing). (w, two.1)) (sym answers-same ∙ e) in
+  files_alike p v n e = let told : one ≡ (Ok n, one.1) = ap (λ (w : Writing). (w, one.1)) e in
+      let other : two ≡ (Ok n, two.1) = ap (λ (w : Writing). (w, two.1)) (sym answers-same ∙ e) in
       let none = (unless_tells (walk_refusal number (walk_of s) (length s) (length area)) (volume_bytes code program number s area) out told).none in
       rw (volume_written code program number s area out n one.1 told, volume_written code program number t area out n two.1 other)
       (volume_alike code program number area l p v (list_passed number s (length area) none))

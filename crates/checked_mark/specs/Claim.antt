@@ -18,7 +18,7 @@
 -- The contracts of read, first, check, write_volume, list, list_input, export, import, open and add cite read_of, first_of, check_of, write_volume_of, listing_of,
 -- input_listing, export_into, import_into, open_of and add_of, those of a running read push_answer and end_answer.
 -- Assumes nothing.
-use Rattle.std.specs.Prelude.{◌≡◌, ◌⊎◌, ℕ, ◌+◌, ◌^◌, ◌<◌, take, drop}
+use Rattle.std.specs.Prelude.{◌≡◌, ◌⊎◌, ℕ, ◌+◌, ◌^◌, ◌<◌, take, drop, Ok}
 use mathlib.Core.List.{List, map, flatten}
 use Rattle.catalog.specs.Calls.{open_of, add_of}
 use Rattle.codes.specs.declared.Code.{Code}
@@ -27,13 +27,12 @@ use Rattle.entries.specs.Walk.{first_of}
 use Rattle.entries.specs.declared.Item.{Item}
 use Rattle.entries.specs.declared.Item.TheVariants as item
 use Rattle.jobs.specs.Job.{after_pushes}
-use Rattle.lent_bytes.specs.declared.Writing.TheVariants.{Written}
 use Rattle.listing.specs.Listing.{listing_of, input_listing}
 use Rattle.md5sum_text.specs.Export.{export_into}
 use Rattle.md5sum_text.specs.Import.{import_into}
 use Rattle.par1.specs.Checking.{check_of}
 use Rattle.par1_read.specs.Reading.{entries_in, read_of}
-use Rattle.par1_read.specs.declared.reading.Reading.{Reading}
+use Rattle.par1_read.specs.Reading.{Reading}
 use Rattle.par1_rules.specs.Layout.{version_for, control_hash_of}
 use Rattle.par1_set.specs.Files.{File}
 use Rattle.par1_set.specs.Volume.{volume_for, index_for, VolumeRight, IndexRight}
@@ -94,7 +93,7 @@ WrittenAlike =
     (code : Code) (program number : ℕ) (s t area out : List ℕ) → program < 2 ^ 32 → number < 2 ^ 64 → ListsAlike s t
     → let one = write_volume_of code program number s area out in
     let two = write_volume_of code program number t area out in
-    (one.0 ≡ two.0) × ((n : ℕ) → one.0 ≡ Written n → AlikeButMarks (take n one.1) (take n two.1))
+    (one.0 ≡ two.0) × ((n : ℕ) → one.0 ≡ Ok n → AlikeButMarks (take n one.1) (take n two.1))
 
 pub record Remarked (f g : List ℕ) (fs gs : List File) : Type 0 where
   pub alike : AlikeButMarks f g

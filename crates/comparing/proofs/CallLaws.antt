@@ -6,6 +6,7 @@
 --   data_part             the data of an accepted file, as code takes it
 --   fit_none              a text that was measured as empty is written by writing nothing
 -- Assumes nothing.
+use Rattle.std.specs.Prelude.{Ok, Err}
 use mathlib.Core.Path.{◌≡◌, refl, sym, ap, ap₂, ◌∙◌}
 use mathlib.Core.List.{List, [], ◌∷◌, ◌++◌}
 use Prim.Native.Nat.{ℕ, ◌+◌, ◌<◌}
@@ -13,14 +14,12 @@ use native.Mathlib.Omega.{arith}
 use lib.ListN.{length, take, drop, length-drop}
 use lib.Seq.{take_all}
 use Rattle.lent_bytes.specs.Writing.{written}
-use Rattle.lent_bytes.specs.declared.Writing.TheVariants.{Written}
 use Rattle.lent_bytes.proofs.WritingLaws.{written_fits}
 use Rattle.refusals.specs.declared.Refusal.{Refusal}
 use Rattle.par1_rules.specs.Layout.{list_size_of, data_of}
 use Rattle.par1_read.specs.Reading.{entries_in, read_of}
 use Rattle.par1_read.specs.declared.reading.Parts.{Parts}
-use Rattle.par1_read.specs.declared.reading.Reading.{Reading}
-use Rattle.par1_read.specs.declared.reading.Reading.TheVariants.{Accepted, Refused}
+use Rattle.par1_read.specs.Reading.{Reading}
 use Rattle.par1_read.proofs.ReadingLaws.{read_tells}
 use Rattle.text.specs.Buffer.{Buffer, buffer, usize_max, put}
 use Rattle.text.proofs.BufferLaws.{put_measure}
@@ -36,24 +35,24 @@ module _ (f g : List ℕ) where
   unfolding comparison_of lines_of
   comparison_by e d = ap₂ (λ (r q : Reading). text_of (lines_by r q f g)) e d
 
-  pub comparison_refused : {r : Refusal} → read_of f ≡ Refused r
+  pub comparison_refused : {r : Refusal} → read_of f ≡ Err r
       → comparison_of f g ≡ text_of (refusal_lines 1 (read_of f)) ++ text_of (refusal_lines 2 (read_of g))
   comparison_refused {r} e =
-      comparison_by e refl ∙ text_append (refusal_lines 1 (Refused r)) (refusal_lines 2 (read_of g))
+      comparison_by e refl ∙ text_append (refusal_lines 1 (Err r)) (refusal_lines 2 (read_of g))
       ∙ ap (λ (r : Reading). text_of (refusal_lines 1 r) ++ text_of (refusal_lines 2 (read_of g))) (sym e)
 
-  pub comparison_refused_2 : {p : Parts} {r : Refusal} → read_of f ≡ Accepted p → read_of g ≡ Refused r
+  pub comparison_refused_2 : {p : Parts} {r : Refusal} → read_of f ≡ Ok p → read_of g ≡ Err r
       → comparison_of f g ≡ text_of (refusal_lines 2 (read_of g))
   comparison_refused_2 e d = comparison_by e d ∙ ap (λ (q : Reading). text_of (refusal_lines 2 q)) (sym d)
 
-  pub comparison_accepted : {p q : Parts} → read_of f ≡ Accepted p → read_of g ≡ Accepted q
+  pub comparison_accepted : {p q : Parts} → read_of f ≡ Ok p → read_of g ≡ Ok q
       → comparison_of f g
       ≡ text_of (head_lines f g) ++ (text_of (entry_lines 1 (entries_in f) (entries_in g)) ++ text_of (run_lines (data_of f) (data_of g)))
   comparison_accepted e d =
       comparison_by e d ∙ text_append (head_lines f g) _
       ∙ ap (λ (t : List ℕ). text_of (head_lines f g) ++ t) (text_append (entry_lines 1 (entries_in f) (entries_in g)) _)
 
-pub data_part : (f : List ℕ) {p : Parts} → read_of f ≡ Accepted p → take (length f) (drop p.data_start f) ≡ data_of f
+pub data_part : (f : List ℕ) {p : Parts} → read_of f ≡ Ok p → take (length f) (drop p.data_start f) ≡ data_of f
 data_part f {p} e = let told = read_tells f p e in
     let start : p.data_start ≡ 96 + list_size_of f =
     ap (λ (p : Parts). p.data_start) told.parts_are ∙ told.tests.header.layout.data_start_lem in
@@ -64,7 +63,7 @@ empty [] e = refl
 empty (b ∷ t) e = absurd (omega arith)
 
 pub fit_none : (t out : List ℕ) {l : List ℕ} {n : ℕ} → buffer l n ≡ put (buffer [] 0) t → length out < usize_max → n ≡ 0
-    → (Written 0, l ++ out) ≡ written t out
+    → (Ok 0, l ++ out) ≡ written t out
 fit_none t out e h z = let none : length t ≡ 0 = omega (arith, ap (λ (b : Buffer). b.at) (e ∙ put_measure t)) in
     written_fits t out (omega arith) (sym none)
     (unwritten t out e h ∙ ap (λ (t : List ℕ). t ++ drop (length t) out) (sym (empty t none)))

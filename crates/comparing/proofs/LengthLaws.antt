@@ -4,6 +4,7 @@
 --   lines_most        the lines of two accepted files are not many
 --   comparison_most   a length of a comparison is below 2^59
 -- Assumes nothing.
+use Rattle.std.specs.Prelude.{Ok, Err}
 use mathlib.Core.Path.{◌≡◌, refl, sym, ap, subst}
 use mathlib.Core.Bool.{Bool, true, false, cond}
 use mathlib.Core.List.Memᴰ
@@ -20,8 +21,7 @@ use Rattle.refusals.specs.declared.Refusal.{Refusal}
 use Rattle.entries.specs.Entry.{length_of}
 use Rattle.par1_rules.specs.Layout.{list_size_of, list_of, data_of}
 use Rattle.par1_read.specs.Reading.{entries_in, read_of}
-use Rattle.par1_read.specs.declared.reading.Reading.{Reading}
-use Rattle.par1_read.specs.declared.reading.Reading.TheVariants.{Accepted, Refused}
+use Rattle.par1_read.specs.Reading.{Reading}
 use Rattle.par1_read.proofs.RangeLaws.{refusal_within}
 use Rattle.par1_read.proofs.ReadingLaws.{read_tells, refused_is}
 use Rattle.text.specs.Decimal.{decimal}
@@ -205,12 +205,12 @@ refused_lines f g n w l m = let found = refused_only f g n w l m in
 
 -- ---- the comparison
 
-few_lines : (f g : List ℕ) (n : ℕ) (r q : Reading) → ((t : Refusal) × (r ≡ Refused t)) ⊎ ((t : Refusal) × (q ≡ Refused t))
+few_lines : (f g : List ℕ) (n : ℕ) (r q : Reading) → ((t : Refusal) × (r ≡ Err t)) ⊎ ((t : Refusal) × (q ≡ Err t))
     → length (lines_by r q f g) ≤ 2
-few_lines f g n (Accepted p) (Accepted q) w = absurd (⊎_elim (λ w. never w.1) (λ w. never w.1) w)
-few_lines f g n (Accepted p) (Refused r) w = omega arith
-few_lines f g n (Refused r) (Accepted q) w = omega arith
-few_lines f g n (Refused r) (Refused q) w = omega arith
+few_lines f g n (Ok p) (Ok q) w = absurd (⊎_elim (λ w. never w.1) (λ w. never w.1) w)
+few_lines f g n (Ok p) (Err r) w = omega arith
+few_lines f g n (Err r) (Ok q) w = omega arith
+few_lines f g n (Err r) (Err q) w = omega arith
 
 pub comparison_most : (f g : List ℕ) → length (comparison_of f g) < 2 ^ 59
 unfolding comparison_of lines_of

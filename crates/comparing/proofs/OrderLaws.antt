@@ -2,6 +2,7 @@
 --
 --   ordered     the claim
 -- Assumes nothing.
+use Rattle.std.specs.Prelude.{Ok, Err}
 use mathlib.Core.Path.{◌≡◌, refl, sym}
 use mathlib.Core.Bool.{Bool, true, ◌&&◌}
 use mathlib.Core.List.{List, [], ◌∷◌, ◌++◌, map}
@@ -15,8 +16,7 @@ use Rattle.cut_lists.specs.All.{All, all_none, all_more}
 use Rattle.cut_lists.proofs.AllLaws.{all_map}
 use Rattle.par1_rules.specs.Layout.{data_of}
 use Rattle.par1_read.specs.Reading.{entries_in, read_of}
-use Rattle.par1_read.specs.declared.reading.Reading.{Reading}
-use Rattle.par1_read.specs.declared.reading.Reading.TheVariants.{Accepted, Refused}
+use Rattle.par1_read.specs.Reading.{Reading}
 use Rattle.comparing.specs.Claim.{head_place, entry_place, Before, Pairwise, pairwise_none, pairwise_more, Ordered}
 use Rattle.comparing.specs.Claim.{head_head, head_entry, head_all, head_run, same-entry, entry-entry, entry_all, entry_run}
 use Rattle.comparing.specs.Claim.{all_all, all_run, run_run, refused-refused}
@@ -213,10 +213,10 @@ accepted_right f g = let a = data_of f in
     )
 
 by_readings : (r q : Reading) (f g : List ℕ) → Right (lines_by r q f g)
-by_readings (Accepted p) (Accepted q) f g = accepted_right f g
-by_readings (Accepted p) (Refused r) f g = (pairwise_more all_none pairwise_none, all_more tt all_none)
-by_readings (Refused r) (Accepted p) f g = (pairwise_more all_none pairwise_none, all_more tt all_none)
-by_readings (Refused r) (Refused q) f g = (
+by_readings (Ok p) (Ok q) f g = accepted_right f g
+by_readings (Ok p) (Err r) f g = (pairwise_more all_none pairwise_none, all_more tt all_none)
+by_readings (Err r) (Ok p) f g = (pairwise_more all_none pairwise_none, all_more tt all_none)
+by_readings (Err r) (Err q) f g = (
   pairwise_more (all_more (refused-refused {s = 1} {t = 2} (omega arith)) all_none) (pairwise_more all_none pairwise_none),
   all_more tt (all_more tt all_none),
 )

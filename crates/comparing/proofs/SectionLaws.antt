@@ -14,7 +14,7 @@ use native.Mathlib.Omega.{arith}
 use Rattle.cut_lists.specs.All.{All, all_none, all_more}
 use Rattle.par1_rules.specs.Layout.{data_of}
 use Rattle.par1_read.specs.Reading.{entries_in}
-use Rattle.par1_read.specs.declared.reading.Reading.{Reading}
+use Rattle.par1_read.specs.Reading.{Reading}
 use Rattle.comparing.specs.Claim.{IsAccepted}
 use Rattle.comparing.specs.Lines.{Line, head, entry, all, run, refused}
 use Rattle.comparing.specs.Differences.{entry_table, differing, head_table, head_lines, all_lines, entry_lines}

@@ -26,7 +26,7 @@
 -- What excludes an empty reading: each claim says which lines there are, and not only what one would mean; and there are files that reading
 -- accepts (`par1` specs/Claim).
 -- Assumes nothing.
-use Rattle.std.specs.Prelude.{◌≡◌, ◌⊎◌, ◌↔◌, ℕ, ◌+◌, ◌-◌, ◌≤◌, ◌<◌, length, get_or}
+use Rattle.std.specs.Prelude.{◌≡◌, ◌⊎◌, ◌↔◌, ℕ, ◌+◌, ◌-◌, ◌≤◌, ◌<◌, length, get_or, Ok, Err}
 use mathlib.Core.List.{List, [], ◌∷◌, map, flatten, Memᴰ}
 use Rattle.cut_lists.specs.All.{All}
 use Rattle.little_endian.specs.Bytes.{Bytes}
@@ -35,7 +35,6 @@ use Rattle.entries.specs.Entry.{entry_size, status_of, file_size_of, md5_of, md5
 use Rattle.par1_rules.specs.Layout.{version_of, program_of, control_hash_of, set_hash_of, volume_number_of, count_of, list_size_of, data_start_of, data_size_of}
 use Rattle.par1_read.specs.Reading.{entries_in, read_of}
 use Rattle.par1_read.specs.declared.reading.Parts.{Parts}
-use Rattle.par1_read.specs.declared.reading.Reading.TheVariants.{Accepted, Refused}
 use Rattle.comparing.specs.Lines.{HeadField, version_field, program_field, control_field, set-field, number_field}
 use Rattle.comparing.specs.Lines.{files_field, list_field, start-field, data_field}
 use Rattle.comparing.specs.Lines.{EntryField, length-field, status_field, size_field, md5-field, md5_16k_field, name_field}
@@ -43,10 +42,10 @@ use Rattle.comparing.specs.Lines.{Line, head, entry, all, run, refused, line_tex
 use Rattle.comparing.specs.Comparing.{lines_of, comparison_of}
 
 abbrev pub IsAccepted : List ℕ → Type 0
-IsAccepted f = (p : Parts) × (read_of f ≡ Accepted p)
+IsAccepted f = (p : Parts) × (read_of f ≡ Ok p)
 
 abbrev pub RefusedWith : List ℕ → ℕ → Type 0
-RefusedWith f n = (r : Refusal) × (read_of f ≡ Refused r) × (r.number ≡ n)
+RefusedWith f n = (r : Refusal) × (read_of f ≡ Err r) × (r.number ≡ n)
 
 pub record Compared (f g : List ℕ) : Type 0 where
   pub bytes_one : Bytes f

@@ -13,27 +13,26 @@ mod lists;
 mod runs;
 mod scan;
 
-use lent_bytes::Writing;
-use par1_read::Reading;
+use par1_read::Parts;
 use par1_rules::layout::{HEADER_LENGTH, part};
-use refusals::bare;
+use refusals::{Refusal, bare};
 
 // A line for each difference of the files `one` and `two` over the first bytes of `out`, and their length; or 14, and nothing written, where
 // they do not fit.
-pub fn compare<'a, 'b>(one: &'a [u8], two: &'a [u8], out: &'b mut [u8]) -> Writing
+pub fn compare<'a, 'b>(one: &'a [u8], two: &'a [u8], out: &'b mut [u8]) -> Result<usize, Refusal>
     ensures { (result, out.new) ≡ written (comparison_of one.now two.now) out.old }
 {
     let first = par1_read::read(one);
     let second = par1_read::read(two);
     let length = put_comparison(&mut out[..0], one, two, first, second);
     if length == 0 {
-        return Writing::Written(0);
+        return Ok(0);
     }
     if length <= out.len() {
         put_comparison(out, one, two, first, second);
-        return Writing::Written(length);
+        return Ok(length);
     }
-    Writing::Refused(bare(refusals::NO_ROOM))
+    Err(bare(refusals::NO_ROOM))
 }
 
 // The lines on two files that read as `first` and `second`, from position 0 on.
@@ -41,17 +40,17 @@ fn put_comparison<'a, 'b>(
     out: &'a mut [u8],
     one: &'b [u8],
     two: &'b [u8],
-    first: Reading,
-    second: Reading,
+    first: Result<Parts, Refusal>,
+    second: Result<Parts, Refusal>,
 ) -> usize
     requires { (first ≡ read_of one.now) × (second ≡ read_of two.now) }
     ensures { buffer out.new result ≡ put_of (buffer out.old 0) (comparison_of one.now two.now) }
 {
-    let Reading::Accepted(p) = first else {
+    let Ok(p) = first else {
         let at = lines::put_refusal(out, 0, 1, first);
         return lines::put_refusal(out, at, 2, second);
     };
-    let Reading::Accepted(q) = second else {
+    let Ok(q) = second else {
         return lines::put_refusal(out, 0, 2, second);
     };
     let at = fields::put_header(out, 0, one, two);

@@ -4,7 +4,9 @@ ghost use Rattle.text.specs.Buffer.{buffer, put as put_of};
 ghost use Rattle.comparing.specs.Lines.{head_text, entry_text, run_text, text_of};
 ghost use Rattle.comparing.specs.Comparing.{refusal_lines};
 
-use par1_read::Reading;
+
+use par1_read::Parts;
+use refusals::Refusal;
 
 // The line on the field of the header with this name.
 pub(crate) fn put_head<'a, 'b>(out: &'a mut [u8], at: usize, name: &'b [u8]) -> usize
@@ -35,10 +37,10 @@ pub(crate) fn put_run(out: &mut [u8], at: usize, first: u64, last: u64) -> usize
 }
 
 // The line on the file of this side, where its reading is a refusal.
-pub(crate) fn put_refusal(out: &mut [u8], at: usize, side: u64, reading: Reading) -> usize
+pub(crate) fn put_refusal(out: &mut [u8], at: usize, side: u64, reading: Result<Parts, Refusal>) -> usize
     ensures { buffer out.new result ≡ put_of (buffer out.old at) (text_of (refusal_lines side reading)) }
 {
-    let Reading::Refused(refusal) = reading else {
+    let Err(refusal) = reading else {
         return at;
     };
     let at = text::put_field(out, at, b"refused ", side);

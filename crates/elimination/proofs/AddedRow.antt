@@ -6,8 +6,9 @@
 --   row_dependent, row_independent     the two cases, for a row whose product and pivot were worked out
 --   pivot_has_inverse                  the inverse of a pivot is not refused
 -- Assumes nothing.
+use Rattle.std.specs.Prelude.{Ok, Err}
 use mathlib.Core.Path.{◌≡◌, refl, sym, ap, ap₂, ◌∙◌, subst}
-use mathlib.Core.Bool.{Bool, cond, ◌&&◌, and-false}
+use mathlib.Core.Bool.{Bool, true, false, cond, ◌&&◌, and-false}
 use mathlib.Core.List.{List}
 use Prim.Native.Nat.{ℕ, ◌<◌, ◌≤◌, ◌+◌, ◌/◌, ◌%◌}
 use native.Mathlib.Nat.{zero-add}
@@ -20,15 +21,14 @@ use lib.Seq.{get_or-set_same, get_or-set_other}
 use borrow.Author.Tests.{eq-eqb, ne_eqb, lt-ltb, le-ltb}
 use Rattle.computed_tests.proofs.Lists.{list_below-same}
 use Rattle.gf256.specs.Answer.{inverse_answer}
-use Rattle.gf256.specs.declared.ByteAnswer.{ByteAnswer}
-use Rattle.gf256.specs.declared.ByteAnswer.TheVariants.{Byte, Refused}
+use Rattle.gf256.specs.Answer.{ByteAnswer}
 use Rattle.gf256.specs.Field.{product, inverse}
 use Rattle.elimination.specs.Reduction.{entry, row_product, pivot_of, swept_entry, column_taken, row_added}
 use Rattle.elimination.specs.Reduction.{row_product_within, pivot_within, swept_within, column_taken_within, row_added_within}
 use Rattle.elimination.proofs.Pivots.{IsPivot, pivot_is, pivot_same}
 
 -- the answer of a call for the inverse of a
-answered : (a s : ℕ) → inverse_answer a ≡ Byte s → s ≡ inverse a
+answered : (a s : ℕ) → inverse_answer a ≡ Ok s → s ≡ inverse a
 unfolding inverse_answer
 answered a s e = elim (ℕ_discrete a 0) [
   | yes z ↦ absurd (differ (sym (ap choice (eq-eqb a 0 z)) ∙ e))
@@ -36,22 +36,22 @@ answered a s e = elim (ℕ_discrete a 0) [
 ]
   where
     choice : Bool → ByteAnswer
-    choice b = cond b (Refused 10) (Byte (inverse a))
+    choice b = cond b (Err 10) (Ok (inverse a))
 
-    differ : Refused 10 ≡ Byte s → ⊥
+    differ : choice true ≡ Ok s → ⊥
     differ h = let z : ◌≡◌ {A = ℕ} 0 1 = cc in omega arith
 
-    same : Byte (inverse a) ≡ Byte s → s ≡ inverse a
+    same : choice false ≡ Ok s → s ≡ inverse a
     same h = cc
 
-refused : (a n : ℕ) → inverse_answer a ≡ Refused n → a ≡ 0
+refused : (a n : ℕ) → inverse_answer a ≡ Err n → a ≡ 0
 unfolding inverse_answer
 refused a n e = elim (ℕ_discrete a 0) [
   | yes z ↦ z
-  | no z ↦ absurd (differ (sym (ap (λ (b : Bool). cond b (Refused 10) (Byte (inverse a))) (ne_eqb a 0 z)) ∙ e))
+  | no z ↦ absurd (differ (sym (ap (λ (b : Bool). cond b (Err 10) (Ok (inverse a))) (ne_eqb a 0 z)) ∙ e))
 ]
   where
-    differ : Byte (inverse a) ≡ Refused n → ⊥
+    differ : Ok (inverse a) ≡ Err n → ⊥
     differ h = let z : ◌≡◌ {A = ℕ} 0 1 = cc in omega arith
 
 -- ---- the two cases
@@ -106,12 +106,12 @@ module _ (w : ℕ) (u m owners y : List ℕ) (k : ℕ) (hw : w ≤ 256) (long : 
   pub row_dependent : (number : ℕ) → w ≤ k → (m, owners) ≡ row_added_within w u number m owners
   row_dependent number h = sym (left_within w u number m owners (subst (λ (i : ℕ). w ≤ i) same_pivot h))
 
-  pub pivot_has_inverse : (n : ℕ) → k < w → inverse_answer (get_or y k 0) ≡ Refused n → ⊥
+  pub pivot_has_inverse : (n : ℕ) → k < w → inverse_answer (get_or y k 0) ≡ Err n → ⊥
   pivot_has_inverse n l e =
       let P = subst (IsPivot w (row_product_within w u m) owners) (sym same_pivot) (pivot_is w (row_product_within w u m) owners) in
       (P.found l).1 (sym (at k l) ∙ refused (get_or y k 0) n e)
 
-  pub row_independent : (number scale : ℕ) (m' : List ℕ) → k < w → inverse_answer (get_or y k 0) ≡ Byte scale
+  pub row_independent : (number scale : ℕ) (m' : List ℕ) → k < w → inverse_answer (get_or y k 0) ≡ Ok scale
       → m' ≡ swept_within w (λ j. get_or (set y k (bit_xor (get_or y k 0) 1)) j 0) k scale m
       → (m', set owners k number) ≡ row_added_within w u number m owners
   unfolding column_taken_within

@@ -13,7 +13,6 @@ ghost use Rattle.mul_add.specs.MulAdd.{mul_add};
 ghost use Rattle.elimination.specs.Reduction.{with_diagonal, is_solvable, weight_of};
 ghost use Rattle.elimination.specs.Reduction.{in_blocks, row_product_within, pivot_within, swept_within, row_added_within};
 
-use gf256::ByteAnswer;
 
 // Sets the diagonal to 1: makes the identity of a matrix of zeros.
 pub fn set_diagonal(matrix: &mut [u8; 65536])
@@ -44,7 +43,7 @@ pub fn add_row(
     let mut y = row_times(&powers, &exponents, width, row, matrix);
     let k = pivot(width, &y, 0, owners);
     if k < width {
-        let ByteAnswer::Byte(scale) = gf256::inverse(y[k]) else {
+        let Ok(scale) = gf256::inverse(y[k]) else {
             return;
         };
         y[k] = y[k] ^ 1;

@@ -11,6 +11,7 @@
 --   no_sizes          no entry has fewer than 58 bytes
 --   first_refused, stray_bytes     the claims
 -- Assumes nothing.
+use Rattle.std.specs.Prelude.{Err}
 use mathlib.Core.Path.{◌≡◌, refl, sym, ap, ap₂, ◌∙◌, subst}
 use mathlib.Core.Bool.{Bool, true, false}
 use mathlib.Core.List.{List, [], ◌∷◌, ◌++◌, append_assoc, flatten}
@@ -30,7 +31,6 @@ use Rattle.entries.specs.Entry.{entry_size, file_size_of, name_of, length_of}
 use Rattle.entries.specs.Entry.{name_allowed, file_size_allowed, entry_size_allowed, body_allowed, entry_allowed}
 use Rattle.entries.specs.Walk.{fault_of, fault_number, refusal_at, first_of, entries_of, totals_of, walked_to, walk_of}
 use Rattle.entries.specs.declared.Item.TheVariants as item
-use Rattle.entries.specs.declared.Walked.TheVariants as walked
 use Rattle.entries.proofs.EntryLaws.{sized, length_sized}
 
 pub sized_right : (n m : ℕ) → n % 2 ≡ 0 → 58 ≤ n → n ≤ m → entry_size_allowed n m ≡ true
@@ -129,14 +129,14 @@ entries_kept (all_more {x = e} {xs = es} k ks) t z = let s : List ℕ = flatten 
 
 -- ---- the claims
 
-refused_first : (s : List ℕ) (r : Refusal) → walk_of s ≡ walked.Refused r → FirstFault s r
+refused_first : (s : List ℕ) (r : Refusal) → walk_of s ≡ Err r → FirstFault s r
 unfolding walk_of
 refused_first s r e = by (entries_of s).rest refl e
   where
     es : List (List ℕ)
     es = (entries_of s).pieces
 
-    by : (t : List ℕ) → t ≡ (entries_of s).rest → walked_to (totals_of es) t ≡ walked.Refused r → FirstFault s r
+    by : (t : List ℕ) → t ≡ (entries_of s).rest → walked_to (totals_of es) t ≡ Err r → FirstFault s r
     by [] z e = absurd (let z : ◌≡◌ {A = ℕ} 0 1 = cc in omega arith)
     by (b ∷ t) z e = let is : refusal_at (fault_of (b ∷ t)) (length es + 1) ≡ r = cc in
         let some : 0 < length (entries_of s).rest = omega (arith, ap length z) in
@@ -151,7 +151,7 @@ refused_first s r e = by (entries_of s).rest refl e
           place_is = sym (ap (λ (r : Refusal). r.place) is);
         }
 
-first_refuses : (s : List ℕ) (r : Refusal) → FirstFault s r → walk_of s ≡ walked.Refused r
+first_refuses : (s : List ℕ) (r : Refusal) → FirstFault s r → walk_of s ≡ Err r
 unfolding walk_of
 first_refuses s r f = let told = fault_broken f.rest f.breaks in
     let found : entries_of s ≡ record { pieces = f.earlier; rest = f.rest } =
@@ -159,9 +159,9 @@ first_refuses s r f = let told = fault_broken f.rest f.breaks in
     ap (λ (c : Cut). walked_to (totals_of c.pieces) c.rest) found
     ∙ by f.rest f.some told.1
   where
-    by : (t : List ℕ) → 0 < length t → fault_number (fault_of t) ≡ r.number → walked_to (totals_of f.earlier) t ≡ walked.Refused r
+    by : (t : List ℕ) → 0 < length t → fault_number (fault_of t) ≡ r.number → walked_to (totals_of f.earlier) t ≡ Err r
     by [] h e = absurd (omega arith)
-    by (b ∷ t) h e = ap₂ (λ (n p : ℕ). walked.Refused (record { number = n; place = p })) e (sym f.place_is)
+    by (b ∷ t) h e = ap₂ (λ (n p : ℕ). Err (record { number = n; place = p })) e (sym f.place_is)
 
 pub first_refused : FirstRefused
 first_refused s r = (refused_first s r, first_refuses s r)

@@ -15,6 +15,7 @@
 --   Added t u      u is t with one entry more, and at most one saved entry more
 --   add_added      an entry more is one entry more, and one saved entry more at most
 -- Assumes nothing.
+use Rattle.std.specs.Prelude.{Ok, Err}
 use mathlib.Core.Path.{◌≡◌, refl, sym, ap, ap₂, ◌∙◌}
 use mathlib.Core.Bool.{Bool, true, false, cond}
 use mathlib.Core.Logic.{inl, inr}
@@ -36,8 +37,7 @@ use Rattle.entries.specs.declared.Fault.TheVariants.{Size, FileSize, Name}
 use Rattle.entries.specs.declared.Item.{Item}
 use Rattle.entries.specs.declared.Item.TheVariants as item
 use Rattle.entries.specs.declared.Totals.{Totals}
-use Rattle.entries.specs.declared.Walked.{Walked}
-use Rattle.entries.specs.declared.Walked.TheVariants as walked
+use Rattle.entries.specs.Walk.{Walked}
 use Rattle.entries.proofs.EntryLaws.{length_sized, IsEntry, IsFault, is_end, is_fault}
 
 pub entries_more : {s : List ℕ} {n status size : ℕ} → IsEntry s n status size → entries_of s ≡ before (take n s) (entries_of (drop n s))
@@ -148,33 +148,33 @@ walk_more t {s} {n} {status} {size} i = let rest : Cut = entries_of (drop n s) i
     ∙ ap (λ (u : Totals). walked_to u rest.rest) (plus-entry t e rest.pieces)
     ∙ ap (walk_from t) (sym (entries_more i))
 
-pub walk_end : (t : Totals) {s : List ℕ} → s ≡ [] → walk_from t (entries_of s) ≡ walked.Entries t
+pub walk_end : (t : Totals) {s : List ℕ} → s ≡ [] → walk_from t (entries_of s) ≡ Ok t
 unfolding walk_from
 walk_end t {s} e =
     ap (λ (l : List ℕ). walk_from t (entries_of l)) e ∙ ap (walk_from t) (cut-none length_of)
-    ∙ ap walked.Entries (same (omega arith) (omega arith) (omega arith))
+    ∙ ap Ok (same (omega arith) (omega arith) (omega arith))
 
-pub stopped : (t : Totals) (s : List ℕ) → 0 < length s → walked_to t s ≡ walked.Refused (refusal_at (fault_of s) (t.entries + 1))
+pub stopped : (t : Totals) (s : List ℕ) → 0 < length s → walked_to t s ≡ Err (refusal_at (fault_of s) (t.entries + 1))
 stopped t [] h = absurd (omega arith)
 stopped t (b ∷ s) h = refl
 
-pub walk_fault : (t : Totals) {s : List ℕ} {f : Fault} → IsFault s f → walk_from t (entries_of s) ≡ walked.Refused (refusal_at f (t.entries + 1))
+pub walk_fault : (t : Totals) {s : List ℕ} {f : Fault} → IsFault s f → walk_from t (entries_of s) ≡ Err (refusal_at f (t.entries + 1))
 unfolding walk_from
 walk_fault t {s} i = let place : t.entries + 0 + 1 ≡ t.entries + 1 = omega arith in
     ap (walk_from t) (cut_stop length_of s i.length_zero) ∙ stopped _ s i.some
-    ∙ ap₂ (λ (f : Fault) (p : ℕ). walked.Refused (refusal_at f p)) (sym i.fault_is) place
+    ∙ ap₂ (λ (f : Fault) (p : ℕ). Err (refusal_at f p)) (sym i.fault_is) place
 
 -- ---- a walk to the end
 
-pub walk_totals : (s : List ℕ) {t : Totals} → walk_of s ≡ walked.Entries t → t ≡ totals_of (entries_of s).pieces
+pub walk_totals : (s : List ℕ) {t : Totals} → walk_of s ≡ Ok t → t ≡ totals_of (entries_of s).pieces
 unfolding walk_of
 walk_totals s {t} e = by (entries_of s).rest e
   where
-    by : (r : List ℕ) → walked_to (totals_of (entries_of s).pieces) r ≡ walked.Entries t → t ≡ totals_of (entries_of s).pieces
+    by : (r : List ℕ) → walked_to (totals_of (entries_of s).pieces) r ≡ Ok t → t ≡ totals_of (entries_of s).pieces
     by [] e = cc
     by (b ∷ r) e = absurd (let z : ◌≡◌ {A = ℕ} 0 1 = cc in omega arith)
 
-module _ (s : List ℕ) {t : Totals} (e : walk_of s ≡ walked.Entries t) where
+module _ (s : List ℕ) {t : Totals} (e : walk_of s ≡ Ok t) where
   pub walk_count : t.entries ≡ length (entries_of s).pieces
   walk_count = ap (λ (u : Totals). u.entries) (walk_totals s e)
 
@@ -202,11 +202,11 @@ pub record WalkRefused (s : List ℕ) (r : Refusal) : Type 0 where
   pub high : r.number ≤ 18
   pub place_most : r.place ≤ length s / 58 + 1
 
-pub walk_refused : (s : List ℕ) {r : Refusal} → walk_of s ≡ walked.Refused r → WalkRefused s r
+pub walk_refused : (s : List ℕ) {r : Refusal} → walk_of s ≡ Err r → WalkRefused s r
 unfolding walk_of
 walk_refused s {r} e = by (entries_of s).rest e
   where
-    by : (t : List ℕ) → walked_to (totals_of (entries_of s).pieces) t ≡ walked.Refused r → WalkRefused s r
+    by : (t : List ℕ) → walked_to (totals_of (entries_of s).pieces) t ≡ Err r → WalkRefused s r
     by [] e = absurd (let z : ◌≡◌ {A = ℕ} 0 1 = cc in omega arith)
     by (b ∷ t) e = let f : Fault = fault_of (b ∷ t) in
         let is : refusal_at f (length (entries_of s).pieces + 1) ≡ r = cc in

@@ -13,13 +13,12 @@
 --   NamesRefused      an entry of the right sizes is refused with 18 exactly where its name is unstorable
 -- The contract of walk cites walk_of; the contracts of the other calls that meet a name lead to name_allowed.
 -- Assumes nothing.
-use Rattle.std.specs.Prelude.{◌≡◌, true, false, ◌⊎◌, ℕ, ◌+◌, ◌%◌, ◌<◌, length, take, get_or}
+use Rattle.std.specs.Prelude.{◌≡◌, true, false, ◌⊎◌, ℕ, ◌+◌, ◌%◌, ◌<◌, length, take, get_or, Err}
 use mathlib.Core.List.{List, [], ◌∷◌, ◌++◌, flatten}
 use Rattle.refusals.specs.declared.Refusal.{Refusal}
 use Rattle.cut_lists.specs.All.{All}
 use Rattle.entries.specs.Entry.{entry_size, file_size_of, name_of, units_of, entry_size_allowed, file_size_allowed, name_allowed}
 use Rattle.entries.specs.Walk.{walk_of}
-use Rattle.entries.specs.declared.Walked.TheVariants as walked
 
 pub record Keeps (e : List ℕ) : Type 0 where
   pub fills : entry_size e ≡ length e
@@ -49,7 +48,7 @@ pub record FirstFault (s : List ℕ) (r : Refusal) : Type 0 where
 -- proved: proofs/FirstFaults.antt, `first_refused`
 abbrev pub FirstRefused : Type 0
 FirstRefused =
-    (s : List ℕ) (r : Refusal) → (walk_of s ≡ walked.Refused r → FirstFault s r) × (FirstFault s r → walk_of s ≡ walked.Refused r)
+    (s : List ℕ) (r : Refusal) → (walk_of s ≡ Err r → FirstFault s r) × (FirstFault s r → walk_of s ≡ Err r)
 
 -- "or fewer than 8 bytes left": no entry has fewer than 58; proved: proofs/FirstFaults.antt, `stray_bytes`
 abbrev pub StrayBytes : Type 0

@@ -1,6 +1,7 @@
 -- The walk over a list (document 01, "Byte layout": "Entries fill the list area with nothing left over"; document 02, 2026-01: "Entries are
 -- walked from the first; the first fault is given with the entry's place in the list, from 1").
 --
+--   Walked            what the walk finds: the totals of the entries to its end, or the refusal of the first that breaks a rule
 --   fault_of s        the first rule that the entry at the front of s breaks, where it breaks one
 --   fault_number f    the number of the refusal for a fault
 --   refusal_at f p    the refusal for a fault of the entry at place p
@@ -13,7 +14,7 @@
 --   walked_to t s     the totals t, where s, which remains after their entries, is empty; or the refusal of the entry at its front
 --   walk_of s         the totals of the entries of s, where they fill it; or the refusal of the first entry that breaks a rule
 -- Assumes nothing.
-use Rattle.std.specs.Prelude.{ℕ, ◌+◌, max, cond, length, take}
+use Rattle.std.specs.Prelude.{ℕ, ◌+◌, max, cond, length, take, Result, Ok, Err}
 use mathlib.Core.List.{List, [], ◌∷◌, map, foldr}
 use Rattle.cut_lists.specs.Pieces.{Cut, cut}
 use Rattle.refusals.specs.declared.Refusal.{Refusal}
@@ -24,8 +25,9 @@ use Rattle.entries.specs.declared.Fault.TheVariants.{Size, FileSize, Name}
 use Rattle.entries.specs.declared.Item.{Item}
 use Rattle.entries.specs.declared.Item.TheVariants as item
 use Rattle.entries.specs.declared.Totals.{Totals}
-use Rattle.entries.specs.declared.Walked.{Walked}
-use Rattle.entries.specs.declared.Walked.TheVariants as walked
+
+abbrev pub Walked : Type 0
+Walked = Result Totals Refusal
 
 -- "Within an entry in that order": the entry's size, its file's size, its name
 unfoldable pub fault_of : List ℕ → Fault
@@ -69,8 +71,8 @@ add_entry t status size =
 
 -- the entry at the front of what remains comes after those of the totals
 abbrev pub walked_to : Totals → List ℕ → Walked
-walked_to t [] = walked.Entries t
-walked_to t (b ∷ s) = walked.Refused (refusal_at (fault_of (b ∷ s)) (t.entries + 1))
+walked_to t [] = Ok t
+walked_to t (b ∷ s) = Err (refusal_at (fault_of (b ∷ s)) (t.entries + 1))
 
 unfoldable pub walk_of : List ℕ → Walked
 walk_of s = walked_to (totals_of (entries_of s).pieces) (entries_of s).rest

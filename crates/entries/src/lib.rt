@@ -53,13 +53,6 @@ pub struct Totals {
     pub greatest: u64,
 }
 
-// What the walk over a list finds: entries to its end, or the first that breaks a rule.
-#[derive(Clone, Copy)]
-pub enum Walked {
-    Entries(Totals),
-    Refused(Refusal),
-}
-
 // The first entry of `list`, as numbers. The entry is the first `length` bytes, and the list goes on after it.
 pub fn first(list: &[u8]) -> Item
     ensures { result ≡ first_of list.now }
@@ -114,7 +107,7 @@ pub fn length_at(list: &[u8], from: usize) -> usize
 }
 
 // The totals of the entries of `list`, or the refusal of the first that breaks a rule, with its place.
-pub fn walk(list: &[u8]) -> Walked
+pub fn walk(list: &[u8]) -> Result<Totals, Refusal>
     ensures { result ≡ walk_of list.now }
 {
     let mut totals = Totals {
@@ -133,8 +126,8 @@ pub fn walk(list: &[u8]) -> Walked
                 totals = added(totals, status, size);
                 from += length;
             }
-            Item::End => return Walked::Entries(totals),
-            Item::Fault(fault) => return Walked::Refused(refusal_at(fault, totals.entries + 1)),
+            Item::End => return Ok(totals),
+            Item::Fault(fault) => return Err(refusal_at(fault, totals.entries + 1)),
         }
     }
 }

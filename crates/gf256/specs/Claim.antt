@@ -7,13 +7,12 @@
 --   OneTable             there is one table of exponents
 --   ByTables             products and powers by the tables are the products and powers
 -- Assumes nothing.
-use Rattle.std.specs.Prelude.{◌≡◌, List, ℕ, ◌<◌}
+use Rattle.std.specs.Prelude.{◌≡◌, List, ℕ, ◌<◌, Ok, Err}
 use Rattle.std.specs.Int.Bits.{bit_xor}
 use Rattle.gf256.specs.Polynomial.{poly_product, IsRemainder}
 use Rattle.gf256.specs.Answer.{inverse_answer}
 use Rattle.gf256.specs.Field.{product, power, inverse}
 use Rattle.gf256.specs.Tables.{powers_of_2, IsExponents, product_by, power_by}
-use Rattle.gf256.specs.declared.ByteAnswer.TheVariants.{Byte, Refused}
 
 -- "Product is the polynomial product reduced by 285"; proved: proofs/Remainder.antt, `product_is_remainder`
 abbrev pub ProductIsRemainder : Type 0
@@ -43,8 +42,8 @@ OneInverse =
 
 -- "10 .. inverse of 0"; proved: proofs/Inverses.antt, `inverse-answered`
 pub record InverseAnswered : Type 0 where
-  pub of_zero : inverse_answer 0 ≡ Refused 10
-  pub of_others : (a : ℕ) → 0 < a → inverse_answer a ≡ Byte (inverse a)
+  pub of_zero : inverse_answer 0 ≡ Err 10
+  pub of_others : (a : ℕ) → 0 < a → inverse_answer a ≡ Ok (inverse a)
 
 -- document 02, 2026-04: "in the other, for each non-zero byte, the exponent that gives it"; proved: proofs/TableLaws.antt, `one_table`
 abbrev pub OneTable : Type 0

@@ -12,13 +12,6 @@ mod tables;
 pub use by_tables::{power_by, product_by};
 pub use tables::{exponent_table, power_table};
 
-// A byte, or the document's number of a refusal.
-#[derive(Clone, Copy)]
-pub enum ByteAnswer {
-    Byte(u8),
-    Refused(u32),
-}
-
 // The product of a and b.
 pub fn product(a: u8, b: u8) -> u8
     ensures { result ≡ product a b }
@@ -38,11 +31,11 @@ pub fn power(a: u8, n: u8) -> u8
 }
 
 // The inverse of a, refused with 10 for 0. Each other byte to the power 255 is 1, so its inverse is its power 254.
-pub fn inverse(a: u8) -> ByteAnswer
+pub fn inverse(a: u8) -> Result<u8, u32>
     ensures { result ≡ inverse_answer a }
 {
     if a == 0 {
-        return ByteAnswer::Refused(refusals::OUT_OF_RANGE);
+        return Err(refusals::OUT_OF_RANGE);
     }
-    ByteAnswer::Byte(power(a, 254))
+    Ok(power(a, 254))
 }

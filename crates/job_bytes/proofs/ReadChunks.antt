@@ -5,6 +5,7 @@
 --   read_bytes_chunked     every call answers what the bytes pushed since the start tell
 --   read_bytes_20          20 exactly where no start and pushes give the counts of the job in the bytes
 -- Assumes nothing.
+use Rattle.std.specs.Prelude.{Ok, Err}
 use mathlib.Core.Path.{◌≡◌, refl, sym, ap, ◌∙◌, subst}
 use mathlib.Core.Bool.{Bool, true, false}
 use mathlib.Core.List.{List, [], ◌∷◌, ◌++◌, append-nil, map, flatten}
@@ -24,8 +25,7 @@ use Rattle.lent_bytes.proofs.WritingLaws.{unless_within}
 use Rattle.little_endian.specs.Bytes.{Bytes}
 use Rattle.little_endian.proofs.Numbers.{bytes_take, bytes_append}
 use Rattle.par1_read.specs.Reading.{read_of}
-use Rattle.par1_read.specs.declared.reading.Reading.{Reading}
-use Rattle.par1_read.specs.declared.reading.Reading.TheVariants.{Accepted, Refused}
+use Rattle.par1_read.specs.Reading.{Reading}
 use Rattle.refusals.specs.Tests.{bare}
 use Rattle.refusals.specs.declared.Refusal.{Refusal}
 use Rattle.refusals.proofs.RangeLaws.{Within, bare-within}
@@ -51,10 +51,10 @@ opened b = is_open (counts_of (read_job_of b))
 -- ---- which refusals an end gives
 
 -- the refusal that a reading is, or 14
-answer_within : (k : ℕ) (r : Reading) (out : List ℕ) → ((q : Refusal) → r ≡ Refused q → Within k q) → Within k (read_into r out).0
+answer_within : (k : ℕ) (r : Reading) (out : List ℕ) → ((q : Refusal) → r ≡ Err q → Within k q) → Within k (read_into r out).0
 unfolding read_into written_unless
-answer_within k (Refused q) out h = h q refl
-answer_within k (Accepted p) out h = unless_within k (bare 0) (parts_bytes p) out (bare-within k 0 (omega arith))
+answer_within k (Err q) out h = h q refl
+answer_within k (Ok p) out h = unless_within k (bare 0) (parts_bytes p) out (bare-within k 0 (omega arith))
 
 reading_within : (j : RunningRead) (out : List ℕ) → Within (j.list.totals.entries + 1) (read_into (reading_of j) out).0
 reading_within j out =

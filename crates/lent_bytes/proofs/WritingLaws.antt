@@ -14,6 +14,7 @@
 --   written_refusal                 where there are no tests, the number says it all
 --   unless_within                   which refusals it gives
 -- Assumes nothing.
+use Rattle.std.specs.Prelude.{Ok, Err}
 use mathlib.Core.Path.{◌≡◌, refl, sym, ap, ap₂, ◌∙◌, subst}
 use mathlib.Core.Logic.{◌≢◌}
 use mathlib.Core.Bool.{Bool, true, false, cond}
@@ -29,13 +30,12 @@ use Rattle.lent_bytes.specs.Claim.{WritingKept}
 use Rattle.refusals.specs.Tests.{bare}
 use Rattle.refusals.specs.declared.Refusal.{Refusal}
 use Rattle.refusals.proofs.RangeLaws.{Within, bare-within}
-use Rattle.lent_bytes.specs.declared.Writing.{Writing}
-use Rattle.lent_bytes.specs.declared.Writing.TheVariants.{Written, Refused}
+use Rattle.lent_bytes.specs.Writing.{Writing}
 
 pub written_fits : (s out : List ℕ) {n : ℕ} {t : List ℕ} → length s ≤ length out → n ≡ length s → t ≡ s ++ drop (length s) out
-    → (Written n, t) ≡ written s out
+    → (Ok n, t) ≡ written s out
 unfolding written
-written_fits s out h size same = simp (le-leb (length s) (length out) h) (ap₂ (λ (k : ℕ) (l : List ℕ). (Written k, l)) size same)
+written_fits s out h size same = simp (le-leb (length s) (length out) h) (ap₂ (λ (k : ℕ) (l : List ℕ). (Ok k, l)) size same)
 
 pub written_short : (s out : List ℕ) → length out < length s → refused (bare 14) out ≡ written s out
 unfolding written
@@ -47,11 +47,11 @@ module _ (s out : List ℕ) {n m : Refusal} (e : n ≡ m) where
   unfolding written_unless
   unless_none z f = simp (eq-eqb m.number 0 (ap (λ (r : Refusal). r.number) (sym e) ∙ z)) f
 
-  pub unless_refused : {t : List ℕ} → (n.number ≡ 0 → ⊥) → t ≡ out → (Refused n, t) ≡ written_unless m s out
+  pub unless_refused : {t : List ℕ} → (n.number ≡ 0 → ⊥) → t ≡ out → (Err n, t) ≡ written_unless m s out
   unfolding written_unless
   unless_refused h same =
       simp (ne_eqb m.number 0 (λ z. h (ap (λ (r : Refusal). r.number) e ∙ z)))
-      (ap₂ (λ (k : Refusal) (l : List ℕ). (Refused k, l)) e same)
+      (ap₂ (λ (k : Refusal) (l : List ℕ). (Err k, l)) e same)
 
 pub unless_accepted : (m : Refusal) (s out : List ℕ) → m.number ≡ 0 → length s ≤ length out → written_unless m s out ≡ accepted s out
 unless_accepted m s out z fits = sym (unless_none s out refl z (written_fits s out fits refl refl))
@@ -64,20 +64,20 @@ pub record Accepted (m : Refusal) (s out : List ℕ) (n : ℕ) (room : List ℕ)
   pub room_is : room ≡ s ++ drop (length s) out
   pub written_is : take n room ≡ s
 
-pub never : {A : Type 0} {n : ℕ} {k : Refusal} {room out : List ℕ} → refused k out ≡ (Written n, room) → A
-never {A} {n} {k} e = let answer : Refused k ≡ Written n = ap (λ (p : Writing × List ℕ). p.0) e in
+pub never : {A : Type 0} {n : ℕ} {k : Refusal} {room out : List ℕ} → refused k out ≡ (Ok n, room) → A
+never {A} {n} {k} e = let answer : Err k ≡ Ok n = ap (λ (p : Writing × List ℕ). p.0) e in
     absurd (let z : ◌≡◌ {A = ℕ} 0 1 = cc in omega arith)
 
-pub not-refused : {A : Type 0} (s out : List ℕ) {r : Refusal} {room : List ℕ} → accepted s out ≡ (Refused r, room) → A
-not-refused s out {r} e = let answer : Written (length s) ≡ Refused r = ap (λ (p : Writing × List ℕ). p.0) e in
+pub not-refused : {A : Type 0} (s out : List ℕ) {r : Refusal} {room : List ℕ} → accepted s out ≡ (Err r, room) → A
+not-refused s out {r} e = let answer : Ok (length s) ≡ Err r = ap (λ (p : Writing × List ℕ). p.0) e in
     absurd (let z : ◌≡◌ {A = ℕ} 0 1 = cc in omega arith)
 
-pub refused_tells : {q r : Refusal} {out room : List ℕ} → refused q out ≡ (Refused r, room) → (q ≡ r) × (room ≡ out)
+pub refused_tells : {q r : Refusal} {out room : List ℕ} → refused q out ≡ (Err r, room) → (q ≡ r) × (room ≡ out)
 refused_tells e = (ap (λ (p : Writing × List ℕ). writing_refusal p.0) e, sym (ap (λ (p : Writing × List ℕ). p.1) e))
 
-pub accepted_tells : (s out : List ℕ) {n : ℕ} {room : List ℕ} → accepted s out ≡ (Written n, room) → (n ≡ length s) × (room ≡ s ++ drop (length s) out)
+pub accepted_tells : (s out : List ℕ) {n : ℕ} {room : List ℕ} → accepted s out ≡ (Ok n, room) → (n ≡ length s) × (room ≡ s ++ drop (length s) out)
 accepted_tells s out {n} e =
-    let answer : Written (length s) ≡ Written n = ap (λ (p : Writing × List ℕ). p.0) e in (cc, sym (ap (λ (p : Writing × List ℕ). p.1) e))
+    let answer : Ok (length s) ≡ Ok n = ap (λ (p : Writing × List ℕ). p.0) e in (cc, sym (ap (λ (p : Writing × List ℕ). p.1) e))
 
 -- each refusal of R is given; and one of R holds, or s is written
 pub refused_exactly : (R : Refusal → Type 0) {w : Writing × List ℕ} (s out : List ℕ) → ((r : Refusal) → R r → w ≡ refused r out)
@@ -88,12 +88,12 @@ refused_exactly R s out given first r = (
       (λ q f. let t = refused_tells (sym (given q f) ∙ e) in (subst R t.0 f, t.1)) (λ passed. not-refused s out (sym passed ∙ e)),
 )
 
-pub unless_tells : (m : Refusal) (s out : List ℕ) {n : ℕ} {room : List ℕ} → written_unless m s out ≡ (Written n, room) → Accepted m s out n room
+pub unless_tells : (m : Refusal) (s out : List ℕ) {n : ℕ} {room : List ℕ} → written_unless m s out ≡ (Ok n, room) → Accepted m s out n room
 unfolding written_unless written
 unless_tells m s out {n} {room} e = by (eqb m.number 0) (leb (length s) (length out)) refl refl e
   where
     by : (z f : Bool) → eqb m.number 0 ≡ z → leb (length s) (length out) ≡ f
-        → cond z (cond f (accepted s out) (refused (bare 14) out)) (refused m out) ≡ (Written n, room) → Accepted m s out n room
+        → cond z (cond f (accepted s out) (refused (bare 14) out)) (refused m out) ≡ (Ok n, room) → Accepted m s out n room
     by true true z f e = let t = accepted_tells s out e in
         record {
           none = eqb-true m.number 0 z;
@@ -105,11 +105,11 @@ unless_tells m s out {n} {room} e = by (eqb m.number 0) (leb (length s) (length 
     by true false z f e = never e
     by false f z g e = never e
 
-pub unless_same : (m : Refusal) (s out : List ℕ) {r : Refusal} {room : List ℕ} → written_unless m s out ≡ (Refused r, room) → room ≡ out
+pub unless_same : (m : Refusal) (s out : List ℕ) {r : Refusal} {room : List ℕ} → written_unless m s out ≡ (Err r, room) → room ≡ out
 unfolding written_unless written
 unless_same m s out {r} {room} e = by (eqb m.number 0) (leb (length s) (length out)) e
   where
-    by : (z f : Bool) → cond z (cond f (accepted s out) (refused (bare 14) out)) (refused m out) ≡ (Refused r, room) → room ≡ out
+    by : (z f : Bool) → cond z (cond f (accepted s out) (refused (bare 14) out)) (refused m out) ≡ (Err r, room) → room ≡ out
     by true true e = not-refused s out e
     by true false e = (refused_tells e).1
     by false f e = (refused_tells e).1
@@ -123,8 +123,8 @@ writing_kept = record {
 }
 
 pub kept_by_number : (w : Writing × List ℕ) {out : List ℕ} → Kept w out → (writing_refusal w.0).number ≢ 0 → w.1 ≡ out
-kept_by_number (Written n, t) k h = absurd (h refl)
-kept_by_number (Refused r, t) k h = k r refl
+kept_by_number (Ok n, t) k h = absurd (h refl)
+kept_by_number (Err r, t) k h = k r refl
 
 module _ {w : Writing} {t : List ℕ} {r : Writing × List ℕ} {k : Refusal} (e : k ≡ writing_refusal w) (f : (w, t) ≡ r) where
   pub refused_as : (k, t) ≡ with_refusal r

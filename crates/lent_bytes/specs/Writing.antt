@@ -1,5 +1,6 @@
 -- What a call gives that writes into lent bytes: its answer, and what these bytes then hold (document 01, "What comes back").
 --
+--   Writing                 what such a call answers: the length written, or its refusal
 --   refused r out           the refusal r
 --   accepted s out          the length of s, and s over the first bytes of out
 --   written s out           the same; or 14, where out is shorter
@@ -10,19 +11,20 @@
 --   with_number w            what it gives, where it answers with the number alone
 --   Kept w out              where the answer is a refusal, the bytes are those of out
 -- Assumes nothing.
-use Rattle.std.specs.Prelude.{ℕ, ◌≡◌, cond, List, ◌++◌, leb, eqb, length, drop}
+use Rattle.std.specs.Prelude.{ℕ, ◌≡◌, cond, List, ◌++◌, leb, eqb, length, drop, Result, Ok, Err}
 use Rattle.refusals.specs.Tests.{bare}
 use Rattle.refusals.specs.declared.Refusal.{Refusal}
-use Rattle.lent_bytes.specs.declared.Writing.{Writing}
-use Rattle.lent_bytes.specs.declared.Writing.TheVariants.{Written, Refused}
+
+abbrev pub Writing : Type 0
+Writing = Result ℕ Refusal
 
 -- "A refusal returns its number only and writes nothing"; document 02, 2026-01, gives some a place beside it
 abbrev pub refused : Refusal → List ℕ → Writing × List ℕ
-refused r out = (Refused r, out)
+refused r out = (Err r, out)
 
 -- "Bytes past the written length stay."
 abbrev pub accepted : List ℕ → List ℕ → Writing × List ℕ
-accepted s out = (Written (length s), s ++ drop (length s) out)
+accepted s out = (Ok (length s), s ++ drop (length s) out)
 
 -- "14: lent room too short"
 unfoldable pub written : List ℕ → List ℕ → Writing × List ℕ
@@ -35,11 +37,11 @@ written_unless r s out = cond (eqb r.number 0) (written s out) (refused r out)
 -- "Refusals, in this order": R r says that r is the first that holds. The call gives it, and gives no other
 abbrev pub RefusedExactly : (Refusal → Type 0) → Writing × List ℕ → List ℕ → Type 0
 RefusedExactly R w out =
-    (r : Refusal) → (R r → w ≡ refused r out) × ((room : List ℕ) → w ≡ (Refused r, room) → R r × (room ≡ out))
+    (r : Refusal) → (R r → w ≡ refused r out) × ((room : List ℕ) → w ≡ (Err r, room) → R r × (room ≡ out))
 
 abbrev pub writing_refusal : Writing → Refusal
-writing_refusal (Written length) = bare 0
-writing_refusal (Refused r) = r
+writing_refusal (Ok length) = bare 0
+writing_refusal (Err r) = r
 
 abbrev pub with_refusal : Writing × List ℕ → Refusal × List ℕ
 with_refusal w = (writing_refusal w.0, w.1)
@@ -49,4 +51,4 @@ with_number w = ((writing_refusal w.0).number, w.1)
 
 -- "A refusal returns its number only and writes nothing"
 abbrev pub Kept : Writing × List ℕ → List ℕ → Type 0
-Kept w out = (r : Refusal) → w.0 ≡ Refused r → w.1 ≡ out
+Kept w out = (r : Refusal) → w.0 ≡ Err r → w.1 ≡ out

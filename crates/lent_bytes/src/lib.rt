@@ -10,20 +10,13 @@ mod comparing;
 pub use comparing::same;
 use refusals::{NO_ROOM, Refusal};
 
-// What a call that writes answers: the length written, or its refusal.
-#[derive(Clone, Copy)]
-pub enum Writing {
-    Written(usize),
-    Refused(Refusal),
-}
-
 // The refusal that an answer is, with the number 0 where it is accepted.
-pub fn refusal_of(writing: Writing) -> Refusal
+pub fn refusal_of(writing: Result<usize, Refusal>) -> Refusal
     ensures { result ≡ writing_refusal writing }
 {
     match writing {
-        Writing::Written(_) => refusals::bare(0),
-        Writing::Refused(refusal) => refusal,
+        Ok(_) => refusals::bare(0),
+        Err(refusal) => refusal,
     }
 }
 

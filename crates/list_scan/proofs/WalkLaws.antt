@@ -8,6 +8,7 @@
 --   found_walk         the scan over a list finds what the walk over it finds
 --   scan_set_hash      its hash ends in the set hash
 -- Assumes nothing.
+use Rattle.std.specs.Prelude.{Ok, Err}
 use Rattle.std.proofs.Common.{◌≡◌, ℕ, zero, suc, ◌+◌, ◌%◌, ◌^◌, ◌<◌, ◌≤◌, true, false, List, [], ◌∷◌, ◌++◌, length, get_or, take, drop, sym, refl, ap, ◌∙◌, subst, append_assoc, append-nil, le_refl, arith, length-append, length-drop, take-append-drop, length-take-le, take-suc}
 use mathlib.Core.List.{foldl, foldl-append}
 use Rattle.computed_tests.proofs.Tests.{test_fails}
@@ -21,7 +22,6 @@ use Rattle.entries.specs.declared.Fault.{Fault}
 use Rattle.entries.specs.declared.Item.{Item}
 use Rattle.entries.specs.declared.Item.TheVariants as item
 use Rattle.entries.specs.declared.Totals.{Totals}
-use Rattle.entries.specs.declared.Walked.TheVariants as walked
 use Rattle.entries.proofs.EntryLaws.{IsEntry, IsFault, is_end, is_entry, is_fault}
 use Rattle.entries.proofs.FirstFaults.{keeps_first, kept_length}
 use Rattle.entries.proofs.WalkLaws.{walk_from, walk_start, walk_more, walk_end, walk_fault, add_added}
@@ -81,12 +81,12 @@ entry_scan {t} {h} {sc} {s} (suc j) {status} {size} i m = let b : ℕ = get_or s
 
 -- ---- what is found at the end of the list
 
-found_end : {t : Totals} {h : Md5} {sc : Scan} → Amid t h [] sc → found_of sc ≡ walked.Entries t
+found_end : {t : Totals} {h : Md5} {sc : Scan} → Amid t h [] sc → found_of sc ≡ Ok t
 unfolding found_of
 found_end m = simp (m.at_is, m.totals_is)
 
 found_amid : {t : Totals} {h : Md5} {p : List ℕ} {sc : Scan} → Amid t h p sc → 0 < length p → t.entries + 1 < 2 ^ 64
-    → found_of sc ≡ walked.Refused (refusal_at (fault_of p) (t.entries + 1))
+    → found_of sc ≡ Err (refusal_at (fault_of p) (t.entries + 1))
 unfolding found_of
 found_amid {t} {h} {p} {sc} m some fits =
     let place : (sc.totals.entries + 1) % 2 ^ 64 ≡ t.entries + 1 =
@@ -120,7 +120,7 @@ module _ {t : Totals} {h : Md5} {sc : Scan} (m : Amid t h [] sc) {s : List ℕ} 
       record {
         walk_is = λ fits.
             found_amid amid i.some (omega (arith, i.some))
-            ∙ ap (λ (f : Fault). walked.Refused (refusal_at f (t.entries + 1))) (sym i.fault_is) ∙ sym (walk_fault t i);
+            ∙ ap (λ (f : Fault). Err (refusal_at f (t.entries + 1))) (sym i.fault_is) ∙ sym (walk_fault t i);
         hash_is = amid.hash_is ∙ sym (set-none h none);
       }
 

@@ -12,7 +12,8 @@ ghost use Rattle.list_scan.specs.Run.{IsRun};
 ghost use Rattle.list_scan.specs.Found.{fault_at, found_of};
 ghost use Rattle.list_scan.specs.Room.{sum_fits, has_room, pushed};
 
-use entries::{Fault, Totals, Walked};
+use refusals::Refusal;
+use entries::{Fault, Totals};
 use md5_digest::Md5;
 use par1_rules::{hashes, layout};
 
@@ -71,17 +72,17 @@ pub fn push(scan: Scan, bytes: &[u8]) -> Scan
 }
 
 // What the scan found, at the end of the list.
-pub fn found(scan: Scan) -> Walked
+pub fn found(scan: Scan) -> Result<Totals, Refusal>
     ensures { result ≡ found_of scan }
 {
     let totals = scan.totals;
     if scan.at == 0 {
-        return Walked::Entries(totals);
+        return Ok(totals);
     }
     let head = scan.head;
     let fault = fault_at(&head, scan.at);
     let place = std::num::wrapping_add_u64(totals.entries, 1);
-    Walked::Refused(entries::refusal_at(fault, place))
+    Err(entries::refusal_at(fault, place))
 }
 
 // The set hash of the entries that came.

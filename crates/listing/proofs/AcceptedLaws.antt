@@ -9,7 +9,7 @@ use native.Mathlib.Omega.{arith}
 use lib.ListN.{length}
 use Rattle.refusals.proofs.TestLaws.{or-none}
 use Rattle.par1_read.specs.Reading.{header_refusal, refusal_from, read_of}
-use Rattle.par1_read.specs.declared.reading.Reading.{Reading}
+use Rattle.par1_read.specs.Reading.{Reading}
 use Rattle.par1_read.proofs.ReadingLaws.{HeaderPassed, header_passed, refusal_of, read_accepted, read_refused}
 use Rattle.listing.specs.Listing.{ListIn}
 

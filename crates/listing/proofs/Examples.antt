@@ -6,6 +6,7 @@
 --   listed_by        an index of a list that is so computed
 --   example_lists    the claim
 -- Assumes nothing.
+use Rattle.std.specs.Prelude.{Ok}
 use mathlib.Core.Path.{◌≡◌, refl, sym, ap, ap₂, ◌∙◌, subst}
 use mathlib.Core.List.{List, [], ◌++◌, flatten}
 use Prim.Native.Nat.{ℕ, ◌^◌, ◌<◌}
@@ -21,7 +22,6 @@ use Rattle.lent_bytes.specs.Equal.{equal}
 use Rattle.entries.specs.Entry.{units_of, is_counted, unit_allowed, is_dots, name_allowed, entry_size_allowed, body_allowed, entry_allowed, length_of}
 use Rattle.entries.specs.Numbering.{saved_of}
 use Rattle.entries.specs.Walk.{entries_of, walk_of}
-use Rattle.entries.specs.declared.Walked.TheVariants as walked
 use Rattle.entries.proofs.WalkLaws.{walk_count, walk_saved}
 use Rattle.par1.specs.Claim.{parts_for}
 use Rattle.par1.proofs.ReadWritten.{ListPassed, volume_back}
@@ -54,7 +54,7 @@ module _ (a b c d : ℕ → ℕ) where
   unfolding example_list list_below flatten to_le
   length_list = refl
 
-  walked_so : walk_of list ≡ walked.Entries (record { entries = 2; saved = 1; greatest = 5 })
+  walked_so : walk_of list ≡ Ok (record { entries = 2; saved = 1; greatest = 5 })
   unfolding example_list list_below flatten from_le to_le le_at cut cut_in length_of entry_allowed body_allowed entry_size_allowed name_allowed units_of unit_allowed is_dots equal is_counted walk_of
   walked_so = refl
 
@@ -63,7 +63,7 @@ module _ (a b c d : ℕ → ℕ) where
   lines_are = refl
 
 module _ (code : Code) (program : ℕ) (small : program < 2 ^ 32) (l : List ℕ) (size : length l ≡ 138)
-    (walk : walk_of l ≡ walked.Entries (record { entries = 2; saved = 1; greatest = 5 }))
+    (walk : walk_of l ≡ Ok (record { entries = 2; saved = 1; greatest = 5 }))
     (lines : entry_lines 0 (entries_of l).pieces ≡ ascii "1 5 A.LOG\n- 12 NOTE.TXT\n") where
   abbrev index : List ℕ
   index = volume_bytes code program 0 l []

@@ -7,6 +7,7 @@
 --   input_most            the listing of any input has at most 65,536 bytes
 --   input_fits            so room of 65,536 bytes is never too short for it
 -- Assumes nothing.
+use Rattle.std.specs.Prelude.{Ok}
 use mathlib.Core.Path.{◌≡◌, refl, sym, ap, ◌∙◌, subst}
 use mathlib.Core.Bool.{Bool, true, false, cond}
 use mathlib.Core.List.{List, [], ◌∷◌, flatten}
@@ -34,8 +35,7 @@ use Rattle.refusals.specs.declared.Refusal.{Refusal}
 use Rattle.par1_rules.proofs.RuleLaws.{number_range}
 use Rattle.par1_read.specs.Reading.{entries_in, read_of}
 use Rattle.par1_read.specs.declared.reading.Parts.{Parts}
-use Rattle.par1_read.specs.declared.reading.Reading.{Reading}
-use Rattle.par1_read.specs.declared.reading.Reading.TheVariants.{Accepted}
+use Rattle.par1_read.specs.Reading.{Reading}
 use Rattle.par1_read.proofs.RangeLaws.{refusal_within}
 use Rattle.par1_read.proofs.ReadingLaws.{refusal_of, parts_of, Passed, read_accepted, read_refused, read_tells}
 use Rattle.listing.specs.Claim.{InputFits}
@@ -96,7 +96,7 @@ lines_most k (e ∷ es) (all_more l ls) h = let n : ℕ = k + saved_count (statu
 
 -- ---- the numbers of an accepted file
 
-accepted_shorter : (f : List ℕ) → Passed f → length (listing_by (Accepted (parts_of f)) f) < length f
+accepted_shorter : (f : List ℕ) → Passed f → length (listing_by (Ok (parts_of f)) f) < length f
 accepted_shorter f tests = let es : List (List ℕ) = entries_in f in
     let list : length (list_of f) ≤ list_size_of f = omega (arith, length-take (list_size_of f) (drop 96 f)) in
     let fits : 96 + list_size_of f ≤ length f = omega (arith, tests.header.layout.data_start_lem, tests.header.layout.data_end) in
@@ -112,10 +112,10 @@ accepted_shorter f tests = let es : List (List ℕ) = entries_in f in
 
 -- ---- listings
 
-listing_shorter : (f : List ℕ) (p : Parts) → read_of f ≡ Accepted p → length (listing_of f) < length f
+listing_shorter : (f : List ℕ) (p : Parts) → read_of f ≡ Ok p → length (listing_of f) < length f
 unfolding listing_of
 listing_shorter f p e = let told = read_tells f p e in
-    subst (λ (r : Reading). length (listing_by r f) < length f) (sym (e ∙ ap Accepted told.parts_are)) (accepted_shorter f told.tests)
+    subst (λ (r : Reading). length (listing_by r f) < length f) (sym (e ∙ ap Ok told.parts_are)) (accepted_shorter f told.tests)
 
 by_refusal : (s : List ℕ) → length s ≤ max_listed_length → (n : ℕ) → n ≡ (refusal_of s).number → length (listing_of s) ≤ max_listed_length
 unfolding listing_of

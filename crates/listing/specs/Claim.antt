@@ -13,7 +13,7 @@
 --   ExampleLists      document 01's example
 -- The contracts of list and list_input cite listing_of and input_listing.
 -- Assumes nothing.
-use Rattle.std.specs.Prelude.{◌≡◌, ℕ, ◌+◌, ◌^◌, ◌<◌, ◌≤◌, length, drop}
+use Rattle.std.specs.Prelude.{◌≡◌, ℕ, ◌+◌, ◌^◌, ◌<◌, ◌≤◌, length, drop, Ok, Err}
 use mathlib.Core.List.{List, [], ◌∷◌, ◌++◌, map, flatten}
 use Prim.Native.String.{String}
 use Rattle.codes.specs.declared.Code.{Code}
@@ -21,12 +21,10 @@ use Rattle.little_endian.specs.Bytes.{to_le}
 use Rattle.refusals.specs.Limits.{max_listed_length}
 use Rattle.refusals.specs.declared.Refusal.{Refusal}
 use Rattle.lent_bytes.specs.Writing.{written}
-use Rattle.lent_bytes.specs.declared.Writing.TheVariants.{Written}
 use Rattle.entries.specs.Entry.{status_of, saved_count}
 use Rattle.entries.specs.Numbering.{saved_of, file_number}
 use Rattle.par1_read.specs.Reading.{read_of}
 use Rattle.par1_read.specs.declared.reading.Parts.{Parts}
-use Rattle.par1_read.specs.declared.reading.Reading.TheVariants.{Accepted, Refused}
 use Rattle.par1_write.specs.VolumeWriting.{volume_bytes}
 use Rattle.text.specs.Ascii.{ascii}
 use Rattle.text.specs.Decimal.{decimal}
@@ -46,14 +44,14 @@ LineNumbered =
 abbrev pub InputFits : Type 0
 InputFits =
     (input out : List ℕ) → max_listed_length ≤ length out
-    → let lines = input_listing input in written lines out ≡ (Written (length lines), lines ++ drop (length lines) out)
+    → let lines = input_listing input in written lines out ≡ (Ok (length lines), lines ++ drop (length lines) out)
 
 -- "writes either the line `refused N`, or .."; document 02, 2026-01: "For these the listing writes `refused N P`"
 -- proved: proofs/RefusedLines.antt, `refused-listed`
 pub record RefusedListed : Type 0 where
-  pub with_place : (f : List ℕ) (r : Refusal) → read_of f ≡ Refused r → 16 ≤ r.number → r.number ≤ 19
+  pub with_place : (f : List ℕ) (r : Refusal) → read_of f ≡ Err r → 16 ≤ r.number → r.number ≤ 19
       → listing_of f ≡ ascii "refused " ++ (decimal r.number ++ (ascii " " ++ (decimal r.place ++ ascii "\n")))
-  pub without : (f : List ℕ) (r : Refusal) → read_of f ≡ Refused r → r.number < 16
+  pub without : (f : List ℕ) (r : Refusal) → read_of f ≡ Err r → r.number < 16
       → listing_of f ≡ ascii "refused " ++ (decimal r.number ++ ascii "\n")
   -- "The listing program takes at most 65,536 bytes; more is refused with 1."
   pub taken : (s : List ℕ) → length s ≤ 65536 → input_listing s ≡ listing_of s
@@ -76,7 +74,7 @@ example_index code program a b c d = volume_bytes code program 0 (example_list a
 pub record ListedAsShown (f : List ℕ) : Type 0 where
   -- "has list size 138, data start 234 and length 234"
   pub parts : Parts
-  pub read_is : read_of f ≡ Accepted parts
+  pub read_is : read_of f ≡ Ok parts
   pub list_size_lem : parts.list_size ≡ 138
   pub data_start_lem : parts.data_start ≡ 234
   pub length_is : length f ≡ 234

@@ -6,18 +6,17 @@
 --   input_listing s  the listing of the program's input s
 --   ListIn r f      the list that the reading r tells of lies in f
 -- Assumes nothing.
-use Rattle.std.specs.Prelude.{ℕ, ◌+◌, ◌≤◌, ◌≡◌, cond, List, ◌++◌, leb, length}
+use Rattle.std.specs.Prelude.{ℕ, ◌+◌, ◌≤◌, ◌≡◌, cond, List, ◌++◌, leb, length, Ok, Err}
 use Rattle.refusals.specs.Limits.{max_listed_length}
 use Rattle.refusals.specs.Tests.{bare}
 use Rattle.par1_rules.specs.Layout.{list_size_of}
 use Rattle.par1_read.specs.Reading.{entries_in, read_of}
-use Rattle.par1_read.specs.declared.reading.Reading.{Reading}
-use Rattle.par1_read.specs.declared.reading.Reading.TheVariants.{Accepted, Refused}
+use Rattle.par1_read.specs.Reading.{Reading}
 use Rattle.listing.specs.Lines.{refused_line, head_line, entry_lines}
 
 abbrev pub listing_by : Reading → List ℕ → List ℕ
-listing_by (Accepted p) f = head_line p.number p.entries p.saved ++ entry_lines 0 (entries_in f)
-listing_by (Refused r) f = refused_line r
+listing_by (Ok p) f = head_line p.number p.entries p.saved ++ entry_lines 0 (entries_in f)
+listing_by (Err r) f = refused_line r
 
 unfoldable pub listing_of : List ℕ → List ℕ
 listing_of f = listing_by (read_of f) f
@@ -27,5 +26,5 @@ unfoldable pub input_listing : List ℕ → List ℕ
 input_listing s = cond (leb (length s) max_listed_length) (listing_of s) (refused_line (bare 1))
 
 abbrev pub ListIn : Reading → List ℕ → Type 0
-ListIn (Accepted p) f = (p.list_size ≡ list_size_of f) × (96 + list_size_of f ≤ length f)
-ListIn (Refused r) f = Unit {0}
+ListIn (Ok p) f = (p.list_size ≡ list_size_of f) × (96 + list_size_of f ≤ length f)
+ListIn (Err r) f = Unit {0}

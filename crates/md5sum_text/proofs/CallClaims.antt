@@ -1,5 +1,6 @@
 -- What the calls give, in the document's words: the claims on them.
 -- Assumes nothing.
+use Rattle.std.specs.Prelude.{Ok}
 use mathlib.Core.Path.{◌≡◌, refl, sym, ap, ap₂, ◌∙◌, subst}
 use mathlib.Core.Bool.{Bool, true, false}
 use mathlib.Core.List.{List, [], ◌∷◌, ◌++◌, append-nil, map, flatten}
@@ -11,8 +12,7 @@ use Rattle.refusals.specs.declared.Refusal.{Refusal}
 use Rattle.little_endian.specs.Bytes.{Bytes}
 use Rattle.little_endian.proofs.Numbers.{bytes_take, bytes_drop}
 use Rattle.lent_bytes.specs.Writing.{refused, accepted}
-use Rattle.lent_bytes.specs.declared.Writing.{Writing}
-use Rattle.lent_bytes.specs.declared.Writing.TheVariants.{Written}
+use Rattle.lent_bytes.specs.Writing.{Writing}
 use Rattle.lent_bytes.proofs.WritingLaws.{never, written_fits, written_short, accepted_tells, refused_exactly}
 use Rattle.cut_lists.specs.All.{All, all_none, all_more}
 use Rattle.cut_lists.specs.Pieces.{Cut}
@@ -22,7 +22,6 @@ use Rattle.entries.specs.Entry.{md5_of}
 use Rattle.entries.proofs.EntryBytes.{IsEntryBytes, entries_bytes}
 use Rattle.par1_read.specs.Reading.{entries_in, read_of}
 use Rattle.par1_read.specs.declared.reading.Parts.{Parts}
-use Rattle.par1_read.specs.declared.reading.Reading.TheVariants as reading
 use Rattle.par1_rules.specs.Layout.{list_size_of, list_of}
 use Rattle.text.specs.Hex.{hex_bytes}
 use Rattle.md5sum_text.specs.Lines.{shaped_length, lines_of}
@@ -50,7 +49,7 @@ lines_are ls s lines e =
 
 -- what good lines say of the entries, one after another
 says_all : (f s out : List ℕ) (ls : List (List ℕ)) {n : ℕ} {room : List ℕ} → s ≡ flatten ls → Good (entries_in f) ls
-    → accepted (answers_in f s) out ≡ (Written n, room) → SaysAll (entries_in f) ls out n room
+    → accepted (answers_in f s) out ≡ (Ok n, room) → SaysAll (entries_in f) ls out n room
 says_all f s out ls {n} {room} e good is = let es : List (List ℕ) = entries_in f in
     let told = accepted_tells (answers_in f s) out is in
     let size : length (answers_in f s) ≡ length es = simp length-map in
@@ -70,7 +69,7 @@ says_all f s out ls {n} {room} e good is = let es : List (List ℕ) = entries_in
 pub import_says : claim.ImportSays
 import_says f s out n room e = by (import_view f s out) e
   where
-    by : {w : Writing × List ℕ} → ImportView f s out w → w ≡ (Written n, room)
+    by : {w : Writing × List ℕ} → ImportView f s out w → w ≡ (Ok n, room)
         → (ls : List (List ℕ)) × (s ≡ flatten ls) × Good (entries_in f) ls × SaysAll (entries_in f) ls out n room
     by (import_refuses read) e = never e
     by (import_faults read some) e = never e
@@ -179,15 +178,15 @@ ones g (x ∷ xs) h = ap₂ ◌∷◌ (h 0 (omega arith)) (ones g xs (λ k l. h 
 -- the file is read and its names fit, where an export is accepted
 record Exported (f out : List ℕ) (n : ℕ) (room : List ℕ) : Type 0 where
   parts : Parts
-  read : read_of f ≡ reading.Accepted parts
+  read : read_of f ≡ Ok parts
   all : all_fitting (entries_in f) ≡ true
   size : n ≡ length (export_text (entries_in f))
   room_is : room ≡ export_text (entries_in f) ++ drop (length (export_text (entries_in f))) out
 
-exported : (f out : List ℕ) (n : ℕ) (room : List ℕ) → export_into f out ≡ (Written n, room) → Exported f out n room
+exported : (f out : List ℕ) (n : ℕ) (room : List ℕ) → export_into f out ≡ (Ok n, room) → Exported f out n room
 exported f out n room e = by (export_view f out) e
   where
-    by : {w : Writing × List ℕ} → ExportView f out w → w ≡ (Written n, room) → Exported f out n room
+    by : {w : Writing × List ℕ} → ExportView f out w → w ≡ (Ok n, room) → Exported f out n room
     by (export_refuses read) e = never e
     by (export_unfits read u) e = never e
     by (exports read all (short h)) e = never e

@@ -5,6 +5,7 @@
 --   text_again, text_rest, shape_some, shape_none     the refusal of a text, by what its lines are
 --   import_unread, import_faulty, import_right  an import, by what the tests found
 -- Assumes nothing.
+use Rattle.std.specs.Prelude.{Ok, Err}
 use mathlib.Core.Path.{◌≡◌, refl, sym, ap, ◌∙◌}
 use mathlib.Core.Bool.{Bool, true, false}
 use mathlib.Core.List.{List, [], ◌∷◌, map}
@@ -15,14 +16,13 @@ use lib.ListN.{length, take, drop}
 use Rattle.refusals.specs.Tests.{bare, test}
 use Rattle.refusals.specs.declared.Refusal.{Refusal}
 use Rattle.lent_bytes.specs.Writing.{refused, written}
-use Rattle.lent_bytes.specs.declared.Writing.{Writing}
+use Rattle.lent_bytes.specs.Writing.{Writing}
 use Rattle.lent_bytes.proofs.WritingLaws.{unless_none, unless_refused}
 use Rattle.cut_lists.specs.Pieces.{Cut}
 use Rattle.entries.specs.Walk.{entries_of}
 use Rattle.par1_read.specs.Reading.{entries_in, read_of}
 use Rattle.par1_read.specs.declared.reading.Parts.{Parts}
-use Rattle.par1_read.specs.declared.reading.Reading.{Reading}
-use Rattle.par1_read.specs.declared.reading.Reading.TheVariants as reading
+use Rattle.par1_read.specs.Reading.{Reading}
 use Rattle.par1_read.proofs.ReadingLaws.{read_list, refused_some}
 use Rattle.md5sum_text.specs.Lines.{lines_of}
 use Rattle.md5sum_text.specs.Export.{export_text, all_fitting, export_refusal, export_into}
@@ -30,18 +30,18 @@ use Rattle.md5sum_text.specs.Import.{again_in, shape_refusal, text_refusal, answ
 
 -- ---- an accepted file
 
-pub read_entries : (f : List ℕ) {p : Parts} → read_of f ≡ reading.Accepted p → {list : List ℕ} → list ≡ take p.list_size (drop 96 f)
+pub read_entries : (f : List ℕ) {p : Parts} → read_of f ≡ Ok p → {list : List ℕ} → list ≡ take p.list_size (drop 96 f)
     → (entries_of list).pieces ≡ entries_in f
 read_entries f read e = ap (λ (l : List ℕ). (entries_of l).pieces) (e ∙ read_list f read)
 
 -- ---- exports
 
 module _ (f out : List ℕ) where
-  pub export_unread : {r : Refusal} → read_of f ≡ reading.Refused r → refused r out ≡ export_into f out
+  pub export_unread : {r : Refusal} → read_of f ≡ Err r → refused r out ≡ export_into f out
   unfolding export_into
   export_unread {r} e = unless_refused (export_text (entries_in f)) out {n = r} (sym (ap (λ (q : Reading). export_refusal q f) e)) (refused_some f e) refl
 
-  module _ {p : Parts} (read : read_of f ≡ reading.Accepted p) where
+  module _ {p : Parts} (read : read_of f ≡ Ok p) where
     tests : {b : Bool} → all_fitting (entries_in f) ≡ b → bare (test 24 b 0) ≡ export_refusal (read_of f) f
     tests e = ap (λ (b : Bool). bare (test 24 b 0)) (sym e) ∙ sym (ap (λ (q : Reading). export_refusal q f) read)
 
@@ -78,11 +78,11 @@ module _ (f s out : List ℕ) where
   abbrev answers : List ℕ
   answers = map (answer_for (lines_of s).pieces) (entries_in f)
 
-  pub import_unread : {r : Refusal} → read_of f ≡ reading.Refused r → refused r out ≡ import_into f s out
+  pub import_unread : {r : Refusal} → read_of f ≡ Err r → refused r out ≡ import_into f s out
   unfolding import_into
   import_unread {r} e = unless_refused answers out {n = r} (sym (ap (λ (q : Reading). import_refusal q f s) e)) (refused_some f e) refl
 
-  module _ {p : Parts} (read : read_of f ≡ reading.Accepted p) {r : Refusal} (is : r ≡ text_refusal (entries_in f) (lines_of s)) where
+  module _ {p : Parts} (read : read_of f ≡ Ok p) {r : Refusal} (is : r ≡ text_refusal (entries_in f) (lines_of s)) where
     as_read : r ≡ import_refusal (read_of f) f s
     as_read = is ∙ sym (ap (λ (q : Reading). import_refusal q f s) read)
 

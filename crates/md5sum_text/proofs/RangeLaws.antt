@@ -5,6 +5,7 @@
 --   export_refusal_lem               the refusals of an export: the place is that of an entry of 58 bytes or more in the file
 --   import_refusal_lem               those of an import: the same, or that of a line of 36 bytes or more in the text
 -- Assumes nothing.
+use Rattle.std.specs.Prelude.{Ok, Err}
 use mathlib.Core.Path.{◌≡◌, refl, subst}
 use mathlib.Core.Logic.{◌⊎◌, inl, inr, ⊎_elim}
 use mathlib.Core.List.{List, flatten}
@@ -14,8 +15,7 @@ use lib.ListN.{length, drop, length-append, length-take, length-drop, length-map
 use Rattle.refusals.specs.Limits.{max_volume_length}
 use Rattle.refusals.specs.declared.Refusal.{Refusal}
 use Rattle.refusals.proofs.RangeLaws.{AtMost, most_more, bare_most}
-use Rattle.lent_bytes.specs.declared.Writing.{Writing}
-use Rattle.lent_bytes.specs.declared.Writing.TheVariants.{Written, Refused}
+use Rattle.lent_bytes.specs.Writing.{Writing}
 use Rattle.lent_bytes.proofs.WritingLaws.{never, not-refused, refused_tells, accepted_tells}
 use Rattle.cut_lists.specs.All.{All, all_none, all_more}
 use Rattle.cut_lists.proofs.CutLaws.{cut-count, cut_induct, cut-length}
@@ -24,7 +24,6 @@ use Rattle.entries.proofs.NameLaws.{length_units}
 use Rattle.entries.proofs.WalkLaws.{entries_long}
 use Rattle.par1_read.specs.Reading.{entries_in, read_of}
 use Rattle.par1_read.specs.declared.reading.Parts.{Parts}
-use Rattle.par1_read.specs.declared.reading.Reading.TheVariants as reading
 use Rattle.par1_read.proofs.RangeLaws.{read_within}
 use Rattle.par1_read.proofs.ReadingLaws.{read_tells}
 use Rattle.par1_rules.specs.Layout.{list_size_of, list_of}
@@ -52,13 +51,13 @@ unfolding export_text flatten
 text_most all_none = omega arith
 text_most (all_more {x} {xs} h hs) = omega (arith, line_most x h, text_most hs, length-append (line_for x) (export_text xs), length-append x (flatten xs))
 
-list_most : (f : List ℕ) {p : Parts} → read_of f ≡ reading.Accepted p → length (list_of f) ≤ max_volume_length
+list_most : (f : List ℕ) {p : Parts} → read_of f ≡ Ok p → length (list_of f) ≤ max_volume_length
 list_most f {p} e = omega (arith, length-take (list_size_of f) (drop 96 f), length-drop 96 f, (read_tells f p e).tests.header.size.high)
 
-pub export_most : (f out : List ℕ) {k : ℕ} {t : List ℕ} → export_into f out ≡ (Written k, t) → k ≤ max_volume_length
+pub export_most : (f out : List ℕ) {k : ℕ} {t : List ℕ} → export_into f out ≡ (Ok k, t) → k ≤ max_volume_length
 export_most f out {k} {t} e = by (export_view f out) e
   where
-    by : {w : Writing × List ℕ} → ExportView f out w → w ≡ (Written k, t) → k ≤ max_volume_length
+    by : {w : Writing × List ℕ} → ExportView f out w → w ≡ (Ok k, t) → k ≤ max_volume_length
     by (export_refuses read) e = never e
     by (export_unfits read u) e = never e
     by (exports read all (short h)) e = never e
@@ -66,13 +65,13 @@ export_most f out {k} {t} e = by (export_view f out) e
         omega
         (arith, (accepted_tells (export_text (entries_in f)) out e).0, text_most (entries_long (list_of f)), cut-length length_of (list_of f), list_most f read)
 
-pub import_most : (f s out : List ℕ) {k : ℕ} {t : List ℕ} → import_into f s out ≡ (Written k, t) → k ≤ max_volume_length
+pub import_most : (f s out : List ℕ) {k : ℕ} {t : List ℕ} → import_into f s out ≡ (Ok k, t) → k ≤ max_volume_length
 import_most f s out {k} {t} e = by (import_view f s out) e
   where
     size : length (answers_in f s) ≡ length (entries_in f)
     size = simp length-map
 
-    by : {w : Writing × List ℕ} → ImportView f s out w → w ≡ (Written k, t) → k ≤ max_volume_length
+    by : {w : Writing × List ℕ} → ImportView f s out w → w ≡ (Ok k, t) → k ≤ max_volume_length
     by (import_refuses read) e = never e
     by (import_faults read some) e = never e
     by (imports read none (short h)) e = never e
@@ -83,13 +82,13 @@ import_most f s out {k} {t} e = by (import_view f s out) e
 abbrev pub Most : ℕ → Refusal → Type 0
 Most k r = AtMost 24 k r
 
-reading_most : (f : List ℕ) {r : Refusal} → read_of f ≡ reading.Refused r → Most (length f / 58 + 1) r
+reading_most : (f : List ℕ) {r : Refusal} → read_of f ≡ Err r → Most (length f / 58 + 1) r
 reading_most f e = most_more (omega arith) (omega arith) (read_within f e)
 
-pub export_refusal_lem : (f out : List ℕ) {r : Refusal} {t : List ℕ} → export_into f out ≡ (Refused r, t) → Most (length f / 58 + 1) r
+pub export_refusal_lem : (f out : List ℕ) {r : Refusal} {t : List ℕ} → export_into f out ≡ (Err r, t) → Most (length f / 58 + 1) r
 export_refusal_lem f out {r} {t} e = by (export_view f out) e
   where
-    by : {w : Writing × List ℕ} → ExportView f out w → w ≡ (Refused r, t) → Most (length f / 58 + 1) r
+    by : {w : Writing × List ℕ} → ExportView f out w → w ≡ (Err r, t) → Most (length f / 58 + 1) r
     by (export_refuses read) e = subst (Most (length f / 58 + 1)) (refused_tells e).0 (reading_most f read)
     by (export_unfits read u) e = subst (Most (length f / 58 + 1)) (refused_tells e).0 (bare_most 24 _ 24 (omega arith))
     by (exports read all (short h)) e = subst (Most (length f / 58 + 1)) (refused_tells e).0 (bare_most 24 _ 14 (omega arith))
@@ -117,11 +116,11 @@ text_refusal_lem es s =
     over h none =
         rw (text_rest es (lines_of s) refl h, shape_none (length (lines_of s).pieces) (lines_of s).rest (omega arith)) (bare_most 24 _ 0 (omega arith))
 
-pub import_refusal_lem : (f s out : List ℕ) {r : Refusal} {t : List ℕ} → import_into f s out ≡ (Refused r, t)
+pub import_refusal_lem : (f s out : List ℕ) {r : Refusal} {t : List ℕ} → import_into f s out ≡ (Err r, t)
     → Most (length f / 58 + 1) r ⊎ Most (length s / 36 + 1) r
 import_refusal_lem f s out {r} {t} e = by (import_view f s out) e
   where
-    by : {w : Writing × List ℕ} → ImportView f s out w → w ≡ (Refused r, t) → Most (length f / 58 + 1) r ⊎ Most (length s / 36 + 1) r
+    by : {w : Writing × List ℕ} → ImportView f s out w → w ≡ (Err r, t) → Most (length f / 58 + 1) r ⊎ Most (length s / 36 + 1) r
     by (import_refuses read) e = inl (subst (Most (length f / 58 + 1)) (refused_tells e).0 (reading_most f read))
     by (import_faults read some) e = inr (subst (Most (length s / 36 + 1)) (refused_tells e).0 (text_refusal_lem (entries_in f) s))
     by (imports read none (short h)) e = inl (subst (Most (length f / 58 + 1)) (refused_tells e).0 (bare_most 24 _ 14 (omega arith)))

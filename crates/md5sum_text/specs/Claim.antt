@@ -23,19 +23,17 @@
 -- export's, by `ExportImported`; proofs/Examples.antt).
 -- The contracts of export and import cite export_into and import_into.
 -- Assumes nothing.
-use Rattle.std.specs.Prelude.{◌≡◌, ◌⊎◌, ℕ, ◌+◌, ◌≤◌, ◌<◌, length, take, drop, get_or, replicate}
+use Rattle.std.specs.Prelude.{◌≡◌, ◌⊎◌, ℕ, ◌+◌, ◌≤◌, ◌<◌, length, take, drop, get_or, replicate, Ok, Err}
 use mathlib.Core.List.{List, [], ◌∷◌, ◌++◌, flatten}
 use Rattle.little_endian.specs.Bytes.{Bytes}
 use Rattle.refusals.specs.Tests.{bare}
 use Rattle.refusals.specs.declared.Refusal.{Refusal}
 use Rattle.lent_bytes.specs.Writing.{accepted, RefusedExactly}
-use Rattle.lent_bytes.specs.declared.Writing.TheVariants.{Written}
 use Rattle.cut_lists.specs.All.{All}
 use Rattle.entries.specs.Claim.{Unstorable}
 use Rattle.entries.specs.Entry.{md5_of, name_of, units_of}
 use Rattle.par1_read.specs.Reading.{entries_in, read_of}
 use Rattle.par1_read.specs.declared.reading.Parts.{Parts}
-use Rattle.par1_read.specs.declared.reading.Reading.TheVariants as reading
 use Rattle.text.specs.Hex.{hex_value}
 use Rattle.md5sum_text.specs.Lines.{shaped_length, lines_of}
 use Rattle.md5sum_text.specs.Names.{sum_of}
@@ -140,14 +138,14 @@ pub record SaysAll (es ls : List (List ℕ)) (out : List ℕ) (n : ℕ) (room : 
 -- proved: proofs/CallClaims.antt, `import_says`
 abbrev pub ImportSays : Type 0
 ImportSays =
-    (f s out : List ℕ) (n : ℕ) (room : List ℕ) → import_into f s out ≡ (Written n, room)
+    (f s out : List ℕ) (n : ℕ) (room : List ℕ) → import_into f s out ≡ (Ok n, room)
     → (ls : List (List ℕ)) × (s ≡ flatten ls) × Good (entries_in f) ls × SaysAll (entries_in f) ls out n room
 
 -- "Refusals, after those of reading: 22 ..; 23 .. The earliest faulty line counts; 14 last."
 pub data ImportRefuses (f s out : List ℕ) : Refusal → Type 0 where
-  unread : {r : Refusal} → read_of f ≡ reading.Refused r → ImportRefuses f s out r
-  faulty : {p : Parts} {r : Refusal} → read_of f ≡ reading.Accepted p → FirstFault (entries_in f) s r → ImportRefuses f s out r
-  no_room : {p : Parts} (ls : List (List ℕ)) → read_of f ≡ reading.Accepted p → s ≡ flatten ls → Good (entries_in f) ls
+  unread : {r : Refusal} → read_of f ≡ Err r → ImportRefuses f s out r
+  faulty : {p : Parts} {r : Refusal} → read_of f ≡ Ok p → FirstFault (entries_in f) s r → ImportRefuses f s out r
+  no_room : {p : Parts} (ls : List (List ℕ)) → read_of f ≡ Ok p → s ≡ flatten ls → Good (entries_in f) ls
       → length out < length (entries_in f) → ImportRefuses f s out (bare 14)
 
 -- proved: proofs/CallClaims.antt, `import_refused`
@@ -157,10 +155,10 @@ ImportRefused = (f s out : List ℕ) → RefusedExactly (ImportRefuses f s out) 
 -- ---- exports: "Export each listed file, in list order, as a line"
 
 pub data ExportRefuses (f out : List ℕ) : Refusal → Type 0 where
-  unread : {r : Refusal} → read_of f ≡ reading.Refused r → ExportRefuses f out r
-  unfit : {p : Parts} (k : ℕ) → read_of f ≡ reading.Accepted p → k < length (entries_in f) → (Fits (get_or (entries_in f) k []) → ⊥)
+  unread : {r : Refusal} → read_of f ≡ Err r → ExportRefuses f out r
+  unfit : {p : Parts} (k : ℕ) → read_of f ≡ Ok p → k < length (entries_in f) → (Fits (get_or (entries_in f) k []) → ⊥)
       → ExportRefuses f out (bare 24)
-  no_room : {p : Parts} → read_of f ≡ reading.Accepted p → All Fits (entries_in f) → length out < length (export_text (entries_in f))
+  no_room : {p : Parts} → read_of f ≡ Ok p → All Fits (entries_in f) → length out < length (export_text (entries_in f))
       → ExportRefuses f out (bare 14)
 
 -- proved: proofs/CallClaims.antt, `export_refused`
@@ -179,13 +177,13 @@ pub record LinesFor (es : List (List ℕ)) (out : List ℕ) (n : ℕ) (room : Li
 -- a file is bytes; proved: proofs/CallClaims.antt, `export_lines`
 abbrev pub ExportLines : Type 0
 ExportLines =
-    (f out : List ℕ) (n : ℕ) (room : List ℕ) → Bytes f → export_into f out ≡ (Written n, room) → LinesFor (entries_in f) out n room
+    (f out : List ℕ) (n : ℕ) (room : List ℕ) → Bytes f → export_into f out ≡ (Ok n, room) → LinesFor (entries_in f) out n room
 
 -- "An accepted export, imported, reports every entry the same, if no two entries share a name with unlike sums";
 -- proved: proofs/CallClaims.antt, `export_imported`
 abbrev pub ExportImported : Type 0
 ExportImported =
-    (f out : List ℕ) (n : ℕ) (room more : List ℕ) → Bytes f → export_into f out ≡ (Written n, room)
+    (f out : List ℕ) (n : ℕ) (room more : List ℕ) → Bytes f → export_into f out ≡ (Ok n, room)
     → ((i j : ℕ) → i < length (entries_in f) → j < length (entries_in f) → let es = entries_in f in
     units_of (name_of (get_or es i [])) ≡ units_of (name_of (get_or es j [])) → md5_of (get_or es i []) ≡ md5_of (get_or es j []))
     → length (entries_in f) ≤ length more

@@ -7,16 +7,15 @@
 --   export_refusal r f    the refusal of an export of the file f, which reads as r, before 14; its number is 0 where there is none
 --   export_into f out     what the call gives
 -- Assumes nothing.
-use Rattle.std.specs.Prelude.{ℕ, Bool}
+use Rattle.std.specs.Prelude.{ℕ, Bool, Ok, Err}
 use mathlib.Core.List.{List, [], ◌∷◌, ◌++◌, flatten}
 use Rattle.refusals.specs.Tests.{bare, test}
 use Rattle.refusals.specs.declared.Refusal.{Refusal}
 use Rattle.lent_bytes.specs.Each.{each}
 use Rattle.lent_bytes.specs.Writing.{written_unless}
-use Rattle.lent_bytes.specs.declared.Writing.{Writing}
+use Rattle.lent_bytes.specs.Writing.{Writing}
 use Rattle.par1_read.specs.Reading.{entries_in, read_of}
-use Rattle.par1_read.specs.declared.reading.Reading.{Reading}
-use Rattle.par1_read.specs.declared.reading.Reading.TheVariants as reading
+use Rattle.par1_read.specs.Reading.{Reading}
 use Rattle.text.specs.Ascii.{ascii}
 use Rattle.md5sum_text.specs.Names.{text_of, is_fitting, sum_of}
 
@@ -32,8 +31,8 @@ abbrev pub all_fitting : List (List ℕ) → Bool
 all_fitting es = each is_fitting es
 
 abbrev pub export_refusal : Reading → List ℕ → Refusal
-export_refusal (reading.Accepted p) f = bare (test 24 (all_fitting (entries_in f)) 0)
-export_refusal (reading.Refused r) f = r
+export_refusal (Ok p) f = bare (test 24 (all_fitting (entries_in f)) 0)
+export_refusal (Err r) f = r
 
 unfoldable pub export_into : List ℕ → List ℕ → Writing × List ℕ
 export_into f out = written_unless (export_refusal (read_of f) f) (export_text (entries_in f)) out

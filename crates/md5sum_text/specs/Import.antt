@@ -11,17 +11,16 @@
 --   import_refusal r f s  the refusal of an import of the text s with the file f, which reads as r, before 14
 --   import_into f s out   what the call gives
 -- Assumes nothing.
-use Rattle.std.specs.Prelude.{ℕ, ◌+◌, Bool, false, cond, not, ◌&&◌, ◌||◌, List, [], ◌∷◌, map, ltb, length, take, get_or}
+use Rattle.std.specs.Prelude.{ℕ, ◌+◌, Bool, false, cond, not, ◌&&◌, ◌||◌, List, [], ◌∷◌, map, ltb, length, take, get_or, Ok, Err}
 use Rattle.computed_tests.specs.Lists.{first_below}
 use Rattle.refusals.specs.Tests.{bare}
 use Rattle.refusals.specs.declared.Refusal.{Refusal}
 use Rattle.lent_bytes.specs.Equal.{equal}
 use Rattle.lent_bytes.specs.Writing.{written_unless}
-use Rattle.lent_bytes.specs.declared.Writing.{Writing}
+use Rattle.lent_bytes.specs.Writing.{Writing}
 use Rattle.cut_lists.specs.Pieces.{Cut}
 use Rattle.par1_read.specs.Reading.{entries_in, read_of}
-use Rattle.par1_read.specs.declared.reading.Reading.{Reading}
-use Rattle.par1_read.specs.declared.reading.Reading.TheVariants as reading
+use Rattle.par1_read.specs.Reading.{Reading}
 use Rattle.md5sum_text.specs.Lines.{lines_of, sum_in, name_in}
 use Rattle.md5sum_text.specs.Names.{sum_of, is_named}
 
@@ -59,8 +58,8 @@ answer_for [] e = 0
 answer_for (l ∷ ls) e = cond (is_named l e) (cond (equal (sum_in l) (sum_of e)) 1 2) (answer_for ls e)
 
 abbrev pub import_refusal : Reading → List ℕ → List ℕ → Refusal
-import_refusal (reading.Accepted p) f s = text_refusal (entries_in f) (lines_of s)
-import_refusal (reading.Refused r) f s = r
+import_refusal (Ok p) f s = text_refusal (entries_in f) (lines_of s)
+import_refusal (Err r) f s = r
 
 -- "14 last"
 unfoldable pub import_into : List ℕ → List ℕ → List ℕ → Writing × List ℕ

@@ -9,10 +9,9 @@ ghost use Rattle.md5sum_text.specs.Export.{line_for, export_text, all_fitting};
 
 use crate::names::units_fit;
 use entries::length_at;
-use lent_bytes::Writing;
 use par1_rules::layout;
 use par1_rules::layout::name_of;
-use refusals::bare;
+use refusals::{Refusal, bare};
 
 // Whether the name of each entry of `list` fits a line.
 pub(crate) fn all_fitting(list: &[u8]) -> bool
@@ -32,16 +31,16 @@ pub(crate) fn all_fitting(list: &[u8]) -> bool
 }
 
 // The lines of the entries of `list`, measured, and written where they fit.
-pub(crate) fn export_list<'a, 'b>(list: &'a [u8], out: &'b mut [u8]) -> Writing
+pub(crate) fn export_list<'a, 'b>(list: &'a [u8], out: &'b mut [u8]) -> Result<usize, Refusal>
     requires { all_fitting (entries_of list.now).pieces ≡ true }
     ensures { (result, out.new) ≡ written (export_text (entries_of list.now).pieces) out.old }
 {
     let length = put_lines(&mut out[..0], list);
     if length <= out.len() {
         put_lines(out, list);
-        return Writing::Written(length);
+        return Ok(length);
     }
-    Writing::Refused(bare(refusals::NO_ROOM))
+    Err(bare(refusals::NO_ROOM))
 }
 
 // The lines of the entries of `list`, from position 0 on.

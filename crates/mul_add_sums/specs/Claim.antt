@@ -20,11 +20,10 @@
 -- A buffer is shorter than `lend_limit`, as is every one that can be lent. That no push and no end of such a job is refused is claimed with the jobs
 -- (running_mul_add specs/Claim, `MulAddChunked`; job_bytes specs/Claim, `MulAddBytesChunked`).
 -- Assumes nothing.
-use Rattle.std.specs.Prelude.{◌≡◌, true, List, ◌++◌, ℕ, ◌^◌, ◌<◌, ◌≤◌, length, get_or, replicate}
+use Rattle.std.specs.Prelude.{◌≡◌, true, List, ◌++◌, ℕ, ◌^◌, ◌<◌, ◌≤◌, length, get_or, replicate, Ok}
 use Rattle.std.specs.Int.Bits.{bit_xor}
 use Rattle.codes.specs.declared.Code.{Code}
 use Rattle.cut_lists.specs.All.{All}
-use Rattle.gf256.specs.declared.ByteAnswer.TheVariants.{Byte}
 use Rattle.jobs.specs.Claim.{lend_limit}
 use Rattle.lent_bytes.specs.Writing.{accepted}
 use Rattle.little_endian.specs.Bytes.{Bytes}
@@ -98,7 +97,7 @@ TwoBoxes =
 
 pub record VolumeMerged (code : Code) (program v : ℕ) (fs : List File) (merged room out : List ℕ) : Type 0 where
   -- `coefficient` of each saved file gives "the volume's factors"
-  pub coefficients_are : (f : ℕ) → is_file (file_count fs) f ≡ true → coefficient_answer code f v ≡ Byte (rule_of code f v)
+  pub coefficients_are : (f : ℕ) → is_file (file_count fs) f ≡ true → coefficient_answer code f v ≡ Ok (rule_of code f v)
   -- "the full parity"
   pub data_is : merged ≡ data_for (rule_of code) v fs
   -- `write_entry` of each file and `write_volume` of their list and the merged buffer give the volume of condition 2

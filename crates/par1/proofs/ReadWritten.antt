@@ -7,6 +7,7 @@
 --   read_written                 and so is every written volume
 -- A test of document 01 is passed where it does not hold.
 -- Assumes nothing.
+use Rattle.std.specs.Prelude.{Ok, Err}
 use mathlib.Core.Path.{◌≡◌, refl, sym, ap, ap₂, ◌∙◌, subst}
 use mathlib.Core.List.{List}
 use Prim.Native.Nat.{ℕ, ◌+◌, ◌^◌, ◌<◌}
@@ -18,15 +19,13 @@ use Rattle.codes.specs.declared.Code.{Code}
 use Rattle.entries.specs.Entry.{length_of}
 use Rattle.entries.specs.Walk.{entries_of, walk_of}
 use Rattle.entries.specs.declared.Totals.{Totals}
-use Rattle.entries.specs.declared.Walked.{Walked}
-use Rattle.entries.specs.declared.Walked.TheVariants as walked
+use Rattle.entries.specs.Walk.{Walked}
 use Rattle.entries.proofs.WalkLaws.{walk_count, walk_refused}
 use Rattle.md5_digest.specs.Digest.{md5}
 use Rattle.par1_rules.specs.Hashes.{set_hash}
 use Rattle.par1_rules.specs.Rules.{number_allowed, data_allowed}
 use Rattle.par1_read.specs.Reading.{entries_in}
 use Rattle.par1_write.specs.VolumeWriting.{volume_bytes, walk_refusal, write_volume_of}
-use Rattle.par1_read.specs.declared.reading.Reading.TheVariants.{Accepted}
 use Rattle.par1_read.proofs.ReadingLaws.{parts_of, HeaderPassed, TotalsPassed, Passed, passed_none, read_accepted}
 use Rattle.par1_rules.proofs.RuleLaws.{code_back, Between}
 use Rattle.par1.specs.Claim.{VolumeAccepted, VolumeWritten, parts_for, ReadBack, ReadWritten}
@@ -50,7 +49,7 @@ volume_written c program number list area out n room e =
 -- the list of a written volume was walked to its end
 pub record ListPassed (number : ℕ) (list : List ℕ) (area : ℕ) : Type 0 where
   pub totals_of_lem : Totals
-  pub walk_is : walk_of list ≡ walked.Entries totals_of_lem
+  pub walk_is : walk_of list ≡ Ok totals_of_lem
   pub tests : VolumePassed number totals_of_lem (length list) area
 
 pub list_passed : (number : ℕ) (list : List ℕ) (area : ℕ) → (walk_refusal number (walk_of list) (length list) area).number ≡ 0
@@ -58,8 +57,8 @@ pub list_passed : (number : ℕ) (list : List ℕ) (area : ℕ) → (walk_refusa
 list_passed number list area e = by (walk_of list) refl e
   where
     by : (w : Walked) → w ≡ walk_of list → (walk_refusal number w (length list) area).number ≡ 0 → ListPassed number list area
-    by (walked.Entries t) w e = record { totals_of_lem = t; walk_is = sym w; tests = volume_passed number t (length list) area e }
-    by (walked.Refused r) w e = absurd (omega (arith, (walk_refused list (sym w)).low))
+    by (Ok t) w e = record { totals_of_lem = t; walk_is = sym w; tests = volume_passed number t (length list) area e }
+    by (Err r) w e = absurd (omega (arith, (walk_refused list (sym w)).low))
 
 -- a file with the fields of a written volume passes the tests of reading
 module _ {number : ℕ} {list : List ℕ} (area : List ℕ) (accepted : ListPassed number list (length area))
@@ -107,7 +106,7 @@ volume_back c program number list area p v accepted = let f : List ℕ = volume_
     let d = volume_fields f c program (length (entries_of list).pieces) number list area refl p v few (omega (arith, accepted.tests.size.high)) in
     let read = read_accepted f (passed_none f (written_passed area accepted f program d size)) in
     record {
-      read_is = read ∙ ap Accepted (written_parts area accepted f program d size);
+      read_is = read ∙ ap Ok (written_parts area accepted f program d size);
       list_is = d.list_is;
       data_is = d.data_is;
     }

@@ -6,6 +6,7 @@
 --   reading_refused     the claim
 -- A test is passed where it does not hold.
 -- Assumes nothing.
+use Rattle.std.specs.Prelude.{Ok, Err}
 use mathlib.Core.Path.{◌≡◌, refl, sym, ap, ◌∙◌, subst}
 use mathlib.Core.Bool.{Bool, true, false, false≢true}
 use mathlib.Core.List.{List, [], ◌∷◌}
@@ -28,8 +29,7 @@ use Rattle.refusals.proofs.OrderLaws.{Decides, passes, fails, decides_as, Told, 
 use Rattle.refusals.proofs.TestLaws.{or_else_lem}
 use Rattle.entries.specs.Walk.{walk_of}
 use Rattle.entries.specs.declared.Totals.{Totals}
-use Rattle.entries.specs.declared.Walked.{Walked}
-use Rattle.entries.specs.declared.Walked.TheVariants as walked
+use Rattle.entries.specs.Walk.{Walked}
 use Rattle.entries.proofs.FirstFaults.{breaks_number, first_refused}
 use Rattle.par1_rules.specs.Layout.{signature, signature_of, version_of, control_hash_of, set_hash_of, volume_number_of, count_of}
 use Rattle.par1_rules.specs.Layout.{list_start_of, list_size_of, data_start_of, data_size_of, list_of}
@@ -38,7 +38,6 @@ use Rattle.par1_rules.specs.Rules.{length_allowed, version_allowed, layout_allow
 use Rattle.par1_rules.proofs.RuleLaws as rules
 use Rattle.par1_rules.proofs.RuleLaws.{code_versions, between, long_enough, Laid, not_laid, laid_out}
 use Rattle.par1_read.specs.Reading.{header_refusal, control_refusal, totals_refusal, list_refusal, refusal_from, entries_in, read_of}
-use Rattle.par1_read.specs.declared.reading.Reading.TheVariants.{Refused}
 use Rattle.par1_read.proofs.ReadingLaws.{refusal_of, read_refused, refused_is, refused_some}
 use Rattle.par1.specs.Claim.{HeadFails, too_short, too_long, other_signature, other_version}
 use Rattle.par1.specs.Claim.{list_elsewhere, data_elsewhere, ends_elsewhere, other_control}
@@ -199,21 +198,21 @@ module _ (f : List ℕ) (bytes : Bytes f) where
   refuses h = by (head_told f bytes)
     where
       by_totals_of : (t : Totals) → head_number f ≡ 0 → ((k : ℕ) → First (HeadFails f) (1 ∷ 2 ∷ 3 ∷ 4 ∷ 5 ∷ []) k → ⊥)
-          → walk_of (list_of f) ≡ walked.Entries t → Told (TotalsFail f t) (19 ∷ 7 ∷ 8 ∷ 9 ∷ []) (totals_refusal f (set_hash (entries_in f)) t)
+          → walk_of (list_of f) ≡ Ok t → Told (TotalsFail f t) (19 ∷ 7 ∷ 8 ∷ 9 ∷ []) (totals_refusal f (set_hash (entries_in f)) t)
           → ReadRefuses f (refusal_of f)
       by_totals_of t z passed e (none k l) = absurd (h (ap (λ (r : Refusal). r.number) (by_list z e) ∙ k))
       by_totals_of t z passed e (some k l) = subst (ReadRefuses f) (sym (by_list z e)) (by_totals passed e l)
 
       by_walk : (w : Walked) → walk_of (list_of f) ≡ w → head_number f ≡ 0 → ((k : ℕ) → First (HeadFails f) (1 ∷ 2 ∷ 3 ∷ 4 ∷ 5 ∷ []) k → ⊥)
           → ReadRefuses f (refusal_of f)
-      by_walk (walked.Refused r) e z passed = subst (ReadRefuses f) (sym (by_list z e)) (by_entry passed ((first_refused (list_of f) r).0 e))
-      by_walk (walked.Entries t) e z passed = by_totals_of t z passed e (totals_told f t)
+      by_walk (Err r) e z passed = subst (ReadRefuses f) (sym (by_list z e)) (by_entry passed ((first_refused (list_of f) r).0 e))
+      by_walk (Ok t) e z passed = by_totals_of t z passed e (totals_told f t)
 
       by : Told (HeadFails f) (1 ∷ 2 ∷ 3 ∷ 4 ∷ 5 ∷ []) (head_number f) → ReadRefuses f (refusal_of f)
       by (some l first) = subst (ReadRefuses f) (sym (joined_is ∙ or_else_lem (head_number f) _ l)) (by_head first)
       by (none z passed) = by_walk (walk_of (list_of f)) refl z passed
 
-  refused_by : {r : Refusal} → ReadRefuses f r → read_of f ≡ Refused r
+  refused_by : {r : Refusal} → ReadRefuses f r → read_of f ≡ Err r
   refused_by (by_head first) = let told = told_first (head_told f bytes) first in
       read_refused f (sym (joined_is ∙ or_else_lem (head_number f) _ (λ z. told.1 (sym told.0 ∙ z)) ∙ ap bare told.0)) told.1
   refused_by (by_entry {r} passed fault) =

@@ -5,6 +5,7 @@
 --   volume_refused, entry-refused    the claims
 -- A test is passed where it does not hold.
 -- Assumes nothing.
+use Rattle.std.specs.Prelude.{Ok, Err}
 use mathlib.Core.Path.{◌≡◌, refl, sym, ap, ◌∙◌}
 use mathlib.Core.Bool.{Bool, true, false}
 use mathlib.Core.List.{List}
@@ -20,8 +21,7 @@ use Rattle.entries.specs.Claim.{BadName}
 use Rattle.entries.specs.Entry.{file_size_allowed, name_allowed}
 use Rattle.entries.specs.Walk.{walk_of}
 use Rattle.entries.specs.declared.Totals.{Totals}
-use Rattle.entries.specs.declared.Walked.{Walked}
-use Rattle.entries.specs.declared.Walked.TheVariants as walked
+use Rattle.entries.specs.Walk.{Walked}
 use Rattle.entries.proofs.FirstFaults.{first_refused}
 use Rattle.par1_rules.specs.Rules.{number_allowed, data_allowed}
 use Rattle.par1_rules.proofs.RuleLaws.{too_long}
@@ -45,7 +45,7 @@ use Rattle.par1.proofs.ReadWritten.{volume_accepted}
 
 module _ (c : Code) (program number : ℕ) (list area out : List ℕ) where
   -- a number that tests 7, 9 and 1 give
-  number_refused : {t : Totals} (k : ℕ) → walk_of list ≡ walked.Entries t → volume_refusal number t (length list) (length area) ≡ k → (k ≡ 0 → ⊥)
+  number_refused : {t : Totals} (k : ℕ) → walk_of list ≡ Ok t → volume_refusal number t (length list) (length area) ≡ k → (k ≡ 0 → ⊥)
       → write_volume_of c program number list area out ≡ refused (bare k) out
   unfolding write_volume_of
   number_refused k e is some = let s : List ℕ = volume_bytes c program number list area in
@@ -72,7 +72,7 @@ module _ (c : Code) (program number : ℕ) (list area out : List ℕ) where
       → (write_volume_of c program number list area out ≡ accepted (volume_bytes c program number list area) out → P) → P
   volume_first P some none = by (walk_of list) refl
     where
-      sized : {t : Totals} → walk_of list ≡ walked.Entries t → Decides (number_allowed number t.saved) (BadNumber number t.saved)
+      sized : {t : Totals} → walk_of list ≡ Ok t → Decides (number_allowed number t.saved) (BadNumber number t.saved)
           → Decides (data_allowed number t.greatest (length area)) (BadData number t.greatest (length area))
           → Dec (max_volume_length < 96 + length list + length area) → Dec (length out < 96 + length list + length area) → P
       sized e (fails p b) nine total room = some _ (bad_number e b)
@@ -84,8 +84,8 @@ module _ (c : Code) (program number : ℕ) (list area out : List ℕ) where
           none (volume_accepted c program number list area out t e p q (omega arith) (omega arith))
 
       by : (w : Walked) → walk_of list ≡ w → P
-      by (walked.Refused r) e = some _ (list_fault ((first_refused list r).0 e))
-      by (walked.Entries t) e = let total : ℕ = 96 + length list + length area in
+      by (Err r) e = some _ (list_fault ((first_refused list r).0 e))
+      by (Ok t) e = let total : ℕ = 96 + length list + length area in
           sized e (number_decides number t.saved) (data_decides number t.greatest (length area)) (dec_lt max_volume_length total) (dec_lt (length out) total)
 
 pub volume_refused : VolumeRefused

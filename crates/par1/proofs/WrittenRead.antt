@@ -10,12 +10,12 @@ use native.Mathlib.Omega.{arith}
 use lib.ListN.{length, take, drop, length-drop}
 use lib.Seq.{length-take-le, take_all}
 use Rattle.lent_bytes.specs.Writing.{accepted}
-use Rattle.lent_bytes.specs.declared.Writing.{Writing}
+use Rattle.lent_bytes.specs.Writing.{Writing}
 use Rattle.lent_bytes.proofs.WritingLaws.{unless_accepted}
 use Rattle.little_endian.specs.Bytes.{Bytes, to_le, numbers}
 use Rattle.entries.specs.Walk.{walk_of}
 use Rattle.entries.specs.declared.Totals.{Totals}
-use Rattle.entries.specs.declared.Walked.{Walked}
+use Rattle.entries.specs.Walk.{Walked}
 use Rattle.entries.proofs.WalkLaws.{walk_count}
 use Rattle.md5_digest.specs.Digest.{md5}
 use Rattle.par1_rules.specs.Layout.{signature, version_for, version_of, program_of, hashed_of, volume_number_of, count_of, list_size_of, data_start_of, data_size_of, list_of, data_of}

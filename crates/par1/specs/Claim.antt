@@ -27,9 +27,8 @@
 --   Checked                      checking answers it, and nothing else
 -- The contracts of write_volume, read, write_entry and check cite write_volume_of, read_of, write_entry_of and check_of.
 -- Assumes nothing.
-use Rattle.std.specs.Prelude.{◌≡◌, true, List, [], ◌∷◌, ◌++◌, ◌↔◌, ℕ, ◌+◌, ◌%◌, ◌^◌, ◌<◌, ◌≤◌, length, take, drop}
+use Rattle.std.specs.Prelude.{◌≡◌, true, List, [], ◌∷◌, ◌++◌, ◌↔◌, ℕ, ◌+◌, ◌%◌, ◌^◌, ◌<◌, ◌≤◌, length, take, drop, Ok, Err}
 use Rattle.lent_bytes.specs.Writing.{refused, accepted, RefusedExactly}
-use Rattle.lent_bytes.specs.declared.Writing.TheVariants.{Written}
 use Rattle.refusals.specs.Limits.{max_file_size, max_volume_length}
 use Rattle.refusals.specs.Order.{First}
 use Rattle.refusals.specs.Tests.{bare}
@@ -42,7 +41,6 @@ use Rattle.entries.specs.Entry.{entry_size, status_of, file_size_of, md5_of, md5
 use Rattle.entries.specs.Numbering.{saved_of}
 use Rattle.entries.specs.Walk.{first_of, entries_of, walk_of}
 use Rattle.entries.specs.declared.Totals.{Totals}
-use Rattle.entries.specs.declared.Walked.TheVariants as walked
 use Rattle.entries.specs.declared.Item.TheVariants.{Entry}
 use Rattle.md5_digest.specs.Digest.{md5}
 use Rattle.par1_rules.specs.Layout.{version_of, control_hash_of, set_hash_of, volume_number_of, count_of, list_start_of, list_size_of, data_start_of, data_size_of}
@@ -51,8 +49,6 @@ use Rattle.par1_rules.specs.Hashes.{set_hash, md5_first}
 use Rattle.par1_rules.specs.Rules.{number_allowed, data_allowed}
 use Rattle.par1_read.specs.Reading.{entries_in, read_of}
 use Rattle.par1_read.specs.declared.reading.Parts.{Parts}
-use Rattle.par1_read.specs.declared.reading.Reading.TheVariants as reading
-use Rattle.par1_read.specs.declared.reading.Reading.TheVariants.{Accepted}
 use Rattle.par1_write.specs.VolumeWriting.{volume_bytes, write_volume_of}
 use Rattle.par1_write.specs.EntryWriting.{entry_bytes, write_entry_of}
 use Rattle.par1.specs.Checking.{lone_refusal, check_of}
@@ -62,7 +58,7 @@ use Rattle.par1.specs.Checking.{lone_refusal, check_of}
 -- so a writer that refuses all is excluded, and with `ReadWritten` a reader that does; proved: proofs/ReadWritten.antt, `volume_accepted`
 abbrev pub VolumeAccepted : Type 0
 VolumeAccepted =
-    (c : Code) (program number : ℕ) (list area out : List ℕ) (t : Totals) → walk_of list ≡ walked.Entries t
+    (c : Code) (program number : ℕ) (list area out : List ℕ) (t : Totals) → walk_of list ≡ Ok t
     → number_allowed number t.saved ≡ true → data_allowed number t.greatest (length area) ≡ true
     → length (volume_bytes c program number list area) ≤ max_volume_length → length (volume_bytes c program number list area) ≤ length out
     → write_volume_of c program number list area out ≡ accepted (volume_bytes c program number list area) out
@@ -86,12 +82,12 @@ pub data BadData (v greatest n : ℕ) : Type 0 where
 -- its data
 pub data VolumeRefuses (number : ℕ) (list area out : List ℕ) : Refusal → Type 0 where
   list_fault : {r : Refusal} → FirstFault list r → VolumeRefuses number list area out r
-  bad_number : {t : Totals} → walk_of list ≡ walked.Entries t → BadNumber number t.saved → VolumeRefuses number list area out (bare 7)
-  bad_data : {t : Totals} → walk_of list ≡ walked.Entries t → (BadNumber number t.saved → ⊥) → BadData number t.greatest (length area)
+  bad_number : {t : Totals} → walk_of list ≡ Ok t → BadNumber number t.saved → VolumeRefuses number list area out (bare 7)
+  bad_data : {t : Totals} → walk_of list ≡ Ok t → (BadNumber number t.saved → ⊥) → BadData number t.greatest (length area)
       → VolumeRefuses number list area out (bare 9)
-  total_long : {t : Totals} → walk_of list ≡ walked.Entries t → (BadNumber number t.saved → ⊥) → (BadData number t.greatest (length area) → ⊥)
+  total_long : {t : Totals} → walk_of list ≡ Ok t → (BadNumber number t.saved → ⊥) → (BadData number t.greatest (length area) → ⊥)
       → max_volume_length < 96 + length list + length area → VolumeRefuses number list area out (bare 1)
-  volume_room : {t : Totals} → walk_of list ≡ walked.Entries t → (BadNumber number t.saved → ⊥) → (BadData number t.greatest (length area) → ⊥)
+  volume_room : {t : Totals} → walk_of list ≡ Ok t → (BadNumber number t.saved → ⊥) → (BadData number t.greatest (length area) → ⊥)
       → 96 + length list + length area ≤ max_volume_length → length out < 96 + length list + length area → VolumeRefuses number list area out (bare 14)
 
 -- of each code, by each program; proved: proofs/WritingRefusals.antt, `volume_refused`
@@ -106,7 +102,7 @@ VolumeRefused =
 abbrev pub VolumeWritten : Type 0
 VolumeWritten =
     (c : Code) (program number : ℕ) (list area out : List ℕ) (n : ℕ) (room : List ℕ)
-    → write_volume_of c program number list area out ≡ (Written n, room) → take n room ≡ volume_bytes c program number list area
+    → write_volume_of c program number list area out ≡ (Ok n, room) → take n room ≡ volume_bytes c program number list area
 
 -- ---- "Reading returns the parts it was written from"
 
@@ -127,7 +123,7 @@ parts_for c program number list area =
     }
 
 pub record ReadBack (f : List ℕ) (c : Code) (program number : ℕ) (list area : List ℕ) : Type 0 where
-  pub read_is : read_of f ≡ Accepted (parts_for c program number list area)
+  pub read_is : read_of f ≡ Ok (parts_for c program number list area)
   pub list_is : list_of f ≡ list
   pub data_is : data_of f ≡ area
 
@@ -135,14 +131,14 @@ pub record ReadBack (f : List ℕ) (c : Code) (program number : ℕ) (list area 
 abbrev pub ReadWritten : Type 0
 ReadWritten =
     (c : Code) (program number : ℕ) → program < 2 ^ 32 → number < 2 ^ 64 → (list area out : List ℕ) (n : ℕ) (room : List ℕ)
-    → write_volume_of c program number list area out ≡ (Written n, room) → ReadBack (take n room) c program number list area
+    → write_volume_of c program number list area out ≡ (Ok n, room) → ReadBack (take n room) c program number list area
 
 -- ---- "an accepted volume written again from its parts has the same bytes"
 
 -- with the code that reading gave, into any room that holds it, and the rest of the room stays; proved: proofs/WrittenRead.antt, `written_read`
 abbrev pub WrittenRead : Type 0
 WrittenRead =
-    (f : List ℕ) (p : Parts) (out : List ℕ) → Bytes f → read_of f ≡ Accepted p → length f ≤ length out
+    (f : List ℕ) (p : Parts) (out : List ℕ) → Bytes f → read_of f ≡ Ok p → length f ≤ length out
     → write_volume_of p.code p.program p.number (take p.list_size (drop 96 f)) (take p.data_size (drop p.data_start f)) out
     ≡ accepted f out
 
@@ -176,12 +172,12 @@ pub data TotalsFail (f : List ℕ) (t : Totals) : ℕ → Type 0 where
 pub data ReadRefuses (f : List ℕ) : Refusal → Type 0 where
   by_head : {k : ℕ} → First (HeadFails f) (1 ∷ 2 ∷ 3 ∷ 4 ∷ 5 ∷ []) k → ReadRefuses f (bare k)
   by_entry : {r : Refusal} → ((k : ℕ) → First (HeadFails f) (1 ∷ 2 ∷ 3 ∷ 4 ∷ 5 ∷ []) k → ⊥) → FirstFault (list_of f) r → ReadRefuses f r
-  by_totals : {t : Totals} {k : ℕ} → ((j : ℕ) → First (HeadFails f) (1 ∷ 2 ∷ 3 ∷ 4 ∷ 5 ∷ []) j → ⊥) → walk_of (list_of f) ≡ walked.Entries t
+  by_totals : {t : Totals} {k : ℕ} → ((j : ℕ) → First (HeadFails f) (1 ∷ 2 ∷ 3 ∷ 4 ∷ 5 ∷ []) j → ⊥) → walk_of (list_of f) ≡ Ok t
       → First (TotalsFail f t) (19 ∷ 7 ∷ 8 ∷ 9 ∷ []) k → ReadRefuses f (bare k)
 
 -- a file is a list of bytes, in chunks too (`running_read` specs/Claim, ReadChunked); proved: proofs/ReadingRefusals.antt, `reading_refused`
 abbrev pub ReadRefused : Type 0
-ReadRefused = (f : List ℕ) → Bytes f → (r : Refusal) → (read_of f ≡ reading.Refused r) ↔ ReadRefuses f r
+ReadRefused = (f : List ℕ) → Bytes f → (r : Refusal) → (read_of f ≡ Err r) ↔ ReadRefuses f r
 
 -- ---- the same for an entry
 
@@ -224,7 +220,7 @@ pub record EntryBack (e m : List ℕ) (status : ℕ) (name : List ℕ) : Type 0 
 abbrev pub EntryWritten : Type 0
 EntryWritten =
     (m : List ℕ) (status : ℕ) (name out : List ℕ) (n : ℕ) (room : List ℕ) → length out < 2 ^ 64
-    → write_entry_of m status name out ≡ (Written n, room) → EntryBack (take n room) m status name
+    → write_entry_of m status name out ≡ (Ok n, room) → EntryBack (take n room) m status name
 
 -- ---- document 02, 2026-01: which entry is at fault, and by which rule
 

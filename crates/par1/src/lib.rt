@@ -6,7 +6,6 @@ mod checking;
 
 pub use checking::{check, lone_refusal};
 pub use codes::Code;
-pub use lent_bytes::Writing;
-pub use par1_read::{Parts, Reading, read};
+pub use par1_read::{Parts, read};
 pub use par1_write::{write_entry, write_volume};
 pub use refusals::Refusal;

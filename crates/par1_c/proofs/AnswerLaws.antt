@@ -9,6 +9,7 @@
 --   read_asked, .., load_asked    the same, as what `answer` requires
 --   read_told, .., load_told      the claims
 -- Assumes nothing.
+use Rattle.std.specs.Prelude.{Ok, Err}
 use mathlib.Core.Path.{◌≡◌, refl, sym, ap, ◌∙◌}
 use mathlib.Core.Bool.{Bool, true, false, cond}
 use mathlib.Core.Logic.{⊎_elim}
@@ -33,8 +34,7 @@ use Rattle.par1_write.specs.VolumeWriting.{write_volume_of}
 use Rattle.par1_write.proofs.VolumeWritingLaws.{volume_within}
 use Rattle.codes.specs.declared.Code.{Code}
 use Rattle.parity.specs.Coefficient.{rule_of}
-use Rattle.lent_bytes.specs.declared.Writing.{Writing}
-use Rattle.lent_bytes.specs.declared.Writing.TheVariants.{Written, Refused}
+use Rattle.lent_bytes.specs.Writing.{Writing}
 use Rattle.amending.specs.Amending.{Change}
 use Rattle.amending.specs.Call.{amend_of}
 use Rattle.amending.proofs.RangeLaws.{accepted_most, refused_most}
@@ -86,8 +86,8 @@ read_end_answerable b out = let w = ended-within b out in record { number_most =
 
 module _ (n : ℕ) (c : Change) (d out : List ℕ) (h : length out < 2 ^ 64) where
   amend_answerable : (w : Writing) (t : List ℕ) → amend_of rule_of n c d out ≡ (w, t) → Answerable (length_told w)
-  amend_answerable (Written k) t e = let most = accepted_most rule_of n c d out e in record { number_most = omega arith; place_most = omega arith }
-  amend_answerable (Refused r) t e = let most = refused_most rule_of n c d out e in
+  amend_answerable (Ok k) t e = let most = accepted_most rule_of n c d out e in record { number_most = omega arith; place_most = omega arith }
+  amend_answerable (Err r) t e = let most = refused_most rule_of n c d out e in
       record { number_most = omega (arith, most.number_most); place_most = omega (arith, most.place_most) }
 
 compare_answerable : (f g out : List ℕ) → Answerable (length_told (written (comparison_of f g) out).0)
@@ -103,13 +103,13 @@ placed : (n k : ℕ) (r : Refusal) → n < 2 ^ 64 → k ≤ n / 36 + 1 → Most 
 placed n k r h m w = record { number_most = omega (arith, w.number_most); place_most = omega (arith, w.place_most) }
 
 export_answerable : (f out : List ℕ) → length f < 2 ^ 64 → (w : Writing) (t : List ℕ) → export_into f out ≡ (w, t) → Answerable (length_told w)
-export_answerable f out h (Written k) t e = let most = export_most f out e in record { number_most = omega arith; place_most = omega arith }
-export_answerable f out h (Refused r) t e = placed (length f) (length f / 58 + 1) r h (omega arith) (export_refusal_lem f out e)
+export_answerable f out h (Ok k) t e = let most = export_most f out e in record { number_most = omega arith; place_most = omega arith }
+export_answerable f out h (Err r) t e = placed (length f) (length f / 58 + 1) r h (omega arith) (export_refusal_lem f out e)
 
 import_answerable : (f s out : List ℕ) → length f < 2 ^ 64 → length s < 2 ^ 64 → (w : Writing) (t : List ℕ) → import_into f s out ≡ (w, t)
     → Answerable (length_told w)
-import_answerable f s out h g (Written k) t e = let most = import_most f s out e in record { number_most = omega arith; place_most = omega arith }
-import_answerable f s out h g (Refused r) t e =
+import_answerable f s out h g (Ok k) t e = let most = import_most f s out e in record { number_most = omega arith; place_most = omega arith }
+import_answerable f s out h g (Err r) t e =
     ⊎_elim (placed (length f) (length f / 58 + 1) r h (omega arith)) (placed (length s) (length s / 36 + 1) r g (omega arith)) (import_refusal_lem f s out e)
 
 -- what is written unless a test holds: the length is asked for where none does
@@ -140,8 +140,8 @@ load_answerable : (b : List ℕ) (n : ℕ) → Answerable (length_told (loading_
 load_answerable b n = by (loading_of b n) (loading_is b n)
   where
     by : (w : Writing) → Loads b n w → Answerable (length_told w)
-    by (Written k) (loads c few) = record { number_most = omega arith; place_most = omega (arith, (is_catalog_lem b c).few) }
-    by (Refused r) (loads_not w) = record { number_most = omega (arith, w.number_low); place_most = omega (arith, w.place_low) }
+    by (Ok k) (loads c few) = record { number_most = omega arith; place_most = omega (arith, (is_catalog_lem b c).few) }
+    by (Err r) (loads_not w) = record { number_most = omega (arith, w.number_low); place_most = omega (arith, w.place_low) }
 
 pub asked : {r q : Refusal} → r ≡ q → Answerable q → (r.number < 32) × (r.place < 2 ^ 59)
 asked e a = rw e (a.number_most, a.place_most)

@@ -8,6 +8,7 @@
 --   mul_add_stored_kept, read_stored_kept, push_kept, hash_push_kept, hash_end_kept, read_end_kept     the calls on jobs
 --   refused_kept                 the claim
 -- Assumes nothing.
+use Rattle.std.specs.Prelude.{Ok, Err}
 use mathlib.Core.Path.{◌≡◌, refl, sym, ap, ◌∙◌, subst}
 use mathlib.Core.Logic.{◌≢◌}
 use mathlib.Core.Bool.{Bool, true, false, cond}
@@ -21,8 +22,7 @@ use Rattle.codes.specs.declared.Code.{Code}
 use Rattle.parity.specs.Coefficient.{rule_of, coefficient_answer}
 use Rattle.parity.specs.Parity.{is_file}
 use Rattle.gf256.specs.Answer.{inverse_answer}
-use Rattle.gf256.specs.declared.ByteAnswer.{ByteAnswer}
-use Rattle.gf256.specs.declared.ByteAnswer.TheVariants as answer
+use Rattle.gf256.specs.Answer.{ByteAnswer}
 use Rattle.answer_bytes.specs.Results.{byte_into, parts_bytes, read_into, entry_numbers, entry_into}
 use Rattle.entries.specs.Walk.{first_of}
 use Rattle.entries.specs.declared.Item.{Item}
@@ -32,12 +32,10 @@ use Rattle.md5_digest.specs.Running.{pushed, finished}
 use Rattle.refusals.specs.Tests.{bare}
 use Rattle.refusals.specs.declared.Refusal.{Refusal}
 use Rattle.lent_bytes.specs.Writing.{refused, accepted, written, written_unless, with_refusal, with_number, Kept}
-use Rattle.lent_bytes.specs.declared.Writing.{Writing}
-use Rattle.lent_bytes.specs.declared.Writing.TheVariants.{Written, Refused}
+use Rattle.lent_bytes.specs.Writing.{Writing}
 use Rattle.lent_bytes.proofs.WritingLaws.{writing_kept, kept_by_number}
 use Rattle.par1_read.specs.Reading.{read_of}
-use Rattle.par1_read.specs.declared.reading.Reading.{Reading}
-use Rattle.par1_read.specs.declared.reading.Reading.TheVariants as reading
+use Rattle.par1_read.specs.Reading.{Reading}
 use Rattle.par1_write.specs.EntryWriting.{write_entry_of}
 use Rattle.par1_write.specs.VolumeWriting.{write_volume_of}
 use Rattle.amending.specs.Call.{amend_of}
@@ -82,12 +80,12 @@ number_keeps : (w : Writing × List ℕ) {out : List ℕ} → Kept w out → Kee
 number_keeps w k = kept_by_number w k
 
 told_keeps : (w : Writing × List ℕ) {out : List ℕ} → Kept w out → KeepsTold (answered (with_refusal w)) out
-told_keeps (Written n, t) k h = absurd (h refl)
-told_keeps (Refused r, t) k h = k r refl
+told_keeps (Ok n, t) k h = absurd (h refl)
+told_keeps (Err r, t) k h = k r refl
 
 length_keeps : (w : Writing × List ℕ) {out : List ℕ} → Kept w out → KeepsTold (answered_length w) out
-length_keeps (Written n, t) k h = absurd (h (omega arith))
-length_keeps (Refused r, t) k h = k r refl
+length_keeps (Ok n, t) k h = absurd (h (omega arith))
+length_keeps (Err r, t) k h = k r refl
 
 -- ---- calls that answer by cases
 
@@ -114,13 +112,13 @@ module _ (k : ℕ) (call : Code → ℕ × List ℕ) (out : List ℕ) where
 
 byte_kept : (a : ByteAnswer) (out : List ℕ) → Keeps (byte_into a out) out
 unfolding byte_into
-byte_kept (answer.Refused n) out = λ z. refl
-byte_kept (answer.Byte b) out = number_keeps (written (b ∷ []) out) (writing_kept.for_room (b ∷ []) out)
+byte_kept (Err n) out = λ z. refl
+byte_kept (Ok b) out = number_keeps (written (b ∷ []) out) (writing_kept.for_room (b ∷ []) out)
 
 read_kept : (r : Reading) (out : List ℕ) → KeepsTold (answered (read_into r out)) out
 unfolding read_into
-read_kept (reading.Refused r) out = λ z. refl
-read_kept (reading.Accepted p) out = told_keeps (written (parts_bytes p) out) (writing_kept.for_room (parts_bytes p) out)
+read_kept (Err r) out = λ z. refl
+read_kept (Ok p) out = told_keeps (written (parts_bytes p) out) (writing_kept.for_room (parts_bytes p) out)
 
 entry_kept : (i : Item) (out : List ℕ) → Keeps (entry_into i out) out
 unfolding entry_into
@@ -140,8 +138,8 @@ count_kept (reply number values) out =
     number_keeps (written_unless (bare number) (numbers values) out) (writing_kept.by_tests (bare number) (numbers values) out)
 
 load_kept : (w : Writing) (b : List ℕ) (rows : List Row) → KeepsTold (answered_rows (w, filled_by w b rows)) rows
-load_kept (Written n) b rows h = absurd (h (omega arith))
-load_kept (Refused r) b rows h = refl
+load_kept (Ok n) b rows h = absurd (h (omega arith))
+load_kept (Err r) b rows h = refl
 
 -- ---- a query
 

@@ -1,11 +1,11 @@
 -- What a load plans is what it gives.
 -- Assumes nothing.
+use Rattle.std.specs.Prelude.{Ok, Err}
 use mathlib.Core.Path.{◌≡◌, refl, ap}
 use mathlib.Core.List.{List}
 use Prim.Native.Nat.{ℕ, ◌≤◌}
 use lib.ListN.{length}
-use Rattle.lent_bytes.specs.declared.Writing.{Writing}
-use Rattle.lent_bytes.specs.declared.Writing.TheVariants.{Written, Refused}
+use Rattle.lent_bytes.specs.Writing.{Writing}
 use Rattle.catalog.specs.Calls.{loading_of, load_of}
 use Rattle.catalog.specs.declared.records.Row.{Row}
 use Rattle.catalog.proofs.RecordLaws.{filled_to, Filling, filling, filling_none}
@@ -16,8 +16,8 @@ module _ (b : List ℕ) (ys : List Row) where
   filled = by (loading_of b (length ys)) refl
     where
       by : (w : Writing) → loading_of b (length ys) ≡ w → Filling b ys (filled_count w)
-      by (Written n) e = filling b ys n e
-      by (Refused r) e = filling_none b ys e
+      by (Ok n) e = filling b ys n e
+      by (Err r) e = filling_none b ys e
 
   pub plan_fits : (load_plan b (length ys)).count ≤ length ys
   unfolding load_plan

@@ -14,7 +14,7 @@ use lib.ListN.{length}
 use Rattle.refusals.specs.Tests.{bare}
 use Rattle.refusals.specs.declared.Refusal.{Refusal}
 use Rattle.lent_bytes.specs.Writing.{accepted, refused, written}
-use Rattle.lent_bytes.specs.declared.Writing.{Writing}
+use Rattle.lent_bytes.specs.Writing.{Writing}
 use Rattle.recovery.specs.Recoverable.{State}
 use Rattle.replay.specs.Replay.{replay_of}
 use Rattle.replay.proofs.Determined.{decided}

@@ -12,9 +12,8 @@
 --   Keeps r out     r is the number of a call and what the lent bytes, `out` before, then hold: where it is refused, these are as they were
 --   KeepsTold r out     the same of a call that answers so
 -- Assumes nothing.
-use Rattle.std.specs.Prelude.{◌≡◌, ◌≢◌, List, ℕ, ◌+◌, ◌*◌, ◌/◌, ◌%◌, ◌^◌, ◌<◌}
-use Rattle.lent_bytes.specs.declared.Writing.{Writing}
-use Rattle.lent_bytes.specs.declared.Writing.TheVariants.{Written, Refused}
+use Rattle.std.specs.Prelude.{◌≡◌, ◌≢◌, List, ℕ, ◌+◌, ◌*◌, ◌/◌, ◌%◌, ◌^◌, ◌<◌, Ok, Err}
+use Rattle.lent_bytes.specs.Writing.{Writing}
 use Rattle.refusals.specs.declared.Refusal.{Refusal}
 use Rattle.catalog.specs.Calls.{loading_of}
 use Rattle.catalog.specs.declared.records.Row.{Row}
@@ -30,8 +29,8 @@ abbrev pub answered_end : Refusal × List ℕ × List ℕ → ℕ × List ℕ ×
 answered_end w = (answer_of w.0, w.1, w.2)
 
 abbrev pub length_told : Writing → Refusal
-length_told (Written n) = record { number = 0; place = n }
-length_told (Refused r) = r
+length_told (Ok n) = record { number = 0; place = n }
+length_told (Err r) = r
 
 abbrev pub answered_length : Writing × List ℕ → ℕ × List ℕ
 answered_length w = (answer_of (length_told w.0), w.1)
@@ -40,8 +39,8 @@ abbrev pub answered_rows : Writing × List Row → ℕ × List Row
 answered_rows w = (answer_of (length_told w.0), w.1)
 
 abbrev pub filled_count : Writing → ℕ
-filled_count (Written n) = n
-filled_count (Refused r) = 0
+filled_count (Ok n) = n
+filled_count (Err r) = 0
 
 unfoldable pub load_plan : List ℕ → ℕ → LoadPlan
 load_plan b n = let w : Writing = loading_of b n in record { answer = answer_of (length_told w); count = filled_count w }

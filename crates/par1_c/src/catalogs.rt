@@ -4,9 +4,9 @@ ghost use Rattle.std.specs.Prelude.{◌≡◌};
 ghost use Rattle.catalog.specs.Calls.{open_of, add_of, drop_of, load_of};
 ghost use Rattle.par1_c.specs.Answers.{answered_length, answered_rows, filled_count, load_plan};
 
+use refusals::Refusal;
 use crate::{answer, length_told};
 use catalog::Row;
-use lent_bytes::Writing;
 
 // What a load answers, and how many records it fills.
 #[derive(Clone, Copy)]
@@ -66,11 +66,11 @@ fn load_plan(catalog: &[u8], room: usize) -> LoadPlan
 }
 
 // How many records a load fills that answers so.
-fn filled(writing: Writing) -> usize
+fn filled(writing: Result<usize, Refusal>) -> usize
     ensures { result ≡ filled_count writing }
 {
     match writing {
-        Writing::Written(count) => count,
-        Writing::Refused(_) => 0,
+        Ok(count) => count,
+        Err(_) => 0,
     }
 }

@@ -28,7 +28,7 @@ mod texts;
 
 use answer_bytes::{put_answer, put_entry, put_reading};
 use codes::{code_of, is_code};
-use lent_bytes::{Writing, refusal_of};
+use lent_bytes::refusal_of;
 use par1::Refusal;
 use refusals::OUT_OF_RANGE;
 
@@ -138,15 +138,15 @@ pub extern "C" fn par1_check(entry: &[u8], contents: &[u8]) -> u32
 }
 
 // What a call that writes answers, as a number and its value: 0 and the length that it wrote, or its refusal and the place.
-fn length_told(writing: Writing) -> Refusal
+fn length_told(writing: Result<usize, Refusal>) -> Refusal
     ensures { result ≡ length_told writing }
 {
     match writing {
-        Writing::Written(length) => Refusal {
+        Ok(length) => Refusal {
             number: 0,
             place: length as u64,
         },
-        Writing::Refused(refusal) => refusal,
+        Err(refusal) => refusal,
     }
 }
 

@@ -6,6 +6,7 @@
 --   former_version    test 3 as document 01 has it, of any version but the other code's
 --   former_six, former_three     the claims
 -- Assumes nothing.
+use Rattle.std.specs.Prelude.{Ok, Err}
 use mathlib.Core.Path.{◌≡◌, refl, sym, ap, ◌∙◌, subst}
 use mathlib.Core.Bool.{Bool, true, false, ◌||◌}
 use mathlib.Core.List.{List}
@@ -18,8 +19,7 @@ use Rattle.lent_bytes.specs.Equal.{equal}
 use Rattle.refusals.specs.Tests.{test, or_else}
 use Rattle.refusals.specs.declared.Refusal.{Refusal}
 use Rattle.entries.specs.Walk.{walk_of}
-use Rattle.entries.specs.declared.Walked.{Walked}
-use Rattle.entries.specs.declared.Walked.TheVariants as walked
+use Rattle.entries.specs.Walk.{Walked}
 use Rattle.entries.proofs.WalkLaws.{walk_refused}
 use Rattle.par1_rules.specs.Layout.{signature, signature_of, version_of, control_hash_of, set_hash_of}
 use Rattle.par1_rules.specs.Layout.{volume_number_of, count_of, data_size_of, list_of}
@@ -63,10 +63,10 @@ former_version v h = ap (λ (b : Bool). eqb v 65536 || b) (ne_eqb _ _ h) ∙ by 
 module _ (f : List ℕ) where
   list_formerly : (w : Walked) → walk_of (list_of f) ≡ w → Formerly (list_refusal f (set_hash (entries_in f)) w).number (former_in_list f w)
   unfolding totals_refusal
-  list_formerly (walked.Entries t) e =
+  list_formerly (Ok t) e =
       totals_formerly (eqb t.entries (count_of f)) (number_allowed (volume_number_of f) t.saved) (equal (set_hash_of f) (set_hash (entries_in f)))
       (data_allowed (volume_number_of f) t.greatest (data_size_of f))
-  list_formerly (walked.Refused r) e = let told = walk_refused (list_of f) e in
+  list_formerly (Err r) e = let told = walk_refused (list_of f) e in
       record {
         former_is = simp (le-leb 16 r.number told.low, le-leb r.number 19 (omega (arith, told.high)));
         not_six = λ z. omega (arith, told.low);

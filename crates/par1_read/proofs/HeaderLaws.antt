@@ -2,6 +2,7 @@
 --
 --   header_alone    reading from the header alone
 -- Assumes nothing.
+use Rattle.std.specs.Prelude.{Ok, Err}
 use mathlib.Core.Path.{◌≡◌, refl}
 use mathlib.Core.List.{List}
 use Prim.Native.Nat.{ℕ, ◌+◌, ◌≤◌}
@@ -9,8 +10,7 @@ use native.Mathlib.Omega.{arith}
 use lib.ListN.{take}
 use Rattle.little_endian.specs.Bytes.{le_at}
 use Rattle.lent_bytes.proofs.PartLaws.{part_take, number_take}
-use Rattle.entries.specs.declared.Walked.{Walked}
-use Rattle.entries.specs.declared.Walked.TheVariants as walked
+use Rattle.entries.specs.Walk.{Walked}
 use Rattle.par1_rules.specs.Layout.{list_size_of, data_start_of, data_size_of}
 use Rattle.par1_rules.specs.Rules.{layout_allowed}
 use Rattle.par1_read.specs.Claim.{HeaderAlone}
@@ -35,9 +35,9 @@ module _ (f : List ℕ) where
 
   list_refusal_lem : (set : List ℕ) (w : Walked) → list_refusal (take 96 f) set w ≡ list_refusal f set w
   unfolding totals_refusal
-  list_refusal_lem set (walked.Entries t) =
+  list_refusal_lem set (Ok t) =
       simp (part_take 32 16 96 f (omega arith), field 8 48 (omega arith), field 8 56 (omega arith), field 8 88 (omega arith))
-  list_refusal_lem set (walked.Refused r) = refl
+  list_refusal_lem set (Err r) = refl
 
   parts_alone : (saved : ℕ) → parts_from (take 96 f) saved ≡ parts_from f saved
   parts_alone saved = let list_size_lem : list_size_of (take 96 f) ≡ list_size_of f = field 8 72 (omega arith) in

@@ -14,6 +14,7 @@
 --   refused_is, refused_some         which refusal a file is refused with, and that its number is not 0
 -- A test of document 01 is passed where it does not hold.
 -- Assumes nothing.
+use Rattle.std.specs.Prelude.{Ok, Err}
 use mathlib.Core.Path.{◌≡◌, refl, sym, ap, ◌∙◌}
 use mathlib.Core.Bool.{true}
 use mathlib.Core.List.{List, [], ◌∷◌, ◌++◌, append-nil, flatten}
@@ -31,8 +32,7 @@ use Rattle.entries.specs.Numbering.{saved_of}
 use Rattle.entries.specs.Entry.{length_of}
 use Rattle.entries.specs.Walk.{entries_of, totals_of, walked_to, walk_of}
 use Rattle.entries.specs.declared.Totals.{Totals}
-use Rattle.entries.specs.declared.Walked.{Walked}
-use Rattle.entries.specs.declared.Walked.TheVariants as walked
+use Rattle.entries.specs.Walk.{Walked}
 use Rattle.entries.proofs.WalkLaws.{walk_count, walk_saved, walk_refused}
 use Rattle.par1_rules.specs.Layout.{signature, version_for, signature_of, version_of, control_hash_of, set_hash_of}
 use Rattle.par1_rules.specs.Layout.{volume_number_of, count_of, list_size_of, data_size_of, list_of, data_of}
@@ -44,7 +44,6 @@ use Rattle.par1_read.specs.Reading.{saved_in, parts_from, read_from, entries_in,
 use Rattle.cut_lists.specs.Pieces.{if_zero}
 use Rattle.cut_lists.proofs.CutLaws.{cut_joins}
 use Rattle.par1_read.specs.declared.reading.Parts.{Parts}
-use Rattle.par1_read.specs.declared.reading.Reading.TheVariants.{Accepted, Refused}
 
 -- ---- the header
 
@@ -110,16 +109,16 @@ module _ (head set : List ℕ) (t : Totals) where
 -- ---- reading
 
 module _ (head : List ℕ) (n : ℕ) (digest set : List ℕ) (w : Walked) where
-  pub from_refused : {r : Refusal} → r ≡ refusal_from head n digest set w → (r.number ≡ 0 → ⊥) → read_from head n digest set w ≡ Refused r
+  pub from_refused : {r : Refusal} → r ≡ refusal_from head n digest set w → (r.number ≡ 0 → ⊥) → read_from head n digest set w ≡ Err r
   unfolding read_from
   from_refused {r} e h = simp (sym e) (by r.number refl)
     where
-      by : (k : ℕ) → k ≡ r.number → if_zero k (Accepted (parts_from head (saved_in w))) (Refused r) ≡ Refused r
+      by : (k : ℕ) → k ≡ r.number → if_zero k (Ok (parts_from head (saved_in w))) (Err r) ≡ Err r
       by zero z = absurd (h (sym z))
       by (suc k) z = refl
 
   pub from_accepted : {k : ℕ} {p : Parts} → (refusal_from head n digest set w).number ≡ 0 → k ≡ saved_in w → p ≡ parts_from head k
-      → read_from head n digest set w ≡ Accepted p
+      → read_from head n digest set w ≡ Ok p
   unfolding read_from
   from_accepted e saved parts = simp (e, parts, saved)
 
@@ -129,11 +128,11 @@ refusal_of f = refusal_from f (length f) (control_hash f) (set_hash (entries_in 
 abbrev pub parts_of : List ℕ → Parts
 parts_of f = parts_from f (length (saved_of (entries_in f)))
 
-pub read_refused : (f : List ℕ) {r : Refusal} → r ≡ refusal_of f → (r.number ≡ 0 → ⊥) → read_of f ≡ Refused r
+pub read_refused : (f : List ℕ) {r : Refusal} → r ≡ refusal_of f → (r.number ≡ 0 → ⊥) → read_of f ≡ Err r
 unfolding read_of refusal_of
 read_refused f e h = from_refused f (length f) (control_hash f) (set_hash (entries_in f)) (walk_of (list_of f)) e h
 
-pub header_refused : (f : List ℕ) {n : ℕ} → n ≡ header_refusal f (length f) → (n ≡ 0 → ⊥) → read_of f ≡ Refused (bare n)
+pub header_refused : (f : List ℕ) {n : ℕ} → n ≡ header_refusal f (length f) → (n ≡ 0 → ⊥) → read_of f ≡ Err (bare n)
 unfolding refusal_of refusal_from
 header_refused f {n} e h = read_refused f (ap bare e ∙ sym (or_else_lem (header_refusal f (length f)) _ (λ z. h (e ∙ z)))) h
 
@@ -149,14 +148,14 @@ pub record Passed (f : List ℕ) : Type 0 where
   pub header : HeaderPassed f (length f)
   pub control_is : control_hash_of f ≡ control_hash f
   pub totals_of_lem : Totals
-  pub walk_is : walk_of (list_of f) ≡ walked.Entries totals_of_lem
+  pub walk_is : walk_of (list_of f) ≡ Ok totals_of_lem
   pub totals : TotalsPassed f (set_hash (entries_in f)) totals_of_lem
 
 pub list_joined : (f : List ℕ) → Passed f → flatten (entries_in f) ≡ list_of f
 unfolding walk_of
 list_joined f p = by (entries_of (list_of f)).rest refl p.walk_is
   where
-    by : (r : List ℕ) → (entries_of (list_of f)).rest ≡ r → walked_to (totals_of (entries_in f)) r ≡ walked.Entries p.totals_of_lem
+    by : (r : List ℕ) → (entries_of (list_of f)).rest ≡ r → walked_to (totals_of (entries_in f)) r ≡ Ok p.totals_of_lem
         → flatten (entries_in f) ≡ list_of f
     by [] none e = sym (append-nil (flatten (entries_in f))) ∙ ap (λ (l : List ℕ). flatten (entries_in f) ++ l) (sym none) ∙ cut_joins length_of (list_of f)
     by (b ∷ r) some e = absurd (let z : ◌≡◌ {A = ℕ} 0 1 = cc in omega arith)
@@ -181,10 +180,10 @@ none_passed f e = let header = or-none (header_refusal f (length f)) _ e in
 
     list : (w : Walked) → w ≡ walk_of (list_of f) → HeaderPassed f (length f) → control_hash_of f ≡ control_hash f → (list_refusal f set w).number ≡ 0
         → Passed f
-    list (walked.Entries t) w h c e = record { header = h; control_is = c; totals_of_lem = t; walk_is = sym w; totals = totals_passed f set t e }
-    list (walked.Refused r) w h c e = absurd (omega (arith, (walk_refused (list_of f) (sym w)).low))
+    list (Ok t) w h c e = record { header = h; control_is = c; totals_of_lem = t; walk_is = sym w; totals = totals_passed f set t e }
+    list (Err r) w h c e = absurd (omega (arith, (walk_refused (list_of f) (sym w)).low))
 
-pub read_accepted : (f : List ℕ) → (refusal_of f).number ≡ 0 → read_of f ≡ Accepted (parts_of f)
+pub read_accepted : (f : List ℕ) → (refusal_of f).number ≡ 0 → read_of f ≡ Ok (parts_of f)
 unfolding read_of refusal_of
 read_accepted f e = let p = none_passed f e in
     let saved = ap (λ (w : Walked). saved_in w) p.walk_is ∙ walk_saved (list_of f) p.walk_is in
@@ -195,14 +194,14 @@ pub record ReadAccepted (f : List ℕ) (p : Parts) : Type 0 where
   pub tests : Passed f
   pub parts_are : p ≡ parts_of f
 
-pub read_tells : (f : List ℕ) (p : Parts) → read_of f ≡ Accepted p → ReadAccepted f p
+pub read_tells : (f : List ℕ) (p : Parts) → read_of f ≡ Ok p → ReadAccepted f p
 read_tells f p e = by (refusal_of f).number refl
   where
     by : (n : ℕ) → n ≡ (refusal_of f).number → ReadAccepted f p
     by zero n = let found = read_accepted f (sym n) in record { tests = none_passed f (sym n); parts_are = cc }
     by (suc m) n = let found = read_refused f refl (λ z. omega arith) in absurd (let z : ◌≡◌ {A = ℕ} 0 1 = cc in omega arith)
 
-module _ (f : List ℕ) {p : Parts} (e : read_of f ≡ Accepted p) where
+module _ (f : List ℕ) {p : Parts} (e : read_of f ≡ Ok p) where
   pub read_list : take p.list_size (drop 96 f) ≡ list_of f
   read_list = ap (λ (q : Parts). take q.list_size (drop 96 f)) (read_tells f p e).parts_are
 
@@ -210,13 +209,13 @@ module _ (f : List ℕ) {p : Parts} (e : read_of f ≡ Accepted p) where
   read_count = let t = read_tells f p e in
       ap (λ (q : Parts). q.entries) t.parts_are ∙ sym t.tests.totals.count_is ∙ walk_count (list_of f) t.tests.walk_is
 
-pub refused_is : (f : List ℕ) {r : Refusal} → read_of f ≡ Refused r → refusal_of f ≡ r
+pub refused_is : (f : List ℕ) {r : Refusal} → read_of f ≡ Err r → refusal_of f ≡ r
 refused_is f {r} e = by (refusal_of f).number refl
   where
     by : (n : ℕ) → n ≡ (refusal_of f).number → refusal_of f ≡ r
     by zero n = let found = read_accepted f (sym n) in absurd (let z : ◌≡◌ {A = ℕ} 0 1 = cc in omega arith)
     by (suc m) n = let found = read_refused f refl (λ z. omega arith) in cc
 
-pub refused_some : (f : List ℕ) {r : Refusal} → read_of f ≡ Refused r → r.number ≡ 0 → ⊥
+pub refused_some : (f : List ℕ) {r : Refusal} → read_of f ≡ Err r → r.number ≡ 0 → ⊥
 refused_some f {r} e z = let found = read_accepted f (ap (λ (r : Refusal). r.number) (refused_is f e) ∙ z) in
     let z : ◌≡◌ {A = ℕ} 0 1 = cc in omega arith

@@ -7,6 +7,7 @@
 --   replaced, replaced_alike, replaced_version     a file with another version
 --   version_alone      the claim
 -- Assumes nothing.
+use Rattle.std.specs.Prelude.{Ok, Err}
 use mathlib.Core.Path.{◌≡◌, refl, sym, ap, ap₂, ◌∙◌}
 use mathlib.Core.Bool.{true}
 use mathlib.Core.List.{List, [], ◌∷◌, ◌++◌, flatten}
@@ -24,15 +25,13 @@ use Rattle.refusals.specs.Tests.{test, or_else}
 use Rattle.refusals.specs.declared.Refusal.{Refusal}
 use Rattle.entries.specs.Numbering.{saved_of}
 use Rattle.entries.specs.Walk.{entries_of, walk_of}
-use Rattle.entries.specs.declared.Walked.{Walked}
-use Rattle.entries.specs.declared.Walked.TheVariants as walked
+use Rattle.entries.specs.Walk.{Walked}
 use Rattle.par1_rules.specs.Layout.{version_for, signature_of, version_of, list_size_of, data_start_of, data_size_of, list_of}
 use Rattle.par1_rules.specs.Hashes.{set_hash, control_hash}
 use Rattle.par1_rules.specs.Rules.{version_allowed, code_in, layout_allowed}
 use Rattle.par1_rules.proofs.RuleLaws.{version_fits}
 use Rattle.par1_read.specs.Claim.{AlikeButVersion, parts_with_code, with_code, VersionAlone}
 use Rattle.par1_read.specs.Reading.{header_refusal, control_refusal, totals_refusal, list_refusal, refusal_from, parts_from, entries_in, read_of}
-use Rattle.par1_read.specs.declared.reading.Reading.TheVariants.{Accepted}
 use Rattle.par1_read.proofs.ReadingLaws.{refusal_of, parts_of, read_accepted, read_refused}
 
 module _ {f g : List ℕ} (a : AlikeButVersion f g) where
@@ -68,8 +67,8 @@ module _ {f g : List ℕ} (a : AlikeButVersion f g) where
 
   totals_same : (set : List ℕ) (w : Walked) → list_refusal f set w ≡ list_refusal g set w
   unfolding totals_refusal
-  totals_same set (walked.Entries t) = simp (later 20, field 8 36, field 8 44, field 8 76)
-  totals_same set (walked.Refused r) = refl
+  totals_same set (Ok t) = simp (later 20, field 8 36, field 8 44, field 8 76)
+  totals_same set (Err r) = refl
 
   list_same : list_refusal f (set_hash (entries_in f)) (walk_of (list_of f)) ≡ list_refusal g (set_hash (entries_in g)) (walk_of (list_of g))
   list_same =
@@ -100,7 +99,7 @@ module _ {f g : List ℕ} (a : AlikeButVersion f g) where
         by : (n : ℕ) → n ≡ (refusal_of f).number → read_of g ≡ with_code (code_in (version_of g)) (read_of f)
         by zero e =
             read_accepted g (ap (λ (r : Refusal). r.number) (sym refusal_same) ∙ sym e)
-            ∙ ap Accepted parts_same
+            ∙ ap Ok parts_same
             ∙ ap (with_code (code_in (version_of g))) (sym (read_accepted f (sym e)))
         by (suc n) e = read_refused g refusal_same (λ z. omega arith) ∙ ap (with_code (code_in (version_of g))) (sym (read_refused f refl (λ z. omega arith)))
 

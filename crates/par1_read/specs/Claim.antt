@@ -14,19 +14,18 @@
 -- So what FormerSix says of a file of Par 1.0's version holds too of the same file with the other code's.
 -- The contracts of read_from and read cite read_from and read_of.
 -- Assumes nothing.
-use Rattle.std.specs.Prelude.{◌≡◌, true, List, ◌⊎◌, ℕ, ◌≤◌, ◌<◌, length, take, drop}
+use Rattle.std.specs.Prelude.{◌≡◌, true, List, ◌⊎◌, ℕ, ◌≤◌, ◌<◌, length, take, drop, Ok, Err}
 use Rattle.codes.specs.declared.Code.{Code}
 use Rattle.refusals.specs.declared.Refusal.{Refusal}
 use Rattle.entries.specs.Claim.{FirstFault}
-use Rattle.entries.specs.declared.Walked.{Walked}
+use Rattle.entries.specs.Walk.{Walked}
 use Rattle.par1_rules.specs.Layout.{signature, version_for, signature_of, version_of, list_of}
 use Rattle.par1_rules.specs.Hashes.{control_hash}
 use Rattle.par1_rules.specs.Rules.{length_allowed, version_allowed, code_in}
 use Rattle.par1_read.specs.Former.{former_number, former_refusal}
 use Rattle.par1_read.specs.Reading.{header_refusal, control_refusal, read_from, read_of, reading_refusal}
 use Rattle.par1_read.specs.declared.reading.Parts.{Parts}
-use Rattle.par1_read.specs.declared.reading.Reading.{Reading}
-use Rattle.par1_read.specs.declared.reading.Reading.TheVariants.{Accepted, Refused}
+use Rattle.par1_read.specs.Reading.{Reading}
 
 -- so a reader that has kept the header and no more of the file gives the same; proved: proofs/HeaderLaws.antt, `header_alone`
 abbrev pub HeaderAlone : Type 0
@@ -39,13 +38,13 @@ pub data Placed (f : List ℕ) (r : Refusal) : Type 0 where
 
 -- "the first fault is given with the entry's place in the list, from 1"; proved: proofs/PlaceLaws.antt, `read_placed`
 abbrev pub ReadPlaced : Type 0
-ReadPlaced = (f : List ℕ) (r : Refusal) → read_of f ≡ Refused r → Placed f r
+ReadPlaced = (f : List ℕ) (r : Refusal) → read_of f ≡ Err r → Placed f r
 
 -- so 19 and the tests after it come after every entry's; proved: proofs/PlaceLaws.antt, `fault_read`
 abbrev pub FaultRead : Type 0
 FaultRead =
     (f : List ℕ) (r : Refusal) → header_refusal f (length f) ≡ 0 → control_refusal f (control_hash f) ≡ 0 → FirstFault (list_of f) r
-    → read_of f ≡ Refused r
+    → read_of f ≡ Err r
 
 -- reading never gives 6 itself, so the numbers 16 to 19, and no others, stand for it; proved: proofs/FormerLaws.antt, `former_six`
 abbrev pub FormerSix : Type 0
@@ -80,8 +79,8 @@ parts_with_code c p =
     }
 
 abbrev pub with_code : Code → Reading → Reading
-with_code c (Accepted p) = Accepted (parts_with_code c p)
-with_code c (Refused r) = Refused r
+with_code c (Ok p) = Ok (parts_with_code c p)
+with_code c (Err r) = Err r
 
 -- the control hash too is the same: "the MD5 of all bytes from 32 to the end"; proved: proofs/VersionLaws.antt, `version_alone`
 pub record VersionAlone : Type 0 where

@@ -6,12 +6,11 @@
 --   former_in_list f w      the first of tests 6 to 9 that holds of the file f, where w is the walk over its list, 0 where none does
 --   former_refusal f       the first of tests 1 to 9 that holds of the file f, 0 where none does
 -- Assumes nothing.
-use Rattle.std.specs.Prelude.{ℕ, cond, ◌&&◌, List, leb, eqb, length}
+use Rattle.std.specs.Prelude.{ℕ, cond, ◌&&◌, List, leb, eqb, length, Ok, Err}
 use Rattle.lent_bytes.specs.Equal.{equal}
 use Rattle.refusals.specs.Tests.{test}
 use Rattle.entries.specs.Walk.{walk_of}
-use Rattle.entries.specs.declared.Walked.{Walked}
-use Rattle.entries.specs.declared.Walked.TheVariants as walked
+use Rattle.entries.specs.Walk.{Walked}
 use Rattle.par1_rules.specs.Layout.{signature, signature_of, version_of, control_hash_of, set_hash_of}
 use Rattle.par1_rules.specs.Layout.{volume_number_of, count_of, data_size_of, list_of}
 use Rattle.par1_rules.specs.Hashes.{set_hash, control_hash}
@@ -23,8 +22,8 @@ former_number n = cond (leb 16 n && leb n 19) 6 n
 
 -- "6: an entry or the list breaks its rules, or the count at 56 differs"
 abbrev pub former_in_list : List ℕ → Walked → ℕ
-former_in_list f (walked.Refused r) = 6
-former_in_list f (walked.Entries t) =
+former_in_list f (Err r) = 6
+former_in_list f (Ok t) =
     test 6 (eqb t.entries (count_of f))
     (test 7 (number_allowed (volume_number_of f) t.saved)
     (test 8 (equal (set_hash_of f) (set_hash (entries_in f)))

@@ -3,6 +3,7 @@
 -- The tests look at the header, the length of the file, two digests and the walk over the list. Of a list `head` that begins with the
 -- header they read no more than its 96 bytes (specs/Claim, `HeaderAlone`).
 --
+--   Reading                         what reading gives: the parts of a file, or the refusal by the first test that holds
 --   header_refusal head n           the number of the first of tests 1 to 4 that holds of a file of n bytes, 0 where none does
 --   control_refusal head digest     that of test 5, where digest is the MD5 of the bytes from 32 on
 --   totals_refusal head set t       that of tests 19, 7, 8 and 9, where set is the set hash of the list and t are its totals
@@ -15,22 +16,22 @@
 --   read_of f                       what reading the file f gives
 --   reading_refusal r               the refusal that a reading is, with the number 0 where it is accepted
 -- Assumes nothing.
-use Rattle.std.specs.Prelude.{ℕ, List, eqb, length}
+use Rattle.std.specs.Prelude.{ℕ, List, eqb, length, Result, Ok, Err}
 use Rattle.cut_lists.specs.Pieces.{if_zero}
 use Rattle.lent_bytes.specs.Equal.{equal}
 use Rattle.refusals.specs.Tests.{bare, test, or_else}
 use Rattle.refusals.specs.declared.Refusal.{Refusal}
 use Rattle.entries.specs.Walk.{entries_of, walk_of}
 use Rattle.entries.specs.declared.Totals.{Totals}
-use Rattle.entries.specs.declared.Walked.{Walked}
-use Rattle.entries.specs.declared.Walked.TheVariants as walked
+use Rattle.entries.specs.Walk.{Walked}
 use Rattle.par1_rules.specs.Layout.{signature, signature_of, version_of, program_of, control_hash_of, set_hash_of}
 use Rattle.par1_rules.specs.Layout.{volume_number_of, count_of, list_size_of, data_start_of, data_size_of, list_of}
 use Rattle.par1_rules.specs.Hashes.{set_hash, control_hash}
 use Rattle.par1_rules.specs.Rules.{length_allowed, version_allowed, code_in, layout_allowed, number_allowed, data_allowed}
 use Rattle.par1_read.specs.declared.reading.Parts.{Parts}
-use Rattle.par1_read.specs.declared.reading.Reading.{Reading}
-use Rattle.par1_read.specs.declared.reading.Reading.TheVariants.{Accepted, Refused}
+
+abbrev pub Reading : Type 0
+Reading = Result Parts Refusal
 
 unfoldable pub header_refusal : List ℕ → ℕ → ℕ
 header_refusal head n =
@@ -52,15 +53,15 @@ totals_refusal head set t =
 
 -- "the first fault is given with the entry's place in the list ..; 19 after all"
 abbrev pub list_refusal : List ℕ → List ℕ → Walked → Refusal
-list_refusal head set (walked.Entries t) = bare (totals_refusal head set t)
-list_refusal head set (walked.Refused r) = r
+list_refusal head set (Ok t) = bare (totals_refusal head set t)
+list_refusal head set (Err r) = r
 
 unfoldable pub refusal_from : List ℕ → ℕ → List ℕ → List ℕ → Walked → Refusal
 refusal_from head n digest set w = or_else (header_refusal head n) (or_else (control_refusal head digest) (list_refusal head set w))
 
 abbrev pub saved_in : Walked → ℕ
-saved_in (walked.Entries t) = t.saved
-saved_in (walked.Refused r) = 0
+saved_in (Ok t) = t.saved
+saved_in (Err r) = 0
 
 -- "program identifier, volume number, counts (entries and saved), and where list and data lie"; document 02, 2026-13, of the code: "reading
 -- returns it"
@@ -81,7 +82,7 @@ parts_from head saved =
 unfoldable pub read_from : List ℕ → ℕ → List ℕ → List ℕ → Walked → Reading
 read_from head n digest set w =
     let refusal : Refusal = refusal_from head n digest set w in
-    if_zero refusal.number (Accepted (parts_from head (saved_in w))) (Refused refusal)
+    if_zero refusal.number (Ok (parts_from head (saved_in w))) (Err refusal)
 
 abbrev pub entries_in : List ℕ → List (List ℕ)
 entries_in f = (entries_of (list_of f)).pieces
@@ -90,5 +91,5 @@ unfoldable pub read_of : List ℕ → Reading
 read_of f = read_from f (length f) (control_hash f) (set_hash (entries_in f)) (walk_of (list_of f))
 
 abbrev pub reading_refusal : Reading → Refusal
-reading_refusal (Accepted p) = bare 0
-reading_refusal (Refused r) = r
+reading_refusal (Ok p) = bare 0
+reading_refusal (Err r) = r

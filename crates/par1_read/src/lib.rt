@@ -3,4 +3,4 @@
 
 mod reading;
 
-pub use reading::{Parts, Reading, read, read_from, refusal_of};
+pub use reading::{Parts, read, read_from, refusal_of};

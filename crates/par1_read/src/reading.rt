@@ -4,7 +4,7 @@ ghost use Rattle.par1_read.specs.Reading.{header_refusal, control_refusal, total
 ghost use Rattle.par1_read.specs.Reading.{saved_in, parts_from, read_from, read_of, reading_refusal};
 
 use codes::Code;
-use entries::{Totals, Walked};
+use entries::Totals;
 use par1_rules::{hashes, layout, rules};
 use refusals::{Refusal, bare, or_else, test};
 
@@ -22,20 +22,13 @@ pub struct Parts {
     pub code: Code,
 }
 
-// What reading a file gives: its parts, or the refusal by the first test that holds.
-#[derive(Clone, Copy)]
-pub enum Reading {
-    Accepted(Parts),
-    Refused(Refusal),
-}
-
 // The parts of `file`, or the refusal by the first test that holds. A file whose header is refused has no list to walk over.
-pub fn read(file: &[u8]) -> Reading
+pub fn read(file: &[u8]) -> Result<Parts, Refusal>
     ensures { result ≡ read_of file.now }
 {
     let number = header_refusal(file, file.len());
     if number != 0 {
-        return Reading::Refused(bare(number));
+        return Err(bare(number));
     }
     let list_size = little_endian::read64(file, layout::LIST_SIZE_AT);
     let list = layout::part(file, layout::HEADER_LENGTH, list_size as usize);
@@ -46,28 +39,28 @@ pub fn read(file: &[u8]) -> Reading
 
 // What reading a file of `length` bytes gives that begins with `head`: `digest` is the MD5 of its bytes from 32 on, `set` the set hash of
 // its list, and `walked` the walk over the list.
-pub fn read_from(head: &[u8], length: usize, digest: &[u8], set: &[u8], walked: Walked) -> Reading
+pub fn read_from(head: &[u8], length: usize, digest: &[u8], set: &[u8], walked: Result<Totals, Refusal>) -> Result<Parts, Refusal>
     ensures { result ≡ read_from head.now length digest.now set.now walked }
 {
     let refusal = refusal_from(head, length, digest, set, walked);
     if refusal.number != 0 {
-        return Reading::Refused(refusal);
+        return Err(refusal);
     }
-    Reading::Accepted(parts_from(head, saved_in(walked)))
+    Ok(parts_from(head, saved_in(walked)))
 }
 
 // The refusal that a reading is, with the number 0 where it is accepted.
-pub fn refusal_of(reading: Reading) -> Refusal
+pub fn refusal_of(reading: Result<Parts, Refusal>) -> Refusal
     ensures { result ≡ reading_refusal reading }
 {
     match reading {
-        Reading::Accepted(_) => bare(0),
-        Reading::Refused(refusal) => refusal,
+        Ok(_) => bare(0),
+        Err(refusal) => refusal,
     }
 }
 
 // The refusal by the first test that holds, with the number 0 where none does.
-fn refusal_from(head: &[u8], length: usize, digest: &[u8], set: &[u8], walked: Walked) -> Refusal
+fn refusal_from(head: &[u8], length: usize, digest: &[u8], set: &[u8], walked: Result<Totals, Refusal>) -> Refusal
     ensures { result ≡ refusal_from head.now length digest.now set.now walked }
 {
     let header = header_refusal(head, length);
@@ -99,12 +92,12 @@ fn control_refusal(head: &[u8], digest: &[u8]) -> u32
 }
 
 // The refusal by the first of the tests on the list that holds, with the number 0 where none does.
-fn list_refusal(head: &[u8], set: &[u8], walked: Walked) -> Refusal
+fn list_refusal(head: &[u8], set: &[u8], walked: Result<Totals, Refusal>) -> Refusal
     ensures { result ≡ list_refusal head.now set.now walked }
 {
     match walked {
-        Walked::Entries(totals) => bare(totals_refusal(head, set, totals)),
-        Walked::Refused(refusal) => refusal,
+        Ok(totals) => bare(totals_refusal(head, set, totals)),
+        Err(refusal) => refusal,
     }
 }
 
@@ -142,11 +135,11 @@ fn parts_from(head: &[u8], saved: u64) -> Parts
 }
 
 // The number of saved entries that the walk found.
-fn saved_in(walked: Walked) -> u64
+fn saved_in(walked: Result<Totals, Refusal>) -> u64
     ensures { result ≡ saved_in walked }
 {
     match walked {
-        Walked::Entries(totals) => totals.saved,
-        Walked::Refused(_) => 0,
+        Ok(totals) => totals.saved,
+        Err(_) => 0,
     }
 }

@@ -8,6 +8,7 @@
 --   number_contents    the file of an entry is the one that its file number names
 --   set-listed         how the files stand in their list
 -- Assumes nothing.
+use Rattle.std.specs.Prelude.{Ok}
 use mathlib.Core.Path.{◌≡◌, refl, sym, ap, ap₂, ◌∙◌}
 use mathlib.Core.Bool.{Bool, true}
 use mathlib.Core.List.{List, [], ◌∷◌, map, foldr, flatten}
@@ -22,7 +23,6 @@ use Rattle.entries.specs.Entry.{status_of, file_size_of, is_saved, is_counted, l
 use Rattle.entries.specs.Numbering.{keep, saved_of, file_number}
 use Rattle.entries.specs.Walk.{entries_of, greatest_of, totals_of, walked_to, walk_of}
 use Rattle.entries.specs.declared.Totals.{Totals}
-use Rattle.entries.specs.declared.Walked.TheVariants as walked
 use Rattle.entries.proofs.KeepLaws.{keep_at, keep_same, keep-map, all_keep}
 use Rattle.entries.proofs.NumberingLaws.{number_saved}
 use Rattle.par1.proofs.EntryWritten.{entry_back}
@@ -67,9 +67,9 @@ saved_count_lem {fs} bs = ap length (keep_entries is_saved bs) ∙ length-map (s
 abbrev pub totals_for : List File → Totals
 totals_for fs = record { entries = length fs; saved = file_count fs; greatest = data_size_for fs }
 
-pub walk_is : {fs : List File} → All FileBack fs → walk_of (list_for fs) ≡ walked.Entries (totals_for fs)
+pub walk_is : {fs : List File} → All FileBack fs → walk_of (list_for fs) ≡ Ok (totals_for fs)
 unfolding walk_of
-walk_is {fs} bs = ap (λ c. walked_to (totals_of c.pieces) c.rest) (entries_of_lem bs) ∙ ap walked.Entries totals
+walk_is {fs} bs = ap (λ c. walked_to (totals_of c.pieces) c.rest) (entries_of_lem bs) ∙ ap Ok totals
   where
     totals : totals_of (entries_for fs) ≡ totals_for fs
     totals = let n = length-map fs (λ x. entry_for x) in cc (n, saved_count_lem bs, greatest_is bs)

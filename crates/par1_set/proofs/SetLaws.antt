@@ -6,6 +6,7 @@
 --   set_read_back          it is read back
 --   set_only               nothing else is written
 -- Assumes nothing.
+use Rattle.std.specs.Prelude.{Ok}
 use mathlib.Core.Path.{◌≡◌, sym, ap, ◌∙◌, subst}
 use mathlib.Core.Bool.{true}
 use mathlib.Core.List.{List}
@@ -15,10 +16,8 @@ use lib.ListN.{length}
 use Rattle.cut_lists.specs.All.{All}
 use Rattle.codes.specs.declared.Code.{Code}
 use Rattle.entries.specs.declared.Totals.{Totals}
-use Rattle.entries.specs.declared.Walked.TheVariants as walked
 use Rattle.entries.specs.Walk.{walk_of}
 use Rattle.lent_bytes.specs.Writing.{accepted}
-use Rattle.lent_bytes.specs.declared.Writing.TheVariants.{Written}
 use Rattle.lent_bytes.proofs.WritingLaws.{unless_accepted, unless_tells}
 use Rattle.par1.specs.Claim.{ReadBack}
 use Rattle.par1.proofs.ReadWritten.{ListPassed, list_passed, volume_accepted, volume_back}
@@ -71,19 +70,19 @@ module _ {v : ℕ} {fs : List File} {area : List ℕ} (s : SetPassed v fs area) 
 
 -- the tests of writing passed, and the bytes are those of the set
 pub set_only : (c : Code) (program v : ℕ) (fs : List File) (area room out : List ℕ) {n : ℕ} {after : List ℕ}
-    → write_set c program v fs area room out ≡ (Written n, after)
-    → SetPassed v fs area × All Writable fs × ((Written n, after) ≡ accepted (bytes_for (version_for c) program v fs area) out)
+    → write_set c program v fs area room out ≡ (Ok n, after)
+    → SetPassed v fs area × All Writable fs × ((Ok n, after) ≡ accepted (bytes_for (version_for c) program v fs area) out)
 unfolding write_volume_of
 set_only c program v fs area room out {n} {after} e = let told = set_tells c program v fs area room out e in
     let l : List ℕ = list_for fs in
     let refusal : Refusal = walk_refusal v (walk_of l) (length l) (length area) in
     let f : List ℕ = volume_bytes c program v l area in
     let fits = unless_tells refusal f out told.2 in
-    let written : (Written n, after) ≡ accepted f out = sym told.2 ∙ unless_accepted refusal f out fits.none fits.fits in
+    let written : (Ok n, after) ≡ accepted f out = sym told.2 ∙ unless_accepted refusal f out fits.none fits.fits in
     let passed = list_passed v l (length area) fits.none in
     let high = passed.tests.size.high in
     let back = files_back told.0 (omega arith) in
-    let both : walked.Entries passed.totals_of_lem ≡ walked.Entries (totals_for fs) = sym passed.walk_is ∙ walk_is back in
+    let both : Ok passed.totals_of_lem ≡ Ok (totals_for fs) = sym passed.walk_is ∙ walk_is back in
     let totals : passed.totals_of_lem ≡ totals_for fs = cc in (
       record {
         files_right = told.0;

@@ -5,6 +5,7 @@
 --   volume_made                  the calls give the volume, by any rule for the coefficients and with the version of any code
 --   set_read, set-written, index_read, index_written, only_volumes, only_indices     the claims
 -- Assumes nothing.
+use Rattle.std.specs.Prelude.{Ok}
 use mathlib.Core.Path.{◌≡◌, ap, ◌∙◌}
 use mathlib.Core.Bool.{true}
 use mathlib.Core.List.{List}
@@ -13,7 +14,6 @@ use native.Mathlib.Omega.{arith}
 use lib.ListN.{length}
 use Rattle.cut_lists.specs.All.{All}
 use Rattle.codes.specs.declared.Code.{Code}
-use Rattle.gf256.specs.declared.ByteAnswer.TheVariants.{Byte}
 use Rattle.lent_bytes.specs.Writing.{accepted}
 use Rattle.mul_add.specs.Once.{Once}
 use Rattle.par1_rules.specs.Layout.{version_for}
@@ -46,7 +46,7 @@ module _ {v : ℕ} {fs : List File} (right : VolumeRight v fs) where
         length_right = omega (arith, right.length_right);
       }
 
-  coefficients : (c : Code) (f : ℕ) → is_file (file_count fs) f ≡ true → coefficient_answer c f v ≡ Byte (rule_of c f v)
+  coefficients : (c : Code) (f : ℕ) → is_file (file_count fs) f ≡ true → coefficient_answer c f v ≡ Ok (rule_of c f v)
   coefficients c f e = let inside = is_file_inside (file_count fs) f e in
       answer_in_range c f v inside.0 right.volume_low (omega (arith, inside.1, right.volume_high))
 

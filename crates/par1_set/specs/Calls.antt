@@ -7,11 +7,10 @@
 --   write_set c program v fs area room out  the entries of the files fs into room, then `write_volume` for the code c of this list and the data area
 --                                          into out
 -- Assumes nothing.
-use Rattle.std.specs.Prelude.{List, [], ◌∷◌, ◌++◌, ℕ, ◌+◌, take, drop, replicate}
+use Rattle.std.specs.Prelude.{List, [], ◌∷◌, ◌++◌, ℕ, ◌+◌, take, drop, replicate, Ok, Err}
 use Rattle.codes.specs.declared.Code.{Code}
 use Rattle.lent_bytes.specs.Writing.{refused}
-use Rattle.lent_bytes.specs.declared.Writing.{Writing}
-use Rattle.lent_bytes.specs.declared.Writing.TheVariants.{Written, Refused}
+use Rattle.lent_bytes.specs.Writing.{Writing}
 use Rattle.mul_add.specs.MulAdd.{mul_add_all}
 use Rattle.par1_write.specs.EntryWriting.{write_entry_of}
 use Rattle.par1_write.specs.VolumeWriting.{write_volume_of}
@@ -19,11 +18,11 @@ use Rattle.par1_set.specs.Files.{File, contents_of, data_size_for}
 
 -- the first refusal ends a row of calls
 abbrev pub next : Writing → List ℕ → (ℕ → Writing × List ℕ) → Writing × List ℕ
-next (Written n) out then = then n
-next (Refused k) out then = refused k out
+next (Ok n) out then = then n
+next (Err k) out then = refused k out
 
 unfoldable pub write_entries : List File → ℕ → List ℕ → Writing × List ℕ
-write_entries [] at out = (Written at, out)
+write_entries [] at out = (Ok at, out)
 write_entries (x ∷ fs) at out =
     let r : Writing × List ℕ = write_entry_of x.contents x.status x.name (drop at out) in
     next r.0 out (λ n. write_entries fs (at + n) (take at out ++ r.1))

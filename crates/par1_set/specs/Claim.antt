@@ -14,15 +14,13 @@
 -- The contracts of write_entry, coefficient, mul_add, write_volume, read and check cite write_entry_of, coefficient_answer, mul_add,
 -- write_volume_of, read_of and check_of.
 -- Assumes nothing.
-use Rattle.std.specs.Prelude.{◌≡◌, true, List, [], ℕ, ◌^◌, ◌<◌, ◌≤◌, length, get_or}
+use Rattle.std.specs.Prelude.{◌≡◌, true, List, [], ℕ, ◌^◌, ◌<◌, ◌≤◌, length, get_or, Ok}
 use Rattle.cut_lists.specs.All.{All}
 use Rattle.codes.specs.declared.Code.{Code}
 use Rattle.entries.specs.Entry.{is_saved}
 use Rattle.entries.specs.Numbering.{saved_of, file_number}
 use Rattle.entries.specs.Walk.{entries_of, greatest_of}
-use Rattle.gf256.specs.declared.ByteAnswer.TheVariants.{Byte}
 use Rattle.lent_bytes.specs.Writing.{accepted}
-use Rattle.lent_bytes.specs.declared.Writing.TheVariants.{Written}
 use Rattle.mul_add.specs.Once.{Once}
 use Rattle.par1.specs.Claim.{ReadBack, EntryBack}
 use Rattle.par1_rules.specs.Layout.{version_for}
@@ -40,7 +38,7 @@ pub record VolumeMade (c : Code) (program v : ℕ) (fs : List File) (ks room out
   -- `write_entry` of each file, one after another, gives the list
   pub list_is : write_entries fs 0 room ≡ accepted (list_for fs) room
   -- `coefficient` of each saved file gives its weight
-  pub coefficients_are : (f : ℕ) → is_file (file_count fs) f ≡ true → coefficient_answer c f v ≡ Byte (rule_of c f v)
+  pub coefficients_are : (f : ℕ) → is_file (file_count fs) f ≡ true → coefficient_answer c f v ≡ Ok (rule_of c f v)
   -- `mul_add` of each saved file with its weight, into zeros, gives the data
   pub data_is : add_files (rule_of c) v fs ks ≡ data_for (rule_of c) v fs
   -- `write_volume` of the list and the data gives the volume
@@ -75,15 +73,15 @@ IndexWritten =
 abbrev pub OnlyVolumes : Type 0
 OnlyVolumes =
     (c : Code) (program v : ℕ) (fs : List File) (ks room out : List ℕ) (n : ℕ) (after : List ℕ) → 1 ≤ v → Once (is_file (file_count fs)) ks
-    → write_set c program v fs (add_files (rule_of c) v fs ks) room out ≡ (Written n, after)
-    → VolumeRight v fs × All Writable fs × ((Written n, after) ≡ accepted (volume_for (version_for c) (rule_of c) program v fs) out)
+    → write_set c program v fs (add_files (rule_of c) v fs ks) room out ≡ (Ok n, after)
+    → VolumeRight v fs × All Writable fs × ((Ok n, after) ≡ accepted (volume_for (version_for c) (rule_of c) program v fs) out)
 
 -- proved: proofs/Sets.antt, `only_indices`
 abbrev pub OnlyIndices : Type 0
 OnlyIndices =
     (c : Code) (program : ℕ) (fs : List File) (comment room out : List ℕ) (n : ℕ) (after : List ℕ)
-    → write_set c program 0 fs comment room out ≡ (Written n, after)
-    → IndexRight fs comment × All Writable fs × ((Written n, after) ≡ accepted (index_for (version_for c) program fs comment) out)
+    → write_set c program 0 fs comment room out ≡ (Ok n, after)
+    → IndexRight fs comment × All Writable fs × ((Ok n, after) ≡ accepted (index_for (version_for c) program fs comment) out)
 
 -- ---- document 02, 2026-09: "Old volumes that carry it are still read and written back unchanged", for what is read is written again with the same
 -- ---- bytes (`par1` specs/Claim, `WrittenRead`)

@@ -5,6 +5,7 @@
 --   entry-refused, entry_short, entry-over     what writing gives: refused by them, refused with 14, and the entry stored at the front
 -- A test of document 01 is passed where it does not hold.
 -- Assumes nothing.
+use Rattle.std.specs.Prelude.{Ok, Err}
 use mathlib.Core.Path.{◌≡◌, sym, ap, ◌∙◌}
 use mathlib.Core.Bool.{true}
 use mathlib.Core.List.{List, flatten}
@@ -12,7 +13,6 @@ use Prim.Native.Nat.{ℕ, ◌+◌, ◌≤◌, ◌<◌}
 use native.Mathlib.Omega.{arith}
 use lib.ListN.{length, length-append}
 use lib.Seq.{sets}
-use Rattle.lent_bytes.specs.declared.Writing.TheVariants.{Written, Refused}
 use Rattle.lent_bytes.proofs.StoreLaws.{sets_over}
 use Rattle.lent_bytes.proofs.WritingLaws.{written_fits, written_short, unless_none, unless_refused}
 use Rattle.little_endian.proofs.Numbers.{length-to_le}
@@ -44,17 +44,17 @@ entry_passed size status name e = let one = test_passed _ (file_size_allowed siz
 -- ---- what writing gives, from the number n that the tests gave
 
 module _ (m : List ℕ) (status : ℕ) (name out : List ℕ) {n : ℕ} (e : n ≡ entry_refusal (length m) status name) where
-  pub entry-refused : {r : Refusal} {t : List ℕ} → r ≡ bare n → (n ≡ 0 → ⊥) → t ≡ out → (Refused r, t) ≡ write_entry_of m status name out
+  pub entry-refused : {r : Refusal} {t : List ℕ} → r ≡ bare n → (n ≡ 0 → ⊥) → t ≡ out → (Err r, t) ≡ write_entry_of m status name out
   unfolding write_entry_of
   entry-refused is h same = rw is (unless_refused (entry_bytes m status name) out (ap bare e) h same)
 
-  pub entry_short : {r : Refusal} → r ≡ bare 14 → n ≡ 0 → length out < 56 + length name → (Refused r, out) ≡ write_entry_of m status name out
+  pub entry_short : {r : Refusal} → r ≡ bare 14 → n ≡ 0 → length out < 56 + length name → (Err r, out) ≡ write_entry_of m status name out
   unfolding write_entry_of
   entry_short is z h = let s : List ℕ = entry_bytes m status name in
       rw is (unless_none s out (ap bare e) z (written_short s out (omega (arith, length-entry m status name))))
 
   pub entry-over : {t : List ℕ} → n ≡ 0 → 56 + length name ≤ length out → t ≡ sets out 0 (entry_bytes m status name)
-      → (Written (56 + length name), t) ≡ write_entry_of m status name out
+      → (Ok (56 + length name), t) ≡ write_entry_of m status name out
   unfolding write_entry_of
   entry-over z h wrote = let s : List ℕ = entry_bytes m status name in
       let size : 56 + length name ≡ length s = sym (length-entry m status name) in

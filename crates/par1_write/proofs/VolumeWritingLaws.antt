@@ -7,6 +7,7 @@
 --   volume_refused, volume_short, volume_over     what writing gives: refused by them, refused with 14, and body and head stored
 -- A test of document 01 is passed where it does not hold.
 -- Assumes nothing.
+use Rattle.std.specs.Prelude.{Ok, Err}
 use mathlib.Core.Path.{◌≡◌, refl, sym, ap, ap₂, ◌∙◌}
 use mathlib.Core.Bool.{Bool, true}
 use mathlib.Core.List.{List, ◌++◌, append_assoc, flatten}
@@ -15,7 +16,6 @@ use native.Mathlib.Omega.{arith}
 use lib.ListN.{length, take, drop, length-append}
 use lib.Seq.{sets, sets-eq, length-sets, drop_at, length-take-le}
 use Rattle.lent_bytes.specs.Writing.{with_refusal}
-use Rattle.lent_bytes.specs.declared.Writing.TheVariants.{Written, Refused}
 use Rattle.lent_bytes.proofs.StoreLaws.{sets_over}
 use Rattle.lent_bytes.proofs.WritingLaws.{written_fits, written_short, unless_none, unless_refused, unless_within}
 use Rattle.little_endian.proofs.Numbers.{length-to_le}
@@ -24,8 +24,7 @@ use Rattle.little_endian.proofs.Stores.{part_sets}
 use Rattle.codes.specs.declared.Code.{Code}
 use Rattle.entries.specs.Walk.{entries_of, walk_of}
 use Rattle.entries.specs.declared.Totals.{Totals}
-use Rattle.entries.specs.declared.Walked.{Walked}
-use Rattle.entries.specs.declared.Walked.TheVariants as walked
+use Rattle.entries.specs.Walk.{Walked}
 use Rattle.entries.proofs.WalkLaws.{walk_refused}
 use Rattle.par1_rules.specs.Rules.{length_allowed, number_allowed, data_allowed}
 use Rattle.par1_write.specs.VolumeWriting.{body_bytes, head_bytes, volume_bytes, volume_refusal, walk_refusal, write_volume_of}
@@ -80,8 +79,8 @@ volume_most number t list-len data-len =
 
 walk_within : (number : ℕ) (list : List ℕ) (data-len : ℕ) (w : Walked) → walk_of list ≡ w
     → Within (length list / 58 + 1) (walk_refusal number w (length list) data-len)
-walk_within number list data-len (walked.Entries t) e = bare-within (length list / 58 + 1) _ (volume_most number t (length list) data-len)
-walk_within number list data-len (walked.Refused r) e =
+walk_within number list data-len (Ok t) e = bare-within (length list / 58 + 1) _ (volume_most number t (length list) data-len)
+walk_within number list data-len (Err r) e =
     let told = walk_refused list e in record { number_most = omega (arith, told.high); place_most = told.place_most }
 
 -- a number of at most 19, and the place of an entry of 58 bytes or more in the list
@@ -116,12 +115,12 @@ module _ (c : Code) (program number : ℕ) (list «data» out : List ℕ) {n : R
   told : n ≡ walk_refusal number (walk_of list) (length list) (length «data»)
   told = e ∙ ap (λ (w : Walked). walk_refusal number w (length list) (length «data»)) walked
 
-  pub volume_refused : (n.number ≡ 0 → ⊥) → (Refused n, out) ≡ write_volume_of c program number list «data» out
+  pub volume_refused : (n.number ≡ 0 → ⊥) → (Err n, out) ≡ write_volume_of c program number list «data» out
   unfolding write_volume_of
   volume_refused h = unless_refused (volume_bytes c program number list «data») out told h refl
 
   pub volume_short : {r : Refusal} → r ≡ bare 14 → n.number ≡ 0 → length out < 96 + length list + length «data»
-      → (Refused r, out) ≡ write_volume_of c program number list «data» out
+      → (Err r, out) ≡ write_volume_of c program number list «data» out
   unfolding write_volume_of
   volume_short is z h = let s : List ℕ = volume_bytes c program number list «data» in
       rw is (unless_none s out told z (written_short s out (omega (arith, length_volume c program number list «data»))))
@@ -129,7 +128,7 @@ module _ (c : Code) (program number : ℕ) (list «data» out : List ℕ) {n : R
   pub volume_over : {k : ℕ} {t u : List ℕ} → n.number ≡ 0 → 96 + length list + length «data» ≤ length out → k ≡ length (entries_of list).pieces
       → t ≡ sets out 32 (body_bytes k number list «data»)
       → u ≡ sets t 0 (head_bytes c program (take (96 + length list + length «data» - 32) (drop 32 t)))
-      → (Written (96 + length list + length «data»), u) ≡ write_volume_of c program number list «data» out
+      → (Ok (96 + length list + length «data»), u) ≡ write_volume_of c program number list «data» out
   unfolding write_volume_of volume_bytes
   volume_over z h count wrote headed = let k : ℕ = length (entries_of list).pieces in
       let body : List ℕ = body_bytes k number list «data» in

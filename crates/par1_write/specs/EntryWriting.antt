@@ -9,7 +9,7 @@
 use Rattle.std.specs.Prelude.{ℕ, ◌+◌, Bool, leb, length}
 use mathlib.Core.List.{List, [], ◌∷◌, flatten}
 use Rattle.lent_bytes.specs.Writing.{written_unless}
-use Rattle.lent_bytes.specs.declared.Writing.{Writing}
+use Rattle.lent_bytes.specs.Writing.{Writing}
 use Rattle.little_endian.specs.Bytes.{to_le}
 use Rattle.md5_digest.specs.Digest.{md5}
 use Rattle.entries.specs.Entry.{name_allowed, file_size_allowed}

@@ -11,17 +11,16 @@
 --   walk_refusal v w l d                 the refusal by the tests before 14, from the walk w over the list; its number is 0 where there is none
 --   write_volume_of c p v list data out   what writing gives
 -- Assumes nothing.
-use Rattle.std.specs.Prelude.{ℕ, ◌+◌, length}
+use Rattle.std.specs.Prelude.{ℕ, ◌+◌, length, Ok, Err}
 use mathlib.Core.List.{List, [], ◌∷◌, ◌++◌, flatten}
 use Rattle.lent_bytes.specs.Writing.{written_unless}
-use Rattle.lent_bytes.specs.declared.Writing.{Writing}
+use Rattle.lent_bytes.specs.Writing.{Writing}
 use Rattle.little_endian.specs.Bytes.{to_le, numbers}
 use Rattle.md5_digest.specs.Digest.{md5}
 use Rattle.codes.specs.declared.Code.{Code}
 use Rattle.entries.specs.Walk.{entries_of, walk_of}
 use Rattle.entries.specs.declared.Totals.{Totals}
-use Rattle.entries.specs.declared.Walked.{Walked}
-use Rattle.entries.specs.declared.Walked.TheVariants as walked
+use Rattle.entries.specs.Walk.{Walked}
 use Rattle.par1_rules.specs.Layout.{signature, version_for}
 use Rattle.par1_rules.specs.Hashes.{set_hash}
 use Rattle.refusals.specs.Tests.{bare, test}
@@ -54,8 +53,8 @@ volume_refusal number t list-len data-len =
     (test 1 (length_allowed (96 + list-len + data-len)) 0))
 
 abbrev pub walk_refusal : ℕ → Walked → ℕ → ℕ → Refusal
-walk_refusal number (walked.Entries t) list-len data-len = bare (volume_refusal number t list-len data-len)
-walk_refusal number (walked.Refused r) list-len data-len = r
+walk_refusal number (Ok t) list-len data-len = bare (volume_refusal number t list-len data-len)
+walk_refusal number (Err r) list-len data-len = r
 
 unfoldable pub write_volume_of : Code → ℕ → ℕ → List ℕ → List ℕ → List ℕ → Writing × List ℕ
 write_volume_of c program number list «data» out =

@@ -4,29 +4,28 @@ ghost use Rattle.std.proofs.lemmas.List.Edits.{sets};
 ghost use Rattle.par1_write.specs.EntryWriting.{entry_bytes, entry_refusal, write_entry_of};
 
 use entries::Fault;
-use lent_bytes::Writing;
 use par1_rules::hashes;
-use refusals::{bare, test};
+use refusals::{Refusal, bare, test};
 
 // The greatest status that an entry is written with: 1, saved in the parity. The mark "checked", bit 1, is no longer written.
 const MAX_STATUS: u64 = 1;
 
 // Writes the entry of a file with these contents, status and name over the first bytes of `out`.
-pub fn write_entry(contents: &[u8], status: u64, name: &[u8], out: &mut [u8]) -> Writing
+pub fn write_entry(contents: &[u8], status: u64, name: &[u8], out: &mut [u8]) -> Result<usize, Refusal>
     ensures { (result, out.new) ≡ write_entry_of contents.now status name.now out.old }
 {
     let number = entry_refusal(contents.len(), status, name);
     if number != 0 {
-        return Writing::Refused(bare(number));
+        return Err(bare(number));
     }
     if out.len() < entries::NAME_AT {
-        return Writing::Refused(bare(refusals::NO_ROOM));
+        return Err(bare(refusals::NO_ROOM));
     }
     if out.len() - entries::NAME_AT < name.len() {
-        return Writing::Refused(bare(refusals::NO_ROOM));
+        return Err(bare(refusals::NO_ROOM));
     }
     put_entry(out, contents, status, name);
-    Writing::Written(entries::NAME_AT + name.len())
+    Ok(entries::NAME_AT + name.len())
 }
 
 // The number of the first test before 14 that holds, 0 where none does.

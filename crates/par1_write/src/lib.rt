@@ -5,5 +5,4 @@ mod entry_writing;
 mod volume_writing;
 
 pub use entry_writing::write_entry;
-pub use lent_bytes::Writing;
 pub use volume_writing::write_volume;

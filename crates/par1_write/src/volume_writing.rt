@@ -5,10 +5,9 @@ ghost use Rattle.par1_rules.specs.Rules.{length_allowed};
 ghost use Rattle.par1_write.specs.VolumeWriting.{number_bytes, body_bytes, head_bytes, volume_refusal, write_volume_of};
 
 use codes::Code;
-use entries::{Totals, Walked};
-use lent_bytes::Writing;
+use entries::Totals;
 use par1_rules::{hashes, layout, rules};
-use refusals::{bare, test};
+use refusals::{Refusal, bare, test};
 
 // Writes volume `number` of a code, or the index where it is 0, over the first bytes of `out`.
 pub fn write_volume(
@@ -18,24 +17,24 @@ pub fn write_volume(
     list: &[u8],
     data: &[u8],
     out: &mut [u8],
-) -> Writing
+) -> Result<usize, Refusal>
     ensures { (result, out.new) ≡ write_volume_of code program number list.now «data».now out.old }
 {
     match entries::walk(list) {
-        Walked::Entries(totals) => {
+        Ok(totals) => {
             let refusal = volume_refusal(number, totals, list.len(), data.len());
             if refusal != 0 {
-                return Writing::Refused(bare(refusal));
+                return Err(bare(refusal));
             }
             let total = layout::HEADER_LENGTH + list.len() + data.len();
             if out.len() < total {
-                return Writing::Refused(bare(refusals::NO_ROOM));
+                return Err(bare(refusals::NO_ROOM));
             }
             put_body(out, number, totals.entries, list, data);
             put_head(out, code, program, total);
-            Writing::Written(total)
+            Ok(total)
         }
-        Walked::Refused(refusal) => Writing::Refused(refusal),
+        Err(refusal) => Err(refusal),
     }
 }
 

@@ -3,7 +3,6 @@
 
 ghost use Rattle.std.specs.Prelude.{◌≤◌, length, IfOk};
 
-use lent_bytes::Writing;
 use refusals::MAX_LISTED_LENGTH;
 use std::io::{self, Read, Write};
 
@@ -13,7 +12,7 @@ fn main(rt: HostRuntime) -> io::Result<()> {
     let length = read_full(&mut rt.stdin(), &mut input)?;
     // a listing is shorter than its file, so this room always holds it (crate listing, specs/Claim, `InputFits`)
     let mut lines = [0u8; MAX_LISTED_LENGTH];
-    let Writing::Written(end) = listing::list_input(&input[..length], &mut lines) else {
+    let Ok(end) = listing::list_input(&input[..length], &mut lines) else {
         return Ok(());
     };
     if end <= MAX_LISTED_LENGTH {

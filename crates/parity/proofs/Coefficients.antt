@@ -9,6 +9,7 @@
 --   coefficient_byte, rule_byte          the coefficient of a file is a byte, by either code
 --   rule_by_tables                       it is what the tables give
 -- Assumes nothing.
+use Rattle.std.specs.Prelude.{Ok, Err}
 use mathlib.Core.Path.{◌≡◌}
 use mathlib.Core.Bool.{or-true}
 use mathlib.Core.List.{List}
@@ -16,7 +17,6 @@ use Prim.Native.Nat.{ℕ, ◌+◌, ◌-◌, ◌<◌, ◌≤◌}
 use native.Mathlib.Decide.{ℕ_discrete, dec_lt}
 use native.Mathlib.Omega.{arith}
 use borrow.Author.Tests.{eq-eqb, ne_eqb, lt-ltb, le-ltb}
-use Rattle.gf256.specs.declared.ByteAnswer.TheVariants.{Byte, Refused}
 use Rattle.gf256.specs.Tables.{powers_of_2, IsExponents}
 use Rattle.gf256.proofs.Powers.{power_byte}
 use Rattle.gf256.proofs.TableLaws.{power_by_tables}
@@ -30,23 +30,23 @@ use Rattle.parity.specs.Coefficient.{coefficient, rule_of, coefficient_by, coeff
 -- ---- calls
 
 module _ (c : Code) (f v : ℕ) where
-  pub answer_in_range : 0 < f → 0 < v → f + v ≤ 255 → coefficient_answer c f v ≡ Byte (rule_of c f v)
+  pub answer_in_range : 0 < f → 0 < v → f + v ≤ 255 → coefficient_answer c f v ≡ Ok (rule_of c f v)
   unfolding coefficient_answer
   answer_in_range hf hv h = simp (ne_eqb f 0 (λ e. omega arith), ne_eqb v 0 (λ e. omega arith), le-ltb 255 (f + v) h)
 
-  pub answer_file_zero : f ≡ 0 → coefficient_answer c f v ≡ Refused 10
+  pub answer_file_zero : f ≡ 0 → coefficient_answer c f v ≡ Err 10
   unfolding coefficient_answer
   answer_file_zero e = simp (eq-eqb f 0 e)
 
-  pub answer_volume_zero : v ≡ 0 → coefficient_answer c f v ≡ Refused 10
+  pub answer_volume_zero : v ≡ 0 → coefficient_answer c f v ≡ Err 10
   unfolding coefficient_answer
   answer_volume_zero e = simp (eq-eqb v 0 e, or-true)
 
-  pub answer_sum_above : 255 < f + v → coefficient_answer c f v ≡ Refused 10
+  pub answer_sum_above : 255 < f + v → coefficient_answer c f v ≡ Err 10
   unfolding coefficient_answer
   answer_sum_above h = simp (lt-ltb 255 (f + v) h, or-true)
 
-  out_of_range_lem : ¬ InRange f v → coefficient_answer c f v ≡ Refused 10
+  out_of_range_lem : ¬ InRange f v → coefficient_answer c f v ≡ Err 10
   out_of_range_lem h = elim (ℕ_discrete f 0) [
     | yes e ↦ answer_file_zero e
     | no p ↦

@@ -10,9 +10,8 @@
 --   ParityBytes    the parity of bytes is a byte
 --   ParityEnds     past the greatest file size the parity is 0
 -- Assumes nothing.
-use Rattle.std.specs.Prelude.{◌≡◌, List, ◌++◌, ℕ, ◌-◌, ◌<◌, ◌≤◌, length, get_or, replicate}
+use Rattle.std.specs.Prelude.{◌≡◌, List, ◌++◌, ℕ, ◌-◌, ◌<◌, ◌≤◌, length, get_or, replicate, Ok, Err}
 use Rattle.gf256.specs.Field.{power}
-use Rattle.gf256.specs.declared.ByteAnswer.TheVariants.{Byte, Refused}
 use Rattle.mul_add.specs.MulAdd.{mul_add_all, sum_bytes}
 use Rattle.mul_add.specs.Once.{Once}
 use Rattle.codes.specs.declared.Code.{Code}
@@ -24,17 +23,17 @@ use Rattle.parity.specs.Parity.{Contents, is_file, greatest, parity_byte, parity
 
 -- "The factor of file f in volume v is f to the power v - 1"; proved: proofs/Coefficients.antt, `powers_coefficients`
 abbrev pub PowersCoefficients : Type 0
-PowersCoefficients = (f v : ℕ) → InRange f v → coefficient_answer Powers f v ≡ Byte (power f (v - 1))
+PowersCoefficients = (f v : ℕ) → InRange f v → coefficient_answer Powers f v ≡ Ok (power f (v - 1))
 
 -- document 02, 2026-13: "for file f and volume v, the inverse of f exclusive-or (256 - v), for f + v up to 255";
 -- proved: proofs/Coefficients.antt, `cauchy_coefficients`
 abbrev pub CauchyCoefficients : Type 0
-CauchyCoefficients = (f v : ℕ) → InRange f v → coefficient_answer Cauchy f v ≡ Byte (cauchy f v)
+CauchyCoefficients = (f v : ℕ) → InRange f v → coefficient_answer Cauchy f v ≡ Ok (cauchy f v)
 
 -- "Asking for a factor refuses with 10 if f or v is 0 or f + v is above 255"; proved: proofs/Coefficients.antt, `coefficient-answered`
 pub record CoefficientAnswered : Type 0 where
-  pub in_range : (c : Code) (f v : ℕ) → InRange f v → coefficient_answer c f v ≡ Byte (rule_of c f v)
-  pub out_of_range : (c : Code) (f v : ℕ) → ¬ InRange f v → coefficient_answer c f v ≡ Refused 10
+  pub in_range : (c : Code) (f v : ℕ) → InRange f v → coefficient_answer c f v ≡ Ok (rule_of c f v)
+  pub out_of_range : (c : Code) (f v : ℕ) → ¬ InRange f v → coefficient_answer c f v ≡ Err 10
 
 -- "Every saved file folded with its factor into zeros of the data size gives a volume's data."; proved: proofs/Volumes.antt, `volume_data`
 abbrev pub VolumeData : Type 0

@@ -6,11 +6,10 @@
 --   coefficient_by c ps es f v     the same by a table of powers and a table of exponents
 --   coefficient_answer c f v       the answer to a call for it
 -- Assumes nothing.
-use Rattle.std.specs.Prelude.{ℕ, ◌+◌, ◌-◌, cond, ◌||◌, List, eqb, ltb}
+use Rattle.std.specs.Prelude.{ℕ, ◌+◌, ◌-◌, cond, ◌||◌, List, eqb, ltb, Ok, Err}
 use Rattle.gf256.specs.Field.{power}
 use Rattle.gf256.specs.Tables.{power_by}
-use Rattle.gf256.specs.declared.ByteAnswer.{ByteAnswer}
-use Rattle.gf256.specs.declared.ByteAnswer.TheVariants.{Byte, Refused}
+use Rattle.gf256.specs.Answer.{ByteAnswer}
 use Rattle.codes.specs.declared.Code.{Code}
 use Rattle.codes.specs.declared.Code.TheVariants.{Powers, Cauchy}
 use Rattle.cauchy.specs.Cauchy.{cauchy, cauchy_by}
@@ -32,4 +31,4 @@ coefficient_by Cauchy ps es f v = cauchy_by ps es f v
 -- "Asking for a factor refuses with 10 if f or v is 0 or f + v is above 255"; document 02, 2026-13: "writing and
 -- asking for a factor are told the code"
 unfoldable pub coefficient_answer : Code → ℕ → ℕ → ByteAnswer
-coefficient_answer c f v = cond (eqb f 0 || (eqb v 0 || ltb 255 (f + v))) (Refused 10) (Byte (rule_of c f v))
+coefficient_answer c f v = cond (eqb f 0 || (eqb v 0 || ltb 255 (f + v))) (Err 10) (Ok (rule_of c f v))

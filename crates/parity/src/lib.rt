@@ -6,26 +6,25 @@ ghost use Rattle.std.specs.Prelude.{◌≡◌};
 ghost use Rattle.parity.specs.Coefficient.{rule_of, coefficient_by, coefficient_answer};
 
 use codes::Code;
-use gf256::ByteAnswer;
 use refusals::OUT_OF_RANGE;
 
 // The coefficient of a file in a volume by a code (document 01: the factor), or 10 where either is out of range.
-pub fn coefficient(code: Code, file: u64, volume: u64) -> ByteAnswer
+pub fn coefficient(code: Code, file: u64, volume: u64) -> Result<u8, u32>
     ensures { result ≡ coefficient_answer code file volume }
 {
     if file == 0 {
-        return ByteAnswer::Refused(OUT_OF_RANGE);
+        return Err(OUT_OF_RANGE);
     }
     if volume == 0 {
-        return ByteAnswer::Refused(OUT_OF_RANGE);
+        return Err(OUT_OF_RANGE);
     }
     if 255 < file {
-        return ByteAnswer::Refused(OUT_OF_RANGE);
+        return Err(OUT_OF_RANGE);
     }
     if 255 - file < volume {
-        return ByteAnswer::Refused(OUT_OF_RANGE);
+        return Err(OUT_OF_RANGE);
     }
-    ByteAnswer::Byte(coefficient_of(code, file as u8, volume as u8))
+    Ok(coefficient_of(code, file as u8, volume as u8))
 }
 
 // The rule of the code. It answers for all bytes.

@@ -39,7 +39,7 @@ use Prim.Native.Char.{code}
 use mathlib.Core.List.{List, [], ◌∷◌, ◌++◌, map, flatten, Memᴰ}
 use Rattle.cut_lists.specs.All.{All}
 use Rattle.lent_bytes.specs.Writing.{written}
-use Rattle.lent_bytes.specs.declared.Writing.{Writing}
+use Rattle.lent_bytes.specs.Writing.{Writing}
 use Rattle.parity.specs.Coefficient.{coefficient, rule_of}
 use Rattle.codes.specs.declared.Code.{Code}
 use Rattle.codes.specs.declared.Code.TheVariants.{Powers}

@@ -13,7 +13,7 @@
 use Rattle.std.specs.Prelude.{ℕ, ◌≤◌, ◌≡◌, ◌↔◌, Bool, true, cond, List, [], ◌∷◌, ◌++◌, leb, eqb, length, get_or, drop}
 use Rattle.refusals.specs.Limits.{max_listed_length}
 use Rattle.lent_bytes.specs.Writing.{written}
-use Rattle.lent_bytes.specs.declared.Writing.{Writing}
+use Rattle.lent_bytes.specs.Writing.{Writing}
 use Rattle.cut_lists.specs.Pieces.{Cut, cut}
 use Rattle.codes.specs.declared.Code.TheVariants.{Powers}
 use Rattle.recovery.specs.Recoverable.{State, RecoverableNow}

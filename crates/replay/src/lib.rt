@@ -12,21 +12,20 @@ mod first_line;
 mod lines;
 
 pub use events::{Event, next, open};
-use lent_bytes::Writing;
 pub use lines::put_line;
-use refusals::bare;
+use refusals::{Refusal, bare};
 
 // What a replay of the log prints, over the first bytes of `out`, and its length; or 14, and nothing written, where it does not fit. It is
 // worked out twice, to be measured and to be written; the matrix of an event's elimination takes 65,536 bytes of stack.
-pub fn replay<'a, 'b>(log: &'a [u8], out: &'b mut [u8]) -> Writing
+pub fn replay<'a, 'b>(log: &'a [u8], out: &'b mut [u8]) -> Result<usize, Refusal>
     ensures { Replayed coefficient log.now out.old (result, out.new) }
 {
     let length = put_replay(&mut out[..0], log);
     if length <= out.len() {
         put_replay(out, log);
-        return Writing::Written(length);
+        return Ok(length);
     }
-    Writing::Refused(bare(refusals::NO_ROOM))
+    Err(bare(refusals::NO_ROOM))
 }
 
 // What a replay of the log prints, from position 0 on.

@@ -25,7 +25,7 @@ use Rattle.little_endian.specs.Bytes.{Bytes}
 use Rattle.md5_digest.specs.Running.{state_of}
 use Rattle.par1_rules.specs.Layout.{list_of}
 use Rattle.par1_read.specs.Reading.{read_of, reading_refusal}
-use Rattle.par1_read.specs.declared.reading.Reading.{Reading}
+use Rattle.par1_read.specs.Reading.{Reading}
 use Rattle.list_scan.proofs.CountLaws.{counted}
 use Rattle.running_read.specs.declared.RunningRead.{RunningRead}
 use Rattle.running_read.specs.declared.Counts.{Counts}

@@ -5,6 +5,7 @@
 --   end_within     which refusals it gives
 --   end_not_20     20 is none of them
 -- Assumes nothing.
+use Rattle.std.specs.Prelude.{Ok, Err}
 use mathlib.Core.Path.{◌≡◌, refl, sym, ap, ◌∙◌, subst}
 use mathlib.Core.Logic.{◌⊎◌, inl, inr}
 use mathlib.Core.Bool.{false}
@@ -23,16 +24,14 @@ use Rattle.md5_digest.specs.Running.{finished}
 use Rattle.md5_digest.proofs.Running.{finish_state}
 use Rattle.entries.specs.Walk.{walk_of, refusal_at}
 use Rattle.entries.specs.declared.Fault.{Fault}
-use Rattle.entries.specs.declared.Walked.{Walked}
-use Rattle.entries.specs.declared.Walked.TheVariants as walked
+use Rattle.entries.specs.Walk.{Walked}
 use Rattle.entries.proofs.WalkLaws.{fault_range}
 use Rattle.par1_rules.specs.Layout.{list_of}
 use Rattle.par1_rules.specs.Hashes.{set_hash, control_hash}
 use Rattle.par1_rules.specs.Rules.{length_allowed}
 use Rattle.par1_rules.proofs.RuleLaws.{too_long}
 use Rattle.par1_read.specs.Reading.{header_refusal, refusal_from, saved_in, parts_from, read_from, entries_in, read_of, reading_refusal}
-use Rattle.par1_read.specs.declared.reading.Reading.{Reading}
-use Rattle.par1_read.specs.declared.reading.Reading.TheVariants.{Accepted, Refused}
+use Rattle.par1_read.specs.Reading.{Reading}
 use Rattle.par1_read.proofs.HeaderLaws.{header_alone}
 use Rattle.par1_read.proofs.RangeLaws.{from_within}
 use Rattle.list_scan.specs.declared.Scan.{Scan}
@@ -50,7 +49,7 @@ unfolding length_allowed
 too_short n h = simp (lt-leb 96 n h)
 
 -- test 1 comes first
-length-refused : (head : List ℕ) (n : ℕ) (digest set : List ℕ) (w : Walked) → length_allowed n ≡ false → read_from head n digest set w ≡ Refused (bare 1)
+length-refused : (head : List ℕ) (n : ℕ) (digest set : List ℕ) (w : Walked) → length_allowed n ≡ false → read_from head n digest set w ≡ Err (bare 1)
 unfolding read_from refusal_from header_refusal
 length-refused head n digest set w e = simp e
 
@@ -75,7 +74,7 @@ after_end m h = let few = length_list m in
 
 -- ---- past the cap
 
-long_refused : (m : List ℕ) → max_volume_length < length m → read_of m ≡ Refused (bare 1)
+long_refused : (m : List ℕ) → max_volume_length < length m → read_of m ≡ Err (bare 1)
 unfolding read_of
 long_refused m h = length-refused m (length m) (control_hash m) (set_hash (entries_in m)) (walk_of (list_of m)) (too_long (length m) h)
 
@@ -93,7 +92,7 @@ read_cap m = past cap cap_long m (order cap (length m))
 
 -- ---- which refusals it gives
 
-found_within : (sc : Scan) (n : ℕ) → sc.totals.entries ≤ n → (r : Refusal) → found_of sc ≡ walked.Refused r → Within (n + 1) r
+found_within : (sc : Scan) (n : ℕ) → sc.totals.entries ≤ n → (r : Refusal) → found_of sc ≡ Err r → Within (n + 1) r
 unfolding found_of
 found_within sc n h r e = by sc.at e
   where
@@ -103,22 +102,22 @@ found_within sc n h r e = by sc.at e
     place : ℕ
     place = (sc.totals.entries + 1) % 2 ^ 64
 
-    by : (k : ℕ) → if_zero k (walked.Entries sc.totals) (walked.Refused (refusal_at f place)) ≡ walked.Refused r → Within (n + 1) r
+    by : (k : ℕ) → if_zero k (Ok sc.totals) (Err (refusal_at f place)) ≡ Err r → Within (n + 1) r
     by zero e = absurd (let z : ◌≡◌ {A = ℕ} 0 1 = cc in omega arith)
     by (suc k) e = let is : refusal_at f place ≡ r = cc in
         subst (Within (n + 1)) is (record { number_most = omega (arith, (fault_range f).1); place_most = omega arith })
 
-from_tells : (head : List ℕ) (n : ℕ) (digest set : List ℕ) (w : Walked) {r : Refusal} → read_from head n digest set w ≡ Refused r
+from_tells : (head : List ℕ) (n : ℕ) (digest set : List ℕ) (w : Walked) {r : Refusal} → read_from head n digest set w ≡ Err r
     → refusal_from head n digest set w ≡ r
 unfolding read_from
 from_tells head n digest set w {r} e = by (refusal_from head n digest set w).number e
   where
-    by : (k : ℕ) → if_zero k (Accepted (parts_from head (saved_in w))) (Refused (refusal_from head n digest set w)) ≡ Refused r
+    by : (k : ℕ) → if_zero k (Ok (parts_from head (saved_in w))) (Err (refusal_from head n digest set w)) ≡ Err r
         → refusal_from head n digest set w ≡ r
     by zero e = absurd (let z : ◌≡◌ {A = ℕ} 0 1 = cc in omega arith)
     by (suc k) e = cc
 
-pub end_within : (j : RunningRead) (n : ℕ) → j.list.totals.entries ≤ n → (r : Refusal) → reading_of j ≡ Refused r → Within (n + 1) r
+pub end_within : (j : RunningRead) (n : ℕ) → j.list.totals.entries ≤ n → (r : Refusal) → reading_of j ≡ Err r → Within (n + 1) r
 unfolding reading_of
 end_within j n h r e =
     subst (Within (n + 1)) (from_tells j.header j.total (finished j.control) (finished j.list.hash) (found_of j.list) e)
@@ -129,5 +128,5 @@ pub end_not_20 : (j : RunningRead) → (reading_refusal (reading_of j)).number �
 end_not_20 j = by (reading_of j) refl
   where
     by : (r : Reading) → reading_of j ≡ r → (reading_refusal r).number ≡ 20 → ⊥
-    by (Accepted p) is e = omega arith
-    by (Refused r) is e = omega (arith, (end_within j j.list.totals.entries (omega arith) r is).number_most)
+    by (Ok p) is e = omega arith
+    by (Err r) is e = omega (arith, (end_within j j.list.totals.entries (omega arith) r is).number_most)

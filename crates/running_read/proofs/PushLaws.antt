@@ -4,6 +4,7 @@
 --   push_open, push_refused     what a push gives
 --   end_open, end_refused       what an end gives
 -- Assumes nothing.
+use Rattle.std.specs.Prelude.{Err}
 use mathlib.Core.Path.{◌≡◌}
 use mathlib.Core.Bool.{true, false}
 use mathlib.Core.List.{List}
@@ -14,7 +15,6 @@ use Rattle.refusals.specs.Tests.{bare}
 use Rattle.md5_digest.specs.declared.Md5.{Md5}
 use Rattle.md5_digest.specs.Running.{pushed}
 use Rattle.par1_rules.specs.Layout.{list_size_of}
-use Rattle.par1_read.specs.declared.reading.Reading.TheVariants.{Refused}
 use Rattle.list_scan.specs.declared.Scan.{Scan}
 use Rattle.list_scan.specs.Room as scan
 use Rattle.running_read.specs.declared.RunningRead.{RunningRead}
@@ -41,6 +41,6 @@ module _ (j : RunningRead) where
   unfolding end_answer
   end_open e = simp e
 
-  pub end_refused : is_open (counts_of j) ≡ false → end_answer j ≡ record { reading = Refused (bare 20); next = j }
+  pub end_refused : is_open (counts_of j) ≡ false → end_answer j ≡ record { reading = Err (bare 20); next = j }
   unfolding end_answer
   end_refused e = simp e

@@ -12,13 +12,12 @@
 -- of the whole file, which determines the parts, or the number and the place of the refusal. Of jobs that are not over some are refused and some
 -- are not. The counts are read from the fields of the job, whatever the calls look at.
 -- Assumes nothing.
-use Rattle.std.specs.Prelude.{Bool, List, ℕ}
+use Rattle.std.specs.Prelude.{Bool, List, ℕ, Err}
 use Rattle.jobs.specs.Job.{Steps, Whole}
 use Rattle.jobs.specs.Claim.{Chunked, Exactly20}
 use Rattle.refusals.specs.Tests.{bare}
 use Rattle.par1_read.specs.Reading.{read_of, reading_refusal}
-use Rattle.par1_read.specs.declared.reading.Reading.{Reading}
-use Rattle.par1_read.specs.declared.reading.Reading.TheVariants.{Refused}
+use Rattle.par1_read.specs.Reading.{Reading}
 use Rattle.running_read.specs.declared.RunningRead.{RunningRead}
 use Rattle.running_read.specs.Running.{start_read, push_answer, end_answer}
 
@@ -49,7 +48,7 @@ read_whole =
       taken = λ _ m bs. number 0;
       whole = λ _ m _. reading (read_of m);
       refused_push = λ bs. number 20;
-      refused_end = λ _. reading (Refused (bare 20));
+      refused_end = λ _. reading (Err (bare 20));
     }
 
 -- proved: proofs/Chunks.antt, `read_chunked`

@@ -11,15 +11,14 @@
 --   push_answer j bs   what a push of the bytes bs into the job j gives
 --   end_answer j       what the end of the job j gives
 -- Assumes nothing.
-use Rattle.std.specs.Prelude.{ℕ, ◌+◌, ◌-◌, ◌*◌, Bool, true, false, cond, not, ◌&&◌, List, [], leb, eqb, length, take, drop, replicate}
+use Rattle.std.specs.Prelude.{ℕ, ◌+◌, ◌-◌, ◌*◌, Bool, true, false, cond, not, ◌&&◌, List, [], leb, eqb, length, take, drop, replicate, Err}
 use Rattle.std.proofs.lemmas.List.Edits.{sets}
 use Rattle.md5_digest.specs.Running.{state_of, pushed, finished}
 use Rattle.refusals.specs.Limits.{max_volume_length}
 use Rattle.refusals.specs.Tests.{bare}
 use Rattle.par1_rules.specs.Layout.{list_size_of}
 use Rattle.par1_read.specs.Reading.{read_from}
-use Rattle.par1_read.specs.declared.reading.Reading.{Reading}
-use Rattle.par1_read.specs.declared.reading.Reading.TheVariants.{Refused}
+use Rattle.par1_read.specs.Reading.{Reading}
 use Rattle.list_scan.specs.Scan.{scan_start}
 use Rattle.list_scan.specs.Room as scan
 use Rattle.list_scan.specs.Found.{found_of}
@@ -83,4 +82,4 @@ push_answer j bs = cond (is_open (counts_of j)) (record { number = 0; next = pus
 -- "the end finishes the job either way"
 unfoldable pub end_answer : RunningRead → Ended
 end_answer j =
-    cond (is_open (counts_of j)) (record { reading = reading_of j; next = over_of j }) (record { reading = Refused (bare 20); next = j })
+    cond (is_open (counts_of j)) (record { reading = reading_of j; next = over_of j }) (record { reading = Err (bare 20); next = j })

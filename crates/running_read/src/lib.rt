@@ -4,11 +4,11 @@
 ghost use Rattle.std.specs.Prelude.{◌≡◌, ◌-◌, ◌≤◌, take, drop};
 ghost use Rattle.running_read.specs.Running.{cap, start_read, counts_of, is_open, push_of, reading_of, over_of, push_answer, end_answer};
 
+use par1_read::Parts;
 use list_scan::Scan;
 use md5_digest::Md5;
-use par1_read::Reading;
 use par1_rules::layout;
-use refusals::{JOB, MAX_VOLUME_LENGTH};
+use refusals::{JOB, MAX_VOLUME_LENGTH, Refusal};
 
 // One byte more than a file may have: with so many it is refused with 1, whatever follows.
 const CAP: u64 = MAX_VOLUME_LENGTH as u64 + 1;
@@ -34,7 +34,7 @@ pub struct Pushed {
 // What an end gives: what reading all the bytes gives and the job, which is over; or the refusal 20 and the job as it was.
 #[derive(Clone, Copy)]
 pub struct Ended {
-    pub reading: Reading,
+    pub reading: Result<Parts, Refusal>,
     pub next: RunningRead,
 }
 
@@ -88,7 +88,7 @@ pub fn end(job: RunningRead) -> Ended
 {
     if !is_open(counts_of(job)) {
         return Ended {
-            reading: Reading::Refused(refusals::bare(JOB)),
+            reading: Err(refusals::bare(JOB)),
             next: job,
         };
     }
@@ -198,7 +198,7 @@ fn listed_in(bytes: &[u8], total: u64, size: u64) -> &[u8]
 }
 
 // What reading all the bytes gives.
-fn reading_of(job: RunningRead) -> Reading
+fn reading_of(job: RunningRead) -> Result<Parts, Refusal>
     ensures { result ≡ reading_of job }
 {
     let header = job.header;

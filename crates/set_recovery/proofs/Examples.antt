@@ -6,6 +6,7 @@
 --   fragment            the fragments of file 1 and volume 1, at places 1 and 3
 --   file_back           a run of the calls, a query and a buffer that meet what SetRecovered asks for, and what it says of them
 -- Assumes nothing.
+use Rattle.std.specs.Prelude.{Ok}
 use mathlib.Core.Path.{◌≡◌, refl, sym, ap, ◌∙◌, subst}
 use mathlib.Core.Bool.{Bool, true, false, cond, ◌&&◌, ◌||◌, false≢true, and-false}
 use mathlib.Core.List.{List, [], ◌∷◌}
@@ -32,7 +33,6 @@ use Rattle.number_sets.specs.Sets.{size_below}
 use Rattle.par1.specs.Claim.{parts_for}
 use Rattle.par1_read.specs.Reading.{read_of}
 use Rattle.par1_read.specs.declared.reading.Parts.{Parts}
-use Rattle.par1_read.specs.declared.reading.Reading.TheVariants.{Accepted}
 use Rattle.par1_rules.specs.Layout.{version_for}
 use Rattle.par1_set.specs.Files.{contents_of, list_for}
 use Rattle.par1_set.specs.Volume.{data_for, volume_for}
@@ -126,7 +126,7 @@ fragments = record {
   of_file = λ f is_file_lem has. subst (λ (g : ℕ). fragment g ≡ contents_of p6 g) (sym (only 1 f has)) refl;
   of_volume = λ v is-volume has.
       let right = p6_right 1 (omega arith) (omega arith) in
-      subst (λ (u : ℕ). (file : List ℕ) × (p : Parts) × AsWritten Cauchy u p6 file × (read_of file ≡ Accepted p)
+      subst (λ (u : ℕ). (file : List ℕ) × (p : Parts) × AsWritten Cauchy u p6 file × (read_of file ≡ Ok p)
       × (fragment (2 + u) ≡ take p.data_size (drop p.data_start file))) (sym (only 1 v has)) (
         volume,
         parts,

@@ -8,6 +8,7 @@
 --   come_from        the fragments come from them
 --   set_recovered    the claim
 -- Assumes nothing.
+use Rattle.std.specs.Prelude.{Ok}
 use mathlib.Core.Path.{◌≡◌, refl, sym, ap, ◌∙◌, subst}
 use mathlib.Core.Bool.{Bool, true, false}
 use mathlib.Core.List.{List}
@@ -29,7 +30,6 @@ use Rattle.mul_add_sums.proofs.Boxes.{all_answer}
 use Rattle.par1.specs.Checking.{check_of}
 use Rattle.par1_read.specs.Reading.{read_of}
 use Rattle.par1_read.specs.declared.reading.Parts.{Parts}
-use Rattle.par1_read.specs.declared.reading.Reading.TheVariants.{Accepted}
 use Rattle.par1_read.proofs.ReadingLaws.{read_tells}
 use Rattle.par1_rules.specs.Layout.{list_size_of, data_size_of, data_of}
 use Rattle.par1_set.specs.Files.{File, file_count, contents_of, data_size_for}
@@ -54,7 +54,7 @@ data_at code v fs p = elim (dec_lt p (data_size_for fs)) [
 ]
 
 -- what reading says of where the data lies
-data_read : (f : List ℕ) (p : Parts) → read_of f ≡ Accepted p → take p.data_size (drop p.data_start f) ≡ data_of f
+data_read : (f : List ℕ) (p : Parts) → read_of f ≡ Ok p → take p.data_size (drop p.data_start f) ≡ data_of f
 data_read f p e = let told = read_tells f p e in
     let layout = told.tests.header.layout in
     ap (λ (q : Parts). take q.data_size (drop q.data_start f)) told.parts_are

@@ -20,7 +20,7 @@
 -- query meet all that `SetRecovered` asks for (proofs/Examples.antt, `file_back`).
 -- Sentences in quotation marks are document 01's, or the tender's condition 3.
 -- Assumes nothing.
-use Rattle.std.specs.Prelude.{◌≡◌, true, false, List, [], map, ℕ, ◌+◌, ◌-◌, ◌^◌, ◌<◌, ◌≤◌, length, get_or, take, drop, replicate}
+use Rattle.std.specs.Prelude.{◌≡◌, true, false, List, [], map, ℕ, ◌+◌, ◌-◌, ◌^◌, ◌<◌, ◌≤◌, length, get_or, take, drop, replicate, Ok}
 use Rattle.codes.specs.declared.Code.{Code}
 use Rattle.cut_lists.specs.All.{All}
 use Rattle.entries.specs.Entry.{file_size_of}
@@ -38,7 +38,6 @@ use Rattle.mul_add_sums.specs.Adding.{AddsAll}
 use Rattle.par1.specs.Checking.{check_of}
 use Rattle.par1_read.specs.Reading.{read_of}
 use Rattle.par1_read.specs.declared.reading.Parts.{Parts}
-use Rattle.par1_read.specs.declared.reading.Reading.TheVariants.{Accepted}
 use Rattle.par1_rules.specs.Layout.{version_for}
 use Rattle.par1_set.specs.Files.{File, file_count, contents_of, list_for, FileRight}
 use Rattle.par1_set.specs.Volume.{volume_for, VolumeRight}
@@ -90,7 +89,7 @@ pub record FragmentsOf (code : Code) (fs : List File) (t : State) (fragment : �
   pub of_file : (f : ℕ) → is_file (file_count fs) f ≡ true → t.files f ≡ true → fragment f ≡ contents_of fs f
   -- a volume's piece is the data of the volume as it was written, where reading says that it lies
   pub of_volume : (v : ℕ) → is_volume (file_count fs) v ≡ true → t.volumes v ≡ true
-      → (file : List ℕ) × (p : Parts) × AsWritten code v fs file × (read_of file ≡ Accepted p)
+      → (file : List ℕ) × (p : Parts) × AsWritten code v fs file × (read_of file ≡ Ok p)
       × (fragment (file_count fs + v) ≡ take p.data_size (drop p.data_start file))
 
 -- ---- the claims

@@ -3,10 +3,10 @@
 use Rattle.answer_bytes.specs.Results.{byte_into}
 use Rattle.answer_bytes.proofs.put_answer.Goals as goal
 
-pub returns-in-Refused : goal.returns-in-Refused
+pub returns-in-Err : goal.returns-in-Err
 unfolding byte_into
-returns-in-Refused c = rw c.in-Refused.is
+returns-in-Err c = rw c.in-Err.is
 
-pub returns-in-Byte : goal.returns-in-Byte
+pub returns-in-Ok : goal.returns-in-Ok
 unfolding byte_into
-returns-in-Byte c = rw c.in-Byte.is c.write.ensures
+returns-in-Ok c = rw c.in-Ok.is c.write.ensures

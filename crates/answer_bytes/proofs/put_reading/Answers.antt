@@ -8,11 +8,11 @@ use Rattle.lent_bytes.proofs.WritingLaws.{written_refusal}
 use Rattle.answer_bytes.specs.Results.{read_into}
 use Rattle.answer_bytes.proofs.put_reading.Goals as goal
 
-pub returns-in-Refused : goal.returns-in-Refused
+pub returns-in-Err : goal.returns-in-Err
 unfolding read_into
-returns-in-Refused c = rw c.in-Refused.is
+returns-in-Err c = rw c.in-Err.is
 
-pub returns-in-Accepted : goal.returns-in-Accepted
+pub returns-in-Ok : goal.returns-in-Ok
 unfolding read_into
-returns-in-Accepted c = let out = c.args.out.now in rw (c.bare.ensures, c.in-Accepted.is)
+returns-in-Ok c = let out = c.args.out.now in rw (c.bare.ensures, c.in-Ok.is)
     (written_refusal _ out (c.write.ensures ∙ ap (λ (l : List ℕ). with_number (written l out)) c.bytes_of_parts-bytes.ensures))

@@ -5,7 +5,7 @@ use Rattle.catalog.proofs.CallLaws.{open_unread}
 use Rattle.catalog.proofs.open.Goals as goal
 
 pub open_read-requires : goal.open_read-requires
-open_read-requires c = sym c.read.ensures ∙ c.in-Accepted.is
+open_read-requires c = sym c.read.ensures ∙ c.in-Ok.is
 
-pub returns-in-Refused : goal.returns-in-Refused
-returns-in-Refused c = open_unread c.args.file.now c.args.out.now (sym c.read.ensures ∙ c.in-Refused.is)
+pub returns-in-Err : goal.returns-in-Err
+returns-in-Err c = open_unread c.args.file.now c.args.out.now (sym c.read.ensures ∙ c.in-Err.is)

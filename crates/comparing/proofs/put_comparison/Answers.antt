@@ -6,7 +6,7 @@ use native.Mathlib.Omega.{arith}
 use Rattle.text.specs.Buffer.{buffer, put}
 use Rattle.text.proofs.BufferLaws.{put_then}
 use mathlib.Core.List.{List, ◌++◌}
-use Rattle.par1_read.specs.declared.reading.Reading.{Reading}
+use Rattle.par1_read.specs.Reading.{Reading}
 use Rattle.entries.specs.Walk.{entries_of}
 use Rattle.comparing.specs.Lines.{text_of}
 use Rattle.comparing.specs.Differences.{head_lines, entry_lines}
@@ -24,7 +24,7 @@ returns-in_default c = let here = buffer c.args.out.now 0 in
 
 pub returns-in_default-second : goal.returns-in_default-second
 returns-in_default-second c = let here = buffer c.args.out.now 0 in
-    let first = sym c.requires.0 ∙ c.in-Accepted.is in
+    let first = sym c.requires.0 ∙ c.in-Ok.is in
     let second = sym c.requires.1 ∙ c.in_default-second.is in
     c.put_refusal-in_default-second.ensures
     ∙ ap (λ (q : Reading). put here (text_of (refusal_lines 2 q))) c.requires.1
@@ -33,8 +33,8 @@ returns-in_default-second c = let here = buffer c.args.out.now 0 in
 pub returns : goal.returns
 returns c = let one = c.args.one.now in let two = c.args.two.now in let here = buffer c.args.out.now 0 in
     let there = buffer c.put_header-at.new.out c.put_header-at.result in
-    let first = sym c.requires.0 ∙ c.in-Accepted.is in
-    let second = sym c.requires.1 ∙ c.in-Accepted-second.is in
+    let first = sym c.requires.0 ∙ c.in-Ok.is in
+    let second = sym c.requires.1 ∙ c.in-Ok-second.is in
     let list-text =
     ap₂ (λ (a b : List ℕ). text_of (entry_lines 1 (entries_of a).pieces (entries_of b).pieces)) (c.part-list_one.ensures ∙ read_list one first)
     (c.part-list_two.ensures ∙ read_list two second) in

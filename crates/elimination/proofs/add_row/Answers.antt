@@ -10,10 +10,10 @@ pub returns-in_default : goal.returns-in_default
 returns-in_default c = let searched = c.pivot-k in let y = c.row_times-y in let w = c.in_blocks-width in let a = c.args in absurd (pivot_has_inverse w.result a.row.now a.matrix.now a.owners.now y.result searched.result w.ensures.1
     y.ensures.0 y.ensures.1 searched.ensures _ c.if-k-width.true (sym c.inverse.ensures ∙ c.in_default.is))
 
-pub returns-in-Byte : goal.returns-in-Byte
-returns-in-Byte c = let y = c.row_times-y in let w = c.in_blocks-width in let a = c.args in row_independent w.result a.row.now a.matrix.now a.owners.now y.result c.pivot-k.result w.ensures.1
+pub returns-in-Ok : goal.returns-in-Ok
+returns-in-Ok c = let y = c.row_times-y in let w = c.in_blocks-width in let a = c.args in row_independent w.result a.row.now a.matrix.now a.owners.now y.result c.pivot-k.result w.ensures.1
     y.ensures.0 y.ensures.1 c.pivot-k.ensures a.number _ c.sweep.new.matrix c.if-k-width.true
-    (sym c.inverse.ensures ∙ c.in-Byte.is) c.sweep.ensures
+    (sym c.inverse.ensures ∙ c.in-Ok.is) c.sweep.ensures
     ∙ ap (λ (n : ℕ). row_added_within n a.row.now a.number a.matrix.now a.owners.now) w.ensures.0
 
 pub returns-else-k-width : goal.returns-else-k-width

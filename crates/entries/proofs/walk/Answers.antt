@@ -1,11 +1,11 @@
 -- `entries::walk` meets its contract. The loop's invariant: the walk over what remains, from the totals so far, is the whole walk.
 -- Assumes nothing.
+use Rattle.std.specs.Prelude.{Err}
 use mathlib.Core.Path.{sym, ap, ap₂, ◌∙◌}
 use native.Mathlib.Omega.{arith}
 use mathlib.Core.List.{List}
 use Rattle.entries.specs.Walk.{entries_of}
 use Rattle.entries.specs.declared.Totals.{Totals}
-use Rattle.entries.specs.declared.Walked.TheVariants as walked
 use Rattle.entries.proofs.EntryLaws.{is_end, is_fault, EntryAt, entry_at}
 use Rattle.entries.proofs.WalkLaws.{walk_from, walk_start, walk_more, walk_end, walk_fault, add_added}
 use Rattle.entries.proofs.walk.Goals as goal
@@ -34,4 +34,4 @@ returns-in-End c = let l = c.loop-length in sym (walk_end l.totals (is_end (sym 
 
 pub returns-in-Fault : goal.returns-in-Fault
 returns-in-Fault c = let l = c.loop-length in let refused = walk_fault l.totals (is_fault (sym c.in-Fault.is ∙ c.at.ensures)) in
-    ap walked.Refused c.refusal_at.ensures ∙ sym refused ∙ l.invariant.3
+    ap Err c.refusal_at.ensures ∙ sym refused ∙ l.invariant.3

@@ -2,5 +2,5 @@
 -- Assumes nothing.
 use Rattle.lent_bytes.proofs.refusal_of.Goals as goal
 
-pub returns-in-Written : goal.returns-in-Written
-returns-in-Written c = rw c.in-Written.is c.bare.ensures
+pub returns-in-Ok : goal.returns-in-Ok
+returns-in-Ok c = rw c.in-Ok.is c.bare.ensures

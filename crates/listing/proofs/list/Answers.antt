@@ -1,7 +1,7 @@
 -- `listing::list` meets its contract.
 -- Assumes nothing.
 use mathlib.Core.Path.{ap, ◌∙◌}
-use Rattle.par1_read.specs.declared.reading.Reading.{Reading}
+use Rattle.par1_read.specs.Reading.{Reading}
 use Rattle.lent_bytes.specs.Writing.{written}
 use Rattle.listing.specs.Listing.{listing_by, listing_of}
 use Rattle.listing.proofs.AcceptedLaws.{list_in}

@@ -3,5 +3,5 @@
 use mathlib.Core.Path.{refl}
 use Rattle.par1_c.proofs.length_told.Goals as goal
 
-pub returns-in-Written : goal.returns-in-Written
-returns-in-Written c = rw c.in-Written.is refl
+pub returns-in-Ok : goal.returns-in-Ok
+returns-in-Ok c = rw c.in-Ok.is refl

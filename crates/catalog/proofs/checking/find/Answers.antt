@@ -1,5 +1,6 @@
 -- `catalog::checking::find` meets its contract.
 -- Assumes nothing.
+use Rattle.std.specs.Prelude.{Some}
 use mathlib.Core.Bool.{not}
 use mathlib.Core.Path.{◌≡◌, sym, ap, ◌∙◌}
 use Prim.Native.Nat.{ℕ, ◌+◌, ◌*◌}
@@ -10,7 +11,6 @@ use mathlib.Core.Bool.{true, true≢false}
 use borrow.Author.Tests.{not-true, not-false}
 use Rattle.catalog.specs.Catalog.{rows_in, entry_rows, volume_rows, saved_rows, greatest_size, entry_rows_allowed, volume_rows_allowed}
 use Rattle.catalog.specs.Plan.{entered_of}
-use Rattle.catalog.specs.declared.checking.Found.TheVariants as found
 use Rattle.catalog.proofs.CatalogLaws.{Catalog, found_other, found_catalog, entered_rows, entered_other, rows_part}
 use Rattle.catalog.proofs.checking.find.Goals as goal
 
@@ -45,4 +45,4 @@ returns c = let n_is = c.read32-entries.ensures in let v-is = c.read32-volumes.e
       entries_right = told.0;
       volumes_right = sym (let h : let b : List ℕ = c.args.bytes.now in c.volumes_allowed.result ≡ volume_rows_allowed (length (saved_rows (entry_rows b))) (greatest_size (entry_rows b)) 0 (volume_rows b) = let b : List ℕ = c.args.bytes.now in let told = (let h : (entry_rows_allowed 0 (entry_rows c.args.bytes.now) ≡ true) × (c.in-Rows.saved ≡ length (saved_rows (entry_rows c.args.bytes.now))) × (c.in-Rows.greatest ≡ greatest_size (entry_rows c.args.bytes.now)) = entered_rows (entry_rows c.args.bytes.now) (sym (let h : c.read_entries.result ≡ entered_of (entry_rows c.args.bytes.now) = c.read_entries.ensures ∙ ap entered_of (rows_part c.read32-entries.result c.args.bytes.now 16 ∙ ap (λ (k : ℕ). rows_in k (drop 16 c.args.bytes.now)) c.read32-entries.ensures) in h) ∙ c.in-Rows.is) in h) in let start = 16 + 28 * c.read32-entries.result in simp (c.volumes_allowed.ensures, told.1, told.2, rows_part, c.read32-volumes.ensures, c.read32-entries.ensures) in h) ∙ not-false c.volumes_allowed.result (ap not c.if-not-volumes_allowed.false);
     } in
-    (λ j. found.Catalog (record { entries = n_is j; volumes = v-is j; saved = told.1 j })) ∙ found_catalog b k
+    (λ j. Some (record { entries = n_is j; volumes = v-is j; saved = told.1 j })) ∙ found_catalog b k

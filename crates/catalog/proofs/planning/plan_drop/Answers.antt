@@ -9,9 +9,9 @@ pub returns-in_default : goal.returns-in_default
 returns-in_default c = plan_drop_other c.args.bytes.now c.args.number (find_other _ (sym c.find.ensures ∙ c.in_default.is))
 
 pub locate-place-requires : goal.locate-place-requires
-locate-place-requires c = find_tells _ (sym c.find.ensures ∙ c.in-Catalog.is)
+locate-place-requires c = find_tells _ (sym c.find.ensures ∙ c.in-Some.is)
 
 pub returns : goal.returns
-returns c = let b = c.args.bytes.now in let t = find_tells b (sym c.find.ensures ∙ c.in-Catalog.is) in
+returns c = let b = c.args.bytes.now in let t = find_tells b (sym c.find.ensures ∙ c.in-Some.is) in
     plan_drop_is b t.0 t.1 c.args.number c.locate-place.ensures c.test-from_11.ensures
     c.in_range.ensures c.test-refusal.ensures c.plan_by.ensures

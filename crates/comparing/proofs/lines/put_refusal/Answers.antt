@@ -5,7 +5,7 @@ use native.Mathlib.Omega.{arith}
 use Rattle.text.proofs.BufferLaws.{last, then, puts, put_nil}
 use Rattle.text.specs.Buffer.{buffer, put}
 use mathlib.Core.List.{append-nil, flatten}
-use Rattle.par1_read.specs.declared.reading.Reading.{Reading}
+use Rattle.par1_read.specs.Reading.{Reading}
 use Rattle.comparing.specs.Lines.{refused_text, text_of}
 use Rattle.comparing.specs.Comparing.{refusal_lines}
 use Rattle.comparing.proofs.lines.put_refusal.Goals as goal
@@ -21,4 +21,4 @@ unfolding refused_text flatten
 returns c = let here = buffer c.args.out.now c.args.at in
     let text = puts (then c.put_field-at.ensures (then c.put_field-at-2.ensures (last c.put.ensures))) (omega (arith, c.well_formed.0.0)) in
     text ∙ ap (put here) (sym (append-nil _))
-    ∙ ap (λ (r : Reading). put here (text_of (refusal_lines c.args.side r))) (sym c.in-Refused.is)
+    ∙ ap (λ (r : Reading). put here (text_of (refusal_lines c.args.side r))) (sym c.in-Err.is)

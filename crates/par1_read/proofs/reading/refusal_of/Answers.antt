@@ -2,5 +2,5 @@
 -- Assumes nothing.
 use Rattle.par1_read.proofs.reading.refusal_of.Goals as goal
 
-pub returns-in-Accepted : goal.returns-in-Accepted
-returns-in-Accepted c = rw c.in-Accepted.is c.bare.ensures
+pub returns-in-Ok : goal.returns-in-Ok
+returns-in-Ok c = rw c.in-Ok.is c.bare.ensures
