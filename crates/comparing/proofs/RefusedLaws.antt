@@ -62,7 +62,7 @@ module _ (f g : List ℕ) (side n : ℕ) where
       (λ m. let is : refused side n ≡ refused 2 q.number = Memᴰ.eq_of_singleton m in inr (cc, (q, refl, cc))) (Memᴰ.cases_cons m)
 
   -- the line, by what the reading of its side is
-  line_is : {s : ℕ} {r q : Refusal} → side ≡ s → Err r ≡ Err q → q.number ≡ n → refused side n ≡ refused s r.number
+  line_is : {s : ℕ} {r q : Refusal} → side ≡ s → ◌≡◌ {A = Reading} (Err r) (Err q) → q.number ≡ n → refused side n ≡ refused s r.number
   line_is {r = r} {q = q} e is number = let same : r ≡ q = cc in cc
 
   listed : (r q : Reading) → ((side ≡ 1) × With r n) ⊎ ((side ≡ 2) × With q n) → Memᴰ (refused side n) (lines_by r q f g)
