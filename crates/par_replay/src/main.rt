@@ -1,34 +1,17 @@
 // Replays the log of arrivals on standard input (document 02, 2026-11): thin over the crate `replay`, one line at a time.
 #![tactic(auto)]
 
-ghost use Rattle.std.specs.Prelude.{◌≤◌, length, IfOk};
-
 use refusals::MAX_LISTED_LENGTH;
-use std::io::{self, Read, Write};
+use std::io::{self, Write};
 
 // Room for the longest line, of 254 numbers (crate replay, specs/Claim, `LinesFit`).
 const LINE_ROOM: usize = 1024;
 
 fn main(rt: HostRuntime) -> io::Result<()> {
     // one byte more than the longest log, so that a longer one is seen
-    let mut input = [0u8; MAX_LISTED_LENGTH + 1];
-    let length = read_full(&mut rt.stdin(), &mut input)?;
-    replay_log(&input[..length], &mut rt.stdout())
-}
-
-// Reads until `buffer` is full or the input ends, and answers how many bytes it put at the start of `buffer`.
-fn read_full(input: &mut impl Read, buffer: &mut [u8]) -> io::Result<usize>
-    ensures { IfOk result (λ n. n ≤ length buffer.new) }
-{
-    let mut done = 0;
-    while done < buffer.len() {
-        let n = input.read(&mut buffer[done..])?;
-        if n == 0 {
-            break;
-        }
-        done += n;
-    }
-    Ok(done)
+    let mut bytes = [0u8; MAX_LISTED_LENGTH + 1];
+    let length = input::read_full(&mut rt.stdin(), &mut bytes)?;
+    replay_log(&bytes[..length], &mut rt.stdout())
 }
 
 // Prints the lines of a replay, one after another (crate replay, specs/Claim, `LinesJoined`).
