@@ -25,7 +25,8 @@ use Rattle.computed_tests.proofs.Tests.{all_at, and_both, equal_below}
 use Rattle.computed_tests.proofs.Lists.{list_below_is, list_below_at}
 use Rattle.gf256.specs.Polynomial.{coeff, sum_below, poly_product, remainder}
 use Rattle.gf256.specs.Field.{product, power, inverse}
-use Rattle.gf256.specs.Tables.{powers_of_2, IsExponents, product_by, power_by, eight_from}
+use Rattle.gf256.specs.Tables.{powers_of_2, IsExponents, IsTables, product_by, power_by, eight_from}
+use Rattle.gf256.specs.declared.tables.Tables.{Tables}
 use Rattle.gf256.specs.Claim.{OneTable, ByTables}
 use Rattle.gf256.proofs.Products.{product_byte, product_assoc, product_comm, product_zero_l, product_zero_r, product_one_l, product_one_r}
 use Rattle.gf256.proofs.Powers.{power_byte, power-none, power_of_zero, power_of_one, power_add, power_mul}
@@ -200,40 +201,40 @@ low_powers : (i : ℕ) → i < 8 → power 2 i ≡ 2 ^ i
 unfolding power product poly_product sum_below coeff remainder
 low_powers = equal_below 8 1 (λ i. power 2 i) (λ i. 2 ^ i) refl
 
-module _ (ps es : List ℕ) (p : ps ≡ powers_of_2) (t : IsExponents es) where
-  power_at : (i : ℕ) → i < 263 → get_or ps i 0 ≡ power 2 i
-  power_at i h = ap (λ (qs : List ℕ). get_or qs i 0) p ∙ power_table_at i h
+module _ (t : Tables) (is : IsTables t) where
+  power_at : (i : ℕ) → i < 263 → get_or t.powers i 0 ≡ power 2 i
+  power_at i h = ap (λ (qs : List ℕ). get_or qs i 0) is.powers ∙ power_table_at i h
 
   -- what stands at a reduced exponent
-  at_reduced : (n : ℕ) → get_or ps (n % 255) 0 ≡ power 2 n
+  at_reduced : (n : ℕ) → get_or t.powers (n % 255) 0 ≡ power 2 n
   at_reduced n = power_at (n % 255) (omega arith) ∙ power_reduced n
 
-  pub product_by_tables : (a b : ℕ) → a < 256 → b < 256 → product_by ps es a b ≡ product a b
+  pub product_by_tables : (a b : ℕ) → a < 256 → b < 256 → product_by t.powers t.exponents a b ≡ product a b
   unfolding product_by
   product_by_tables zero b ha hb = sym (product_zero_l b)
   product_by_tables (suc a) zero ha hb = simp (not_zero a) (sym (product_zero_r (suc a)))
   product_by_tables (suc a) (suc b) ha hb =
       simp (not_zero a, not_zero b)
-      (at_reduced (get_or es (suc a) 0 + get_or es (suc b) 0) ∙ power_add 2 (get_or es (suc a) 0) (get_or es (suc b) 0) (lit< tt)
-      ∙ ap₂ product (t.gives (suc a) (omega arith) ha) (t.gives (suc b) (omega arith) hb))
+      (at_reduced (get_or t.exponents (suc a) 0 + get_or t.exponents (suc b) 0) ∙ power_add 2 (get_or t.exponents (suc a) 0) (get_or t.exponents (suc b) 0) (lit< tt)
+      ∙ ap₂ product (is.exponents.gives (suc a) (omega arith) ha) (is.exponents.gives (suc b) (omega arith) hb))
 
-  pub power_by_tables : (a n : ℕ) → a < 256 → power_by ps es a n ≡ power a n
+  pub power_by_tables : (a n : ℕ) → a < 256 → power_by t.powers t.exponents a n ≡ power a n
   unfolding power_by
   power_by_tables a zero ha = sym (power-none a)
   power_by_tables zero (suc n) ha = simp (not_zero n) (sym (power_of_zero (suc n) (omega arith)))
   power_by_tables (suc a) (suc n) ha =
       simp (not_zero a, not_zero n)
-      (at_reduced (get_or es (suc a) 0 * suc n) ∙ sym (power_mul 2 (get_or es (suc a) 0) (suc n) (lit< tt))
-      ∙ ap (λ (x : ℕ). power x (suc n)) (t.gives (suc a) (omega arith) ha))
+      (at_reduced (get_or t.exponents (suc a) 0 * suc n) ∙ sym (power_mul 2 (get_or t.exponents (suc a) 0) (suc n) (lit< tt))
+      ∙ ap (λ (x : ℕ). power x (suc n)) (is.exponents.gives (suc a) (omega arith) ha))
 
-  pub eight_by_tables : (a : ℕ) → 0 < a → a < 256 → (i : ℕ) → i < 8 → get_or (eight_from ps (get_or es a 0)) i 0 ≡ product a (2 ^ i)
+  pub eight_by_tables : (a : ℕ) → 0 < a → a < 256 → (i : ℕ) → i < 8 → get_or (eight_from t.powers (get_or t.exponents a 0)) i 0 ≡ product a (2 ^ i)
   unfolding eight_from
-  eight_by_tables a pos h i l = let e = get_or es a 0 in
-      let below = t.below a pos h in
-      list_below_at 8 _ i l ∙ power_at (e + i) (omega arith) ∙ power_add 2 e i (lit< tt) ∙ ap₂ product (t.gives a pos h) (low_powers i l)
+  eight_by_tables a pos h i l = let e = get_or t.exponents a 0 in
+      let below = is.exponents.below a pos h in
+      list_below_at 8 _ i l ∙ power_at (e + i) (omega arith) ∙ power_add 2 e i (lit< tt) ∙ ap₂ product (is.exponents.gives a pos h) (low_powers i l)
 
 pub by_tables : ByTables
 by_tables = record {
-  products = λ es t. product_by_tables powers_of_2 es refl t;
-  powers = λ es t. power_by_tables powers_of_2 es refl t;
+  products = λ es is. product_by_tables (record { powers = powers_of_2; exponents = es }) (record { powers = refl; exponents = is });
+  powers = λ es is. power_by_tables (record { powers = powers_of_2; exponents = es }) (record { powers = refl; exponents = is });
 }

@@ -6,28 +6,24 @@ ghost use Rattle.std.specs.Prelude.{◌≡◌};
 ghost use Rattle.gf256.specs.Answer.{inverse_answer};
 ghost use Rattle.gf256.specs.Field.{product, power};
 
-mod by_tables;
 mod tables;
 
-pub use by_tables::{power_by, product_by};
-pub use tables::{exponent_table, power_table};
+pub use tables::Tables;
 
 // The product of a and b.
+#[tactic(auto, using(crate::proofs::TableLaws::product_by_tables))]
 pub fn product(a: u8, b: u8) -> u8
     ensures { result ≡ product a b }
 {
-    let powers = power_table();
-    let exponents = exponent_table();
-    product_by(&powers, &exponents, a, b)
+    Tables::new().product(a, b)
 }
 
 // a to the power n.
+#[tactic(auto, using(crate::proofs::TableLaws::power_by_tables))]
 pub fn power(a: u8, n: u8) -> u8
     ensures { result ≡ power a n }
 {
-    let powers = power_table();
-    let exponents = exponent_table();
-    power_by(&powers, &exponents, a, n)
+    Tables::new().power(a, n)
 }
 
 // The inverse of a, refused with 10 for 0. Each other byte to the power 255 is 1, so its inverse is its power 254.

@@ -1,7 +1,8 @@
-// The tables of the powers of 2 and of their exponents (document 02, 2026-04). A read of a const table copies it: who needs many products takes a
-// copy of both once, and lends them.
-ghost use Rattle.std.specs.Prelude.{◌≡◌};
-ghost use Rattle.gf256.specs.Tables.{powers_of_2, IsExponents};
+// The tables of the powers of 2 and of their exponents, and products and powers by them (document 02, 2026-04). Each byte other than 0 is a
+// power of 2, so that the exponent of a product is a sum, and that of a power a multiple; 2 to the power 255 is 1. A read of a const table
+// copies it: who needs many products makes one copy of both, and lends it.
+ghost use Rattle.std.specs.Prelude.{◌≡◌, ◌%◌, ◌<◌, get_or};
+ghost use Rattle.gf256.specs.Tables.{powers_of_2, product_by, power_by, IsTables};
 
 // 2 to the power i, at i, so far that eight in a row stand from any byte on.
 const POWERS: [u8; 263] = [
@@ -41,16 +42,61 @@ const EXPONENTS: [u8; 256] = [
     232, 116, 214, 244, 234, 168, 80, 88, 175,
 ];
 
-// The table of the powers of 2.
-pub fn power_table() -> [u8; 263]
-    ensures { result ≡ powers_of_2 }
-{
-    POWERS
+// Both tables. Whatever they hold, products and powers by them have an answer.
+#[derive(Clone, Copy)]
+pub struct Tables {
+    pub powers: [u8; 263],
+    pub exponents: [u8; 256],
 }
 
-// The table of the exponents.
-pub fn exponent_table() -> [u8; 256]
-    ensures { IsExponents result }
-{
-    EXPONENTS
+impl Tables {
+    // A copy of the tables.
+    pub fn new() -> Tables
+        ensures { IsTables result }
+    {
+        Tables {
+            powers: POWERS,
+            exponents: EXPONENTS,
+        }
+    }
+
+    // The product of a and b.
+    #[tactic(auto, unfolding(crate::specs::Tables::product_by))]
+    pub fn product(&self, a: u8, b: u8) -> u8
+        ensures { result ≡ product_by self.now.powers self.now.exponents a b }
+    {
+        if a == 0 || b == 0 {
+            return 0;
+        }
+        self.power_of_2(self.exponent(a) + self.exponent(b))
+    }
+
+    // a to the power n.
+    #[tactic(auto, unfolding(crate::specs::Tables::power_by))]
+    pub fn power(&self, a: u8, n: u8) -> u8
+        ensures { result ≡ power_by self.now.powers self.now.exponents a n }
+    {
+        if n == 0 {
+            return 1;
+        }
+        if a == 0 {
+            return 0;
+        }
+        self.power_of_2(self.exponent(a) * usize::from(n))
+    }
+
+    // The exponent of a.
+    fn exponent(&self, a: u8) -> usize
+        ensures is { result ≡ get_or self.now.exponents a 0 }
+        ensures byte { result < 256 }
+    {
+        usize::from(self.exponents[usize::from(a)])
+    }
+
+    // 2 to the power n.
+    fn power_of_2(&self, n: usize) -> u8
+        ensures { result ≡ get_or self.now.powers (n % 255) 0 }
+    {
+        self.powers[n % 255]
+    }
 }
