@@ -5,7 +5,7 @@
 --   eight_choices          what the eight choices of `combine` sum to
 -- Assumes nothing.
 use mathlib.Core.Path.{◌≡◌, sym, ap, ap₂, ◌∙◌}
-use mathlib.Core.List.{[], ◌∷◌}
+use mathlib.Core.List.{List}
 use Prim.Native.Nat.{ℕ, ◌-◌, ◌+◌, ◌*◌, ◌/◌, ◌%◌, ◌^◌, ◌≤◌, ◌<◌}
 use native.Mathlib.Nat.{zero-mul, one-mul}
 use native.Mathlib.Omega.{arith}
@@ -37,19 +37,19 @@ coeff_shifted x i h = let d = 7 - i in
     omega arith
 
 -- the multiples chosen by the bits of x, one after another
-pub eight_choices : (x a b c d e f g h : ℕ) {p q r s t u v w : ℕ}
-    → p ≡ coeff (x * 2 ^ 7 % 2 ^ 8) 7 * a → q ≡ coeff (x * 2 ^ 6 % 2 ^ 8) 7 * b → r ≡ coeff (x * 2 ^ 5 % 2 ^ 8) 7 * c
-    → s ≡ coeff (x * 2 ^ 4 % 2 ^ 8) 7 * d → t ≡ coeff (x * 2 ^ 3 % 2 ^ 8) 7 * e → u ≡ coeff (x * 2 ^ 2 % 2 ^ 8) 7 * f
-    → v ≡ coeff (x * 2 ^ 1 % 2 ^ 8) 7 * g → w ≡ coeff x 7 * h
-    → bit_xor (bit_xor (bit_xor (bit_xor (bit_xor (bit_xor (bit_xor p q) r) s) t) u) v) w
-    ≡ sum_below 8 (λ i. coeff x i * get_or (a ∷ b ∷ c ∷ d ∷ e ∷ f ∷ g ∷ h ∷ []) i 0)
+pub eight_choices : (x : ℕ) (ms : List ℕ) {p q r s t u v w : ℕ}
+    → p ≡ coeff (x * 2 ^ 7 % 2 ^ 8) 7 * get_or ms 0 0 → q ≡ coeff (x * 2 ^ 6 % 2 ^ 8) 7 * get_or ms 1 0
+    → r ≡ coeff (x * 2 ^ 5 % 2 ^ 8) 7 * get_or ms 2 0 → s ≡ coeff (x * 2 ^ 4 % 2 ^ 8) 7 * get_or ms 3 0
+    → t ≡ coeff (x * 2 ^ 3 % 2 ^ 8) 7 * get_or ms 4 0 → u ≡ coeff (x * 2 ^ 2 % 2 ^ 8) 7 * get_or ms 5 0
+    → v ≡ coeff (x * 2 ^ 1 % 2 ^ 8) 7 * get_or ms 6 0 → w ≡ coeff x 7 * get_or ms 7 0
+    → bit_xor (bit_xor (bit_xor (bit_xor (bit_xor (bit_xor (bit_xor p q) r) s) t) u) v) w ≡ sum_below 8 (λ i. coeff x i * get_or ms i 0)
 unfolding sum_below
-eight_choices x a b c d e f g h ep eq er es et eu ev ew =
-    more (more (more (more (more (more (more (bit 0 a (lit< tt) ep) (bit 1 b (lit< tt) eq)) (bit 2 c (lit< tt) er)) (bit 3 d (lit< tt) es))
-    (bit 4 e (lit< tt) et)) (bit 5 f (lit< tt) eu)) (bit 6 g (lit< tt) ev)) ew
+eight_choices x ms ep eq er es et eu ev ew =
+    more (more (more (more (more (more (more (bit 0 (lit< tt) ep) (bit 1 (lit< tt) eq)) (bit 2 (lit< tt) er)) (bit 3 (lit< tt) es)) (bit 4 (lit< tt) et))
+    (bit 5 (lit< tt) eu)) (bit 6 (lit< tt) ev)) ew
   where
     more : {y z y' z' : ℕ} → y ≡ y' → z ≡ z' → bit_xor y z ≡ bit_xor y' z'
     more k l = ap₂ bit_xor k l
 
-    bit : (i m : ℕ) {y : ℕ} → i < 8 → y ≡ coeff (x * 2 ^ (7 - i) % 2 ^ 8) 7 * m → y ≡ coeff x i * m
-    bit i m l k = k ∙ ap (λ (n : ℕ). n * m) (coeff_shifted x i l)
+    bit : (i : ℕ) {y : ℕ} → i < 8 → y ≡ coeff (x * 2 ^ (7 - i) % 2 ^ 8) 7 * get_or ms i 0 → y ≡ coeff x i * get_or ms i 0
+    bit i l k = k ∙ ap (λ (n : ℕ). n * get_or ms i 0) (coeff_shifted x i l)

@@ -1,46 +1,36 @@
 -- What the multiples of a weight add, its products with 1, 2, 4, .., 128: the weight times the fragment.
 --
---   eight_in_a_row     the multiples that `add_powers` reads
---   by_weight          what `mul_add_by` adds
+--   eight_in_a_row     the multiples that `mul_add_by` reads
 --   by_tables          with the multiples that the tables give
 -- Assumes nothing.
 use mathlib.Core.Path.{◌≡◌, refl, sym, ap, ap₂, ◌∙◌}
-use mathlib.Core.Logic.{◌≢◌}
 use mathlib.Core.Bool.{Bool, cond}
 use mathlib.Core.List.{List, [], ◌∷◌}
-use Prim.Native.Nat.{ℕ, ◌+◌, ◌*◌, ◌^◌, ◌<◌}
-use native.Mathlib.Nat.{add-zero, pos_of_ne-zero}
+use Prim.Native.Nat.{ℕ, ◌+◌, ◌*◌, ◌^◌, ◌<◌, ◌≤◌}
+use native.Mathlib.Omega.{arith}
+use native.Mathlib.Nat.{pos_of_ne-zero}
 use native.Mathlib.Decide.{ℕ_discrete}
 use lib.Bits.{bit_xor}
 use lib.Dec.{eqb}
-use lib.ListN.{get_or}
+use lib.ListN.{length, get_or, take, drop, length-drop}
+use lib.Seq.{length-take-le, get_or-take, get_or-drop}
 use borrow.Author.Tests.{eq-eqb, ne_eqb}
-use Rattle.computed_tests.specs.Lists.{list_below}
+use Rattle.computed_tests.proofs.Lists.{list_below_is}
 use Rattle.gf256.specs.Polynomial.{coeff, sum_below}
 use Rattle.gf256.specs.Field.{product}
-use Rattle.gf256.specs.Tables.{powers_of_2, IsExponents, eight_from}
+use Rattle.gf256.specs.Tables.{IsTables, eight_from}
+use Rattle.gf256.specs.declared.tables.Tables.{Tables}
 use Rattle.gf256.proofs.Polynomials.{sum_below-same}
 use Rattle.gf256.proofs.Products.{product_bits}
 use Rattle.gf256.proofs.TableLaws.{eight_by_tables}
 use Rattle.mul_add.specs.MulAdd.{mul_add, mul_add_by, add_multiples}
 use Rattle.mul_add.proofs.MulAdds.{mul_add_zero}
 
-pub eight_in_a_row : (ps : List ℕ) (k e : ℕ) (xs bs cs : List ℕ) → k ≡ e
-    → cs
-    ≡ add_multiples
-    (get_or ps k 0 ∷ get_or ps (k + 1) 0 ∷ get_or ps (k + 2) 0 ∷ get_or ps (k + 3) 0 ∷ get_or ps (k + 4) 0 ∷ get_or ps (k + 5) 0 ∷ get_or ps (k + 6) 0
-    ∷ get_or ps (k + 7) 0 ∷ []) xs bs
-    → cs ≡ add_multiples (eight_from ps e) xs bs
-unfolding eight_from list_below
-eight_in_a_row ps k e xs bs cs h c =
-    c
-    ∙ ap
-    (λ (n : ℕ).
-    add_multiples
-    (get_or ps n 0 ∷ get_or ps (k + 1) 0 ∷ get_or ps (k + 2) 0 ∷ get_or ps (k + 3) 0 ∷ get_or ps (k + 4) 0 ∷ get_or ps (k + 5) 0 ∷ get_or ps (k + 6) 0
-    ∷ get_or ps (k + 7) 0 ∷ []) xs bs)
-    (sym (add-zero k))
-    ∙ ap (λ (n : ℕ). add_multiples (eight_from ps n) xs bs) h
+pub eight_in_a_row : (ps : List ℕ) (e : ℕ) → e + 8 ≤ length ps → take 8 (drop e ps) ≡ eight_from ps e
+unfolding eight_from
+eight_in_a_row ps e h =
+    list_below_is 8 (λ i. get_or ps (e + i) 0) (take 8 (drop e ps)) (length-take-le 8 (drop e ps) (omega (arith, length-drop e ps)))
+    (λ p l. get_or-take 8 (drop e ps) p 0 l ∙ get_or-drop e ps p 0)
 
 -- the multiples of w
 abbrev Multiples : List ℕ → ℕ → Type 0
@@ -58,21 +48,15 @@ each_byte ms w e [] bs = refl
 each_byte ms w e (x ∷ xs) [] = refl
 each_byte ms w e (x ∷ xs) (b ∷ bs) = ap₂ (λ (y : ℕ) (l : List ℕ). bit_xor b y ∷ l) (combine_product ms w x e) (each_byte ms w e xs bs)
 
-pub by_tables : (ps es : List ℕ) → ps ≡ powers_of_2 → IsExponents es → (w : ℕ) → w < 256 → (xs bs cs : List ℕ)
-    → cs ≡ mul_add_by ps es w xs bs → cs ≡ mul_add w xs bs
+pub by_tables : (t : Tables) → IsTables t → (w : ℕ) → w < 256 → (xs bs : List ℕ) → mul_add_by t.powers t.exponents w xs bs ≡ mul_add w xs bs
 unfolding mul_add_by
-by_tables ps es p t w h xs bs cs c = elim (ℕ_discrete w 0) [
+by_tables t is w h xs bs = elim (ℕ_discrete w 0) [
   | yes e ↦ by_weight (eq-eqb w 0 e) ∙ sym (ap (λ (v : ℕ). mul_add v xs bs) e ∙ mul_add_zero xs bs)
-  | no q ↦ by_weight (ne_eqb w 0 q) ∙ each_byte (eight_from ps (get_or es w 0)) w (eight_by_tables ps es p t w (pos_of_ne-zero q) h) xs bs
+  | no q ↦ by_weight (ne_eqb w 0 q) ∙ each_byte ms w (eight_by_tables t is w (pos_of_ne-zero q) h) xs bs
 ]
   where
-    by_weight : {z : Bool} → eqb w 0 ≡ z → cs ≡ cond z bs (add_multiples (eight_from ps (get_or es w 0)) xs bs)
-    by_weight e = c ∙ ap (λ (z : Bool). cond z bs (add_multiples (eight_from ps (get_or es w 0)) xs bs)) e
+    ms : List ℕ
+    ms = eight_from t.powers (get_or t.exponents w 0)
 
--- what `mul_add_by` does with a weight other than 0, whose place is k
-pub by_weight : (ps es : List ℕ) (w k : ℕ) (xs bs cs : List ℕ) → k ≡ w → w ≢ 0 → cs ≡ add_multiples (eight_from ps (get_or es k 0)) xs bs
-    → cs ≡ mul_add_by ps es w xs bs
-unfolding mul_add_by
-by_weight ps es w k xs bs cs e q c =
-    c ∙ ap (λ (n : ℕ). add_multiples (eight_from ps (get_or es n 0)) xs bs) e
-    ∙ sym (ap (λ (z : Bool). cond z bs (add_multiples (eight_from ps (get_or es w 0)) xs bs)) (ne_eqb w 0 q))
+    by_weight : {z : Bool} → eqb w 0 ≡ z → mul_add_by t.powers t.exponents w xs bs ≡ cond z bs (add_multiples ms xs bs)
+    by_weight e = ap (λ (z : Bool). cond z bs (add_multiples ms xs bs)) e

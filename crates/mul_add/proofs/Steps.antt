@@ -1,7 +1,7 @@
 -- The loop of `add_multiples`, byte by byte.
 --
 --   combined ms x       what the byte x of the fragment adds
---   add_multiples-none   before the first byte
+--   add_multiples_none   before the first byte
 --   add_multiples_more   one byte further
 --   add_multiples_all    at the end of the shorter of the two
 -- Assumes nothing.
@@ -20,9 +20,9 @@ use Rattle.mul_add.specs.MulAdd.{add_multiples}
 abbrev pub combined : List ℕ → ℕ → ℕ
 combined ms x = sum_below 8 (λ i. coeff x i * get_or ms i 0)
 
-pub add_multiples-none : (ms xs bs : List ℕ) → bs ≡ add_multiples ms (take 0 xs) bs
+pub add_multiples_none : (ms xs bs : List ℕ) → bs ≡ add_multiples ms (take 0 xs) bs
 unfolding add_multiples
-add_multiples-none ms xs bs = refl
+add_multiples_none ms xs bs = refl
 
 -- byte i of the buffer c gains y
 gain : List ℕ → ℕ → ℕ → List ℕ
