@@ -1,6 +1,6 @@
 -- Laws of the two codes.
 --
---   code_of      any number but 0 gives the second code; the code of a code's number is that code, and back
+--   code_of      the code of a code's number is that code, and back
 --   is_code      the number of a code is 0 or 1; any other is none
 --   same        a code is the same as itself, and no other
 -- Assumes nothing.
@@ -14,10 +14,6 @@ use Rattle.codes.specs.Codes.{code_number, is_code, code_of, same}
 use Rattle.codes.specs.Claim.{CodeNumbers}
 use Rattle.codes.specs.declared.Code.{Code}
 use Rattle.codes.specs.declared.Code.TheVariants.{Powers, Cauchy}
-
-pub not_zero : (k : ℕ) → ¬ (k ≡ 0) → code_of k ≡ Cauchy
-not_zero zero h = absurd (h refl)
-not_zero (suc k) h = refl
 
 pub back : (c : Code) → code_of (code_number c) ≡ c
 back Powers = refl

@@ -2,45 +2,42 @@
 #![tactic(auto)]
 
 ghost use Rattle.std.specs.Prelude.{◌≡◌};
-ghost use Rattle.codes.specs.Codes.{is_code, code_of, code_number, same};
+ghost use Rattle.codes.specs.Codes.{CodeFrom, code_number};
 
 // Par 1.0's own code, whose coefficients are powers, and the code of Cauchy coefficients.
-#[derive(Clone, Copy)]
+#[derive(Clone, Copy, Debug, PartialEq, Eq)]
 pub enum Code {
     Powers,
     Cauchy,
 }
 
-// Whether a number is that of a code.
-pub fn is_code(number: u64) -> bool
-    ensures { result ≡ is_code number }
-{
-    number <= 1
-}
-
-// The code of a number; any number but 0 gives the second.
-pub fn code_of(number: u64) -> Code
-    ensures { result ≡ code_of number }
-{
-    if number == 0 {
-        return Code::Powers;
-    }
-    Code::Cauchy
-}
+// The refusal of a number that is that of no code.
+#[derive(Clone, Copy, Debug, PartialEq, Eq)]
+pub struct NoCode;
 
 // The number of a code.
-pub fn code_number(code: Code) -> u64
-    ensures { result ≡ code_number code }
-{
-    match code {
-        Code::Powers => 0,
-        Code::Cauchy => 1,
+impl From<Code> for u64 {
+    ghost from_gives = { λ code number. number ≡ code_number code };
+
+    fn from(code: Code) -> u64 {
+        match code {
+            Code::Powers => 0,
+            Code::Cauchy => 1,
+        }
     }
 }
 
-// Whether two codes are the same.
-pub fn same(a: Code, b: Code) -> bool
-    ensures { result ≡ same a b }
-{
-    code_number(a) == code_number(b)
+// The code of a number, where it is that of a code.
+impl TryFrom<u64> for Code {
+    type Error = NoCode;
+
+    ghost try_from_gives = { CodeFrom };
+
+    fn try_from(number: u64) -> Result<Code, NoCode> {
+        match number {
+            0 => Ok(Code::Powers),
+            1 => Ok(Code::Cauchy),
+            _ => Err(NoCode),
+        }
+    }
 }
