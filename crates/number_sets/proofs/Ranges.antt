@@ -2,16 +2,22 @@
 --
 --   one_more               what holds below k and at k holds below k + 1
 --   or_left, or_right      an implication, where its premise is false, or its conclusion true
+--   all_in_range           a test that passes at each number of 0 to m - 1
 --   within_bits, within_by     the numbers of a set in range are in range, and the other way
 --   apart_bits, apart_by       no number of a set is in one that is apart from it, and the other way
 -- Assumes nothing.
-use mathlib.Core.Path.{◌≡◌, refl, sym, ap, subst}
+use mathlib.Core.Path.{◌≡◌, refl, sym, ap, ◌∙◌, subst}
 use mathlib.Core.Bool.{Bool, true, false, not, ◌&&◌, ◌||◌, false≢true}
-use mathlib.Core.List.{List}
-use Prim.Native.Nat.{ℕ, ◌<◌, ◌+◌}
+use mathlib.Core.List.{List, [], ◌∷◌, map}
+use Prim.Native.Nat.{ℕ, zero, suc, ◌<◌, ◌+◌}
+use native.Mathlib.Nat.{zero-add}
+use native.Mathlib.Numerals.{add-one}
+use Rattle.std.specs.List.{list_all, range_with_len}
+use Rattle.std.proofs.lemmas.List.Folds.{list_all-append, list_all-map}
+use Rattle.std.proofs.lemmas.List.FromFn.{map-range_with_len_more}
 use native.Mathlib.Omega.{arith}
 use native.Mathlib.Decide.{ℕ_discrete}
-use Rattle.computed_tests.specs.Numbers.{one_to}
+use Rattle.computed_tests.specs.Numbers.{one_to, all_below}
 use Rattle.computed_tests.proofs.Tests.{all_true, all_at}
 use Rattle.number_sets.specs.Sets.{member, within, apart}
 
@@ -27,6 +33,23 @@ or_left a b e = ap (λ (x : Bool). not x || b) e
 pub or_right : (a b : Bool) → b ≡ true → (not a || b) ≡ true
 or_right true b e = e
 or_right false b e = refl
+
+both_turned : (a b : Bool) → (a && (b && true)) ≡ (b && a)
+both_turned true true = refl
+both_turned true false = refl
+both_turned false true = refl
+both_turned false false = refl
+
+-- what `all` over a range gives
+pub all_in_range : (m : ℕ) (test : ℕ → Bool) → list_all test (range_with_len 0 m) ≡ all_below m test
+all_in_range zero test = refl
+all_in_range (suc m) test =
+    ap (λ (k : ℕ). list_all test (range_with_len 0 k)) (sym (add-one m))
+    ∙ sym (list_all-map test (λ (k : ℕ). k) (range_with_len 0 (m + 1)))
+    ∙ ap (list_all test) (map-range_with_len_more (λ (k : ℕ). k) 0 m m (zero-add m))
+    ∙ list_all-append test (map (λ (k : ℕ). k) (range_with_len 0 m)) (m ∷ [])
+    ∙ ap (λ (b : Bool). b && (test m && true)) (list_all-map test (λ (k : ℕ). k) (range_with_len 0 m) ∙ all_in_range m test)
+    ∙ both_turned (all_below m test) (test m)
 
 -- ---- sets in range
 

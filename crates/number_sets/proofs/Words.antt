@@ -6,15 +6,14 @@
 --   inserted_above, removed_above              nothing changes for a number above 255
 --   length_inserted, length_removed            there are as many words as before
 --   member-inserted, member-removed, member-none   what is in the set then
---   size_by_ones                      the counts of ones of the words sum to the size of the set
---   below_four                        what holds at 0 to 3 holds below 4
+--   size_by_ones, ones_fit            the counts of ones of the words sum to the size of the set, which fits
 --   words_same                        two sets with the same members are the same words
 --   words_none, words_inserted, words_removed     the words that calls give
 -- Assumes nothing.
 use mathlib.Core.Path.{◌≡◌, refl, sym, ap, ap₂, ◌∙◌, subst}
 use mathlib.Core.Logic.{◌≢◌}
 use mathlib.Core.Bool.{Bool, true, false, not, cond, ◌&&◌, ◌||◌}
-use mathlib.Core.List.{List}
+use mathlib.Core.List.{List, [], ◌∷◌}
 use Prim.Native.Nat.{ℕ, zero, suc, ◌<◌, ◌≤◌, ◌+◌, ◌*◌, ◌-◌, ◌/◌, ◌%◌, ◌^◌, min, max}
 use native.Mathlib.Nat.{zero-lt-suc, not-suc-le-zero, le_of_suc-le-suc, pow-suc, mul_comm, add-suc, zero-add, add-zero}
 use native.Mathlib.Nat.{mod-lt, mod-eq_of_lt, div-div-eq-div-mul}
@@ -27,6 +26,7 @@ use lib.Seq.{get_or-set_same, get_or-set_other, set_out, ext_get_or}
 use lib.Bits.{bit_and, bit_or, or_shr, or_step, and_shr, and_step, and_mask, and_le_l, or_lt}
 use lib.Count.{ones, ones_step}
 use lib.Dec.{eqb}
+use Rattle.std.specs.List.{sum_by}
 use borrow.Author.Tests.{eq-eqb, ne_eqb}
 use Rattle.computed_tests.proofs.Tests.{bit_cases}
 use Rattle.number_sets.specs.Sets.{member, inserted, removed, size_below, Words}
@@ -253,10 +253,20 @@ unfolding size_below total one_if
 size_total zero set = refl
 size_total (suc m) set = ap (λ (x : ℕ). x + cond (set m) 1 0) (size_total m set)
 
-pub size_by_ones : (ws : List ℕ) → ((j : ℕ) → j < 4 → get_or ws j 0 < 2 ^ 64)
-    → ones (get_or ws 0 0) + ones (get_or ws 1 0) + ones (get_or ws 2 0) + ones (get_or ws 3 0) ≡ size_below 256 (member ws)
-size_by_ones ws h =
-    ap₂ ◌+◌ (ap₂ ◌+◌ (ap₂ ◌+◌ (at 0 (omega arith)) (at 1 (omega arith))) (at 2 (omega arith))) (at 3 (omega arith))
+-- the words' sum, in the order of `sum`
+four_ones : (ws : List ℕ) → length ws ≡ 4
+    → sum_by ones ws ≡ ones (get_or ws 0 0) + ones (get_or ws 1 0) + ones (get_or ws 2 0) + ones (get_or ws 3 0)
+four_ones [] e = absurd (omega arith)
+four_ones (a ∷ []) e = absurd (omega arith)
+four_ones (a ∷ b ∷ []) e = absurd (omega arith)
+four_ones (a ∷ b ∷ c ∷ []) e = absurd (omega arith)
+four_ones (a ∷ b ∷ c ∷ d ∷ []) e = omega arith
+four_ones (a ∷ b ∷ c ∷ d ∷ x ∷ xs) e = absurd (omega arith)
+
+pub size_by_ones : (ws : List ℕ) → Words ws → sum_by ones ws ≡ size_below 256 (member ws)
+size_by_ones ws W =
+    four_ones ws W.four
+    ∙ ap₂ ◌+◌ (ap₂ ◌+◌ (ap₂ ◌+◌ (at 0) (at 1)) (at 2)) (at 3)
     ∙ sym
     (size_total 256 (member ws) ∙ total_split 192 64 m
     ∙ ap (λ (x : ℕ). x + total 64 (λ i. m (192 + i)))
@@ -268,15 +278,21 @@ size_by_ones ws h =
     m : ℕ → ℕ
     m k = one_if (member ws k)
 
-    at : (j : ℕ) → j < 4 → ones (get_or ws j 0) ≡ total 64 (λ b. one_if (member ws (64 * j + b)))
-    at j l = word_total ws j (h j l)
+    at : (j : ℕ) → ones (get_or ws j 0) ≡ total 64 (λ b. one_if (member ws (64 * j + b)))
+    at j = word_total ws j (W.fits j)
 
-pub below_four : (P : ℕ → Type 0) → P 0 → P 1 → P 2 → P 3 → (j : ℕ) → j < 4 → P j
-below_four P a b c d zero l = a
-below_four P a b c d (suc zero) l = b
-below_four P a b c d (suc (suc zero)) l = c
-below_four P a b c d (suc (suc (suc zero))) l = d
-below_four P a b c d (suc (suc (suc (suc j)))) l = absurd (omega arith)
+size_small : (m : ℕ) (test : ℕ → Bool) → size_below m test ≤ m
+unfolding size_below one_if
+size_small zero test = omega arith
+size_small (suc m) test = let one : one_if (test m) ≤ 1 = small (test m) in omega (arith, size_small m test)
+  where
+    small : (b : Bool) → one_if b ≤ 1
+    small true = omega arith
+    small false = omega arith
+
+-- the sum of the counts fits
+pub ones_fit : (ws : List ℕ) → Words ws → sum_by ones ws < 2 ^ 32
+ones_fit ws W = omega (arith, size_by_ones ws W, size_small 256 (member ws))
 
 -- ---- words of 64 bits
 

@@ -8,11 +8,9 @@
 --   within m ws       whether each number of the set ws is one of 1 to m
 --   apart ws ws'      whether no number is in both sets
 --   Words ws          ws are four words of 64 bits
---   Ones word r       r of the bits of a word are set
 -- Assumes nothing.
-use Rattle.std.specs.Prelude.{◌≡◌, Bool, not, cond, ◌&&◌, ◌||◌, List, ℕ, zero, suc, ◌+◌, ◌-◌, ◌/◌, ◌%◌, ◌^◌, ◌<◌, ◌≤◌, eqb, length, get_or, set}
+use Rattle.std.specs.Prelude.{◌≡◌, Bool, not, cond, ◌&&◌, ◌||◌, List, ℕ, zero, suc, ◌+◌, ◌-◌, ◌/◌, ◌%◌, ◌^◌, ◌<◌, eqb, length, get_or, set}
 use Rattle.std.specs.Int.Bits.{bit_and, bit_or}
-use Rattle.std.specs.Int.Count.{ones}
 use Rattle.computed_tests.specs.Numbers.{one_to, all_below}
 
 unfoldable pub member : List ℕ → ℕ → Bool
@@ -42,8 +40,3 @@ apart ws ws' = all_below 256 (λ k. not (member ws k && member ws' k))
 pub record Words (ws : List ℕ) : Type 0 where
   pub four : length ws ≡ 4
   pub fits : (j : ℕ) → get_or ws j 0 < 2 ^ 64
-
-pub record Ones (word r : ℕ) : Type 0 where
-  pub is : r ≡ ones word
-  pub small : r ≤ 64
-  pub fits : word < 2 ^ 64

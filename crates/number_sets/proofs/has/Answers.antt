@@ -1,12 +1,13 @@
 -- `number_sets::has` meets its contract.
 -- Assumes nothing.
-use mathlib.Core.Path.{sym}
+use mathlib.Core.Path.{sym, ◌∙◌}
+use Rattle.std.proofs.lemmas.Bool.{le-ltb}
 use Rattle.number_sets.proofs.Words.{member_above, member_bit}
 use borrow.Author.Rules.{rules}
 use Rattle.number_sets.proofs.has.Goals as goal
 
-pub returns-then-k-ge256 : goal.returns-then-k-ge256
-returns-then-k-ge256 c = let a = c.args in sym (member_above a.set a.k (search rules) c.if-k-ge256.true)
+pub returns-then-k-lt256 : goal.returns-then-k-lt256
+returns-then-k-lt256 c = member_bit c.args.set c.args.k
 
-pub returns : goal.returns
-returns c = member_bit c.args.set c.args.k
+pub returns-else-k-lt256 : goal.returns-else-k-lt256
+returns-else-k-lt256 c = let a = c.args in le-ltb a.k 256 c.if-k-lt256.false ∙ sym (member_above a.set a.k (search rules) c.if-k-lt256.false)

@@ -5,8 +5,8 @@ use Rattle.number_sets.proofs.Words.{inserted_above, inserted_by_mask}
 use borrow.Author.Rules.{rules}
 use Rattle.number_sets.proofs.insert.Goals as goal
 
-pub returns-then-k-ge256 : goal.returns-then-k-ge256
-returns-then-k-ge256 c = let a = c.args in sym (inserted_above a.k a.set (search rules) c.if-k-ge256.true)
+pub returns-then-k-lt256 : goal.returns-then-k-lt256
+returns-then-k-lt256 c = inserted_by_mask c.args.k c.args.set
 
-pub returns : goal.returns
-returns c = inserted_by_mask c.args.k c.args.set
+pub returns-else-k-lt256 : goal.returns-else-k-lt256
+returns-else-k-lt256 c = let a = c.args in sym (inserted_above a.k a.set (search rules) c.if-k-lt256.false)

@@ -1,24 +1,19 @@
 -- `number_sets::within` meets its contract.
 -- Assumes nothing.
-use mathlib.Core.Path.{◌≡◌, sym, ap₂, ◌∙◌}
-use native.Mathlib.Omega.{arith}
+use mathlib.Core.Path.{refl, ◌∙◌}
+use Prim.Native.Nat.{ℕ}
 use mathlib.Core.Bool.{Bool, not, ◌||◌}
-use native.Mathlib.Nat.{not-suc-le-zero}
+use borrow.Author.Rules.{rules}
+use borrow.Author.Tests.{tests}
+use Rattle.std.proofs.lemmas.Iterator.{YieldsList-from_range}
+use Rattle.std.proofs.lemmas.Iterator.Search.{all_from_yields_List}
 use Rattle.computed_tests.specs.Numbers.{one_to}
-use Rattle.computed_tests.proofs.Tests.{all_false, all_true}
 use Rattle.number_sets.specs.Sets.{member, within}
+use Rattle.number_sets.proofs.Ranges.{all_in_range}
 use Rattle.number_sets.proofs.within.Goals as goal
-
-pub loop-k-init : goal.loop-k-init
-loop-k-init c = (omega arith, λ j l. absurd (not-suc-le-zero l))
-
-pub returns-then-not-one_to : goal.returns-then-not-one_to
-unfolding within
-returns-then-not-one_to c = let l = c.loop-k in let a = c.args in sym (all_false 256 (λ k. not (member a.set k) || one_to a.m k) l.k (omega arith)
-    (ap₂ (λ (x y : Bool). not x || y) (sym c.has.ensures ∙ c.if-has.true)
-    (sym c.one_to.ensures ∙ c.if-not-one_to.true)))
 
 pub returns : goal.returns
 unfolding within
-returns c = let l = c.loop-k in let a = c.args in let e : l.k ≡ 256 = omega arith in
-    sym (all_true 256 (λ k. not (member a.set k) || one_to a.m k) (rw e at l.invariant.1))
+returns c = let a = c.args in let test : ℕ → Bool = λ k. not (member a.set k) || one_to a.m k in
+    all_from_yields_List test _ _ c.all.result c.all.ensures.ran (YieldsList-from_range 0 256 256 refl refl) (λ x b q k. search (rules, tests))
+    ∙ all_in_range 256 test
