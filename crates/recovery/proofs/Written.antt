@@ -1,11 +1,12 @@
 -- The room with the weights, over any rule for the coefficients.
 --
 --   written_none, written_file, written_volume     with none; with one more, that of a file or that of a volume: the loop of `write`
+--   written_parts       those of the files and then those of the volumes, copied one after the other
 --   weights_written     the first p weights can be written, one after another
 --   written_byte        what is written are bytes
 --   written-rest        the rest of the room stays
 -- Assumes nothing.
-use mathlib.Core.Path.{◌≡◌, refl, sym, ap, ◌∙◌, subst}
+use mathlib.Core.Path.{◌≡◌, refl, sym, ap, ap₂, ◌∙◌, subst}
 use mathlib.Core.Bool.{Bool, true, false, cond}
 use mathlib.Core.List.{List, ◌++◌}
 use Prim.Native.Nat.{ℕ, zero, suc, ◌<◌, ◌≤◌, ◌+◌, ◌-◌}
@@ -14,6 +15,8 @@ use native.Mathlib.Numerals.{add-one}
 use native.Mathlib.Omega.{arith}
 use native.Mathlib.Decide.{ℕ_discrete, dec_lt}
 use lib.ListN.{length, get_or, set, take, drop, length-set, length-drop, take-append-drop}
+use Rattle.std.proofs.lemmas.List.{take_at, drop_at, drop-drop, length-append, length-take-le, get_or_append_left, get_or-append_right, get_or-take}
+use Rattle.std.proofs.lemmas.Grind.{get_or_after_one}
 use lib.Seq.{ext_get_or, get_or-set_same, get_or-set_other, get_or-drop}
 use Rattle.gf256.proofs.Polynomials.{sum_below_lt}
 use Rattle.gf256.proofs.Products.{product_byte}
@@ -55,6 +58,57 @@ written_none rule n files ws room = record {
   of_volumes = λ i l b. absurd (not-suc-le-zero l);
   rest = λ i l. refl;
 }
+
+module _ (n : ℕ) (sums ws room : List ℕ) (few : n ≤ 255) (ls : length sums ≡ 255) (lw : length ws ≡ 256) (lr : 255 ≤ length room) where
+  abbrev first : List ℕ
+  first = take n sums ++ drop n room
+
+  abbrev both : List ℕ
+  both = take n first ++ (take (256 - n - 1) (drop 1 ws) ++ drop (255 - n) (drop n first))
+
+  long_first : length (take n sums) ≡ n
+  long_first = length-take-le n sums (omega arith)
+
+  long_second : length (take (256 - n - 1) (drop 1 ws)) ≡ 255 - n
+  long_second = length-take-le _ (drop 1 ws) (omega (arith, length-drop 1 ws)) ∙ omega arith
+
+  both_is : both ≡ take n sums ++ (take (256 - n - 1) (drop 1 ws) ++ drop 255 room)
+  both_is = let front = take_at (take n sums) (drop n room) n long_first in
+      let back = drop_at (take n sums) (drop n room) n long_first in
+      let all : n + (255 - n) ≡ 255 = omega arith in
+      ap₂ (λ (a b : List ℕ). a ++ (take (256 - n - 1) (drop 1 ws) ++ b)) front
+      (ap (drop (255 - n)) back ∙ drop-drop (255 - n) n room ∙ ap (λ (k : ℕ). drop k room) all)
+
+  in_both : (i x : ℕ) → get_or (take n sums ++ (take (256 - n - 1) (drop 1 ws) ++ drop 255 room)) i 0 ≡ x → get_or both i 0 ≡ x
+  in_both i x e = ap (λ (l : List ℕ). get_or l i 0) both_is ∙ e
+
+  both_long : length both ≡ length room
+  both_long = ap length both_is ∙ simp length-append (omega (arith, long_first, long_second, length-drop 255 room))
+
+  at_file : (i : ℕ) → i < n → get_or both i 0 ≡ get_or sums i 0
+  at_file i l = in_both i _ (get_or_append_left (take n sums) _ 0 i (omega (arith, long_first)) ∙ get_or-take n sums i 0 l)
+
+  past_first : (i x : ℕ) → n ≤ i → get_or (take (256 - n - 1) (drop 1 ws) ++ drop 255 room) (i - n) 0 ≡ x → get_or both i 0 ≡ x
+  past_first i x l e = in_both i x (get_or-append_right _ _ n i 0 long_first l ∙ e)
+
+  at_volume : (i : ℕ) → n ≤ i → i < 255 → get_or both i 0 ≡ get_or ws (i - n + 1) 0
+  at_volume i l h = past_first i _ l
+      (get_or_append_left (take (256 - n - 1) (drop 1 ws)) _ 0 (i - n) (omega (arith, long_second)) ∙ get_or-take _ (drop 1 ws) (i - n) 0 (omega arith)
+      ∙ get_or_after_one ws (i - n) 0 ∙ ap (λ (k : ℕ). get_or ws k 0) (omega arith))
+
+  at_rest : (i : ℕ) → 255 ≤ i → get_or both i 0 ≡ get_or room i 0
+  at_rest i l = past_first i _ (omega arith)
+      (get_or-append_right _ _ (255 - n) (i - n) 0 long_second (omega arith) ∙ get_or-drop 255 room _ 0
+      ∙ ap (λ (k : ℕ). get_or room k 0) (omega arith))
+
+  pub written_parts : (rule : ℕ → ℕ → ℕ) (files : List ℕ) → ((i : ℕ) → i < 255 → get_or sums i 0 ≡ file_weight rule files ws (255 - n) i)
+      → Written rule n files ws room both 255
+  written_parts rule files h = record {
+    same_length = both_long;
+    of_files = λ i l b. at_file i b ∙ h i l;
+    of_volumes = λ i l b. at_volume i b l;
+    rest = at_rest;
+  }
 
 module _ (rule : ℕ → ℕ → ℕ) (n : ℕ) (files ws room : List ℕ) where
   pub weights_written : (p : ℕ) → p ≤ length room → (room' : List ℕ) × Written rule n files ws room room' p
