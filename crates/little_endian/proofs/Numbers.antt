@@ -5,19 +5,20 @@
 --   bytes_append  bytes and bytes after them are bytes
 --   bytes_to_le    and so are those of a number
 --   length-to_le   the k lowest bytes are k
---   to_add        j + k bytes are the j lowest bytes, then the next k
 --   to_mod        only the number modulo 256 ^ k counts
+--   low_first     std's k lowest bytes are these
 --   from_to       a number turned into k bytes and back is the number modulo 256 ^ k
 --   to_from       bytes turned into a number and back are the same bytes
 -- Assumes nothing.
-use mathlib.Core.Path.{◌≡◌, refl, sym, ap, ap₂, ◌∙◌}
+use mathlib.Core.Path.{◌≡◌, refl, sym, ap, ◌∙◌}
 use Prim.Native.Nat.{ℕ, zero, suc, ◌+◌, ◌*◌, ◌/◌, ◌%◌, ◌^◌, ◌<◌}
-use native.Mathlib.Nat.{pow-suc, zero-lt-suc, zero-add, suc-add, mod-one, div-one, one-le-pow, div-div-eq-div-mul, pow-succ'}
+use native.Mathlib.Nat.{pow-suc, zero-lt-suc, mod-one, div-one, one-le-pow, div-div-eq-div-mul}
 use native.Mathlib.Omega.{arith}
 use mathlib.Core.List.{List, [], ◌∷◌, ◌++◌}
 use lib.ListN.{length, take, drop}
 use lib.Arith.{mod-mul}
 use lib.Seq.{get_or-drop}
+use Rattle.std.specs.Int.{bytes_low_first}
 use Rattle.little_endian.specs.Bytes.{Bytes, from_le, to_le}
 
 -- ---- Bytes
@@ -58,17 +59,22 @@ bytes_to_le zero n i = zero-lt-suc 255
 bytes_to_le (suc k) n zero = omega arith
 bytes_to_le (suc k) n (suc i) = bytes_to_le k (n / 256) i
 
-pub to_add : (j k n : ℕ) → to_le (j + k) n ≡ to_le j n ++ to_le k (n / 256 ^ j)
-unfolding to_le
-to_add zero k n = ap₂ to_le (zero-add k) (sym (div-one n))
-to_add (suc j) k n = rw (suc-add, to_add j k (n / 256), pow-succ', div-div-eq-div-mul)
-
 pub to_mod : (k n : ℕ) → to_le k (n % 256 ^ k) ≡ to_le k n
 unfolding to_le
 to_mod zero n = refl
 to_mod (suc k) n = let low : n % 256 ^ suc k % 256 ≡ n % 256 = omega (arith, mod_suc k n) in
     let rest : n % 256 ^ suc k / 256 ≡ n / 256 % 256 ^ k = omega (arith, mod_suc k n) in
     rw (low, rest, to_mod k (n / 256))
+
+low_from : (i k n : ℕ) → bytes_low_first i k n ≡ to_le k (n / 256 ^ i)
+unfolding to_le
+low_from i zero n = refl
+low_from zero (suc k) n = rw div-one (ap (λ (l : List ℕ). n % 256 ∷ l) (low_from 1 k n))
+low_from (suc i) (suc k) n = let next : n / 256 ^ suc (suc i) ≡ n / 256 ^ suc i / 256 = ap (λ (m : ℕ). n / m) (pow-suc 256 (suc i)) ∙ sym (div-div-eq-div-mul n (256 ^ suc i) 256) in
+    ap (λ (l : List ℕ). n / 256 ^ suc i % 256 ∷ l) (low_from (suc (suc i)) k n ∙ ap (to_le k) next)
+
+pub low_first : (k n : ℕ) → bytes_low_first 0 k n ≡ to_le k n
+low_first k n = low_from 0 k n ∙ ap (to_le k) (div-one n)
 
 -- ---- both ways
 

@@ -7,15 +7,19 @@
 --   le_at-same      lists with the same bytes there have the same number there
 --   le_at-drop, le_at-append   a number of a part, and of the first of two lists in a row
 --   to_le_at        the bytes of the number there are the bytes there
---   read_halves    a number of k + k bytes from its halves, where places stop at a last one past the end
+--   byte_past       the byte there, where places stop at a last one past the end
+--   le_at_bytes     the number that std makes of the k + 1 bytes there
 -- Assumes nothing.
 use mathlib.Core.Path.{◌≡◌, refl, sym, ap, ap₂, ◌∙◌}
 use Prim.Native.Nat.{ℕ, zero, suc, ◌+◌, ◌*◌, ◌^◌, ◌≤◌, ◌<◌, min}
-use native.Mathlib.Nat.{pow-zero, pow-succ', zero-add, add-zero, suc-add, mul_assoc}
+use native.Mathlib.Nat.{mul_comm, pow-zero, pow-succ', zero-add, add-zero, suc-add, mul_assoc}
+use native.Mathlib.Numerals.{add-one}
 use native.Mathlib.Omega.{arith}
 use mathlib.Core.List.{List, [], ◌∷◌, ◌++◌}
 use lib.ListN.{length, take, drop, get_or, length-drop, drop_of_length-le, get_or-append}
 use lib.Seq.{take-nil, drop-drop, length-take-le}
+use Rattle.std.specs.Int.{byte_worth, sum_through}
+use Rattle.std.specs.Prelude.{slice_index}
 use Rattle.little_endian.specs.Bytes.{Bytes, from_le, to_le, le_at}
 use Rattle.little_endian.proofs.Numbers.{bytes_take, bytes_drop, to_from}
 use Rattle.little_endian.proofs.Past.{at_min}
@@ -66,7 +70,7 @@ to_le_at k s i h fits = let part = take k (drop i s) in
     let size : length part ≡ k = length-take-le k (drop i s) (omega (arith, length-drop i s)) in
     ap (λ (m : ℕ). to_le m (from_le part)) (sym size) ∙ to_from part (bytes_take k (drop i s) (bytes_drop i s h))
 
--- ---- by halves
+-- ---- of two parts, and of bytes
 
 le_at_add : (j k : ℕ) (s : List ℕ) (i : ℕ) → le_at (j + k) s i ≡ le_at j s i + 256 ^ j * le_at k s (i + j)
 le_at_add zero k s i = rw (zero-add, add-zero, le_at_zero, pow-zero) (omega arith)
@@ -74,10 +78,15 @@ le_at_add (suc j) k s i = let next : suc i + j ≡ i + suc j = omega arith in
     let more = le_at_add j k s (suc i) in
     rw (suc-add, le_at_suc (j + k), le_at_suc j, pow-succ', mul_assoc) (omega (arith, rw next at more))
 
-le_at_past : (k : ℕ) (s : List ℕ) (i m : ℕ) → length s ≤ m → le_at k s (min i m) ≡ le_at k s i
-le_at_past k s i m h = at_min (le_at k s) i m (λ past. le_at_out k s m h ∙ sym (le_at_out k s i (omega arith)))
+pub byte_past : (s : List ℕ) (i m : ℕ) → length s ≤ m → le_at 1 s (min i m) ≡ get_or s i 0
+byte_past s i m h = at_min (le_at 1 s) i m (λ past. le_at_out 1 s m h ∙ sym (le_at_out 1 s i (omega arith))) ∙ le_at_byte s i
 
-pub read_halves : (k : ℕ) (s : List ℕ) (i m : ℕ) {next low high : ℕ} → length s ≤ m → low ≡ le_at k s i
-    → next ≡ min (i + k) m → high ≡ le_at k s next → low + 256 ^ k * high ≡ le_at (k + k) s i
-read_halves k s i m h low next high =
-    ap₂ (λ (x y : ℕ). x + 256 ^ k * y) low (high ∙ ap (le_at k s) next ∙ le_at_past k s (i + k) m h) ∙ sym (le_at_add k k s i)
+pub le_at_bytes : (k : ℕ) (b s : List ℕ) (i : ℕ) → ((j : ℕ) → j < suc k → slice_index b j ≡ slice_index s (i + j))
+    → sum_through (λ j. byte_worth j (slice_index b j)) k ≡ le_at (suc k) s i
+le_at_bytes zero b s i h = h 0 (omega arith) ∙ rw add-zero (sym (le_at_byte s i))
+le_at_bytes (suc k) b s i h = let top : ℕ = get_or s (i + suc k) 0 in
+    let more : le_at (suc (suc k)) s i ≡ le_at (suc k) s i + 256 ^ suc k * top =
+    ap (λ (j : ℕ). le_at j s i) (sym (add-one (suc k))) ∙ le_at_add (suc k) 1 s i
+    ∙ ap (λ (b : ℕ). le_at (suc k) s i + 256 ^ suc k * b) (le_at_byte s (i + suc k)) in
+    ap₂ (λ (x y : ℕ). x + y * 256 ^ suc k) (le_at_bytes k b s i (λ j l. h j (omega arith))) (h (suc k) (omega arith))
+    ∙ ap (λ (x : ℕ). le_at (suc k) s i + x) (mul_comm top (256 ^ suc k)) ∙ sym more

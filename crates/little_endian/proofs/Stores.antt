@@ -3,15 +3,18 @@
 --   sets_append       a store of two lists in a row
 --   sets_out          past the end nothing changes
 --   sets_past         places may stop at a last one past the end
+--   sets_fitting      a store of what has room is a store of all
+--   sets_room         a store of what has room, over a part of the list
 --   part_sets         what was stored stands there
 -- Assumes nothing.
 use mathlib.Core.Path.{◌≡◌, refl, sym, ap, ◌∙◌}
-use Prim.Native.Nat.{ℕ, suc, ◌+◌, ◌≤◌, min}
+use Prim.Native.Nat.{ℕ, suc, ◌+◌, ◌-◌, ◌≤◌, min}
 use native.Mathlib.Nat.{add-zero, add-suc, suc-add}
 use native.Mathlib.Omega.{arith}
 use mathlib.Core.List.{List, [], ◌∷◌, ◌++◌, append_assoc}
-use lib.ListN.{length, take, drop, set}
-use lib.Seq.{sets, sets-eq, set_out, length-take-le, take-append_seam, drop_at}
+use lib.ListN.{length, take, drop, set, length-drop, take-append-drop}
+use lib.Seq.{length-sets, drop-drop, sets, sets-eq, set_out, length-take-le, take-append_seam, drop_at}
+use borrow.Rule.Slice.PartMut.{put_mid}
 use Rattle.little_endian.proofs.Past.{at_min}
 
 module _ {A : Type 0} where
@@ -37,3 +40,26 @@ module _ {A : Type 0} where
       ap (λ (t : List A). take (length v) (drop i t)) (sets-eq v s i h ∙ append_assoc (take i s) v rest)
       ∙ ap (take (length v)) (drop_at (take i s) (v ++ rest) i (length-take-le i s (omega arith)))
       ∙ take-append_seam v rest
+
+  -- what lies past the end is dropped
+  pub sets_fitting : (s b : List A) (at n : ℕ) → n ≡ min (length b) (length s - at) → sets s at (take n b) ≡ sets s at b
+  sets_fitting s b at n e = let t : List A = sets s at (take n b) in
+      let out : t ≡ sets t (at + length (take n b)) (drop n b) = sym (past (drop n b) refl) in
+      out ∙ sym (sets_append s at (take n b) (drop n b)) ∙ ap (sets s at) (take-append-drop n b)
+    where
+      past : (v : List A) → v ≡ drop n b → sets (sets s at (take n b)) (at + length (take n b)) v ≡ sets s at (take n b)
+      past [] z = refl
+      past (x ∷ v) z =
+          let size : length (take n b) ≡ n = length-take-le n b (omega arith) in
+          sets_out (sets s at (take n b)) (at + length (take n b)) (x ∷ v)
+          (omega (arith, length-sets s at (take n b), ap length z, length-drop n b))
+
+  pub sets_room : (s b : List A) (at n : ℕ) {part : List A} → at ≤ length s → n ≡ min (length b) (length s - at) → part ≡ take n b
+      → put_mid at n s part ≡ sets s at b
+  sets_room s b at n {part} h e is = let size : length part ≡ n = ap length is ∙ length-take-le n b (omega arith) in
+      let rest : drop n (drop at s) ≡ drop (at + length part) s = drop-drop n at s ∙ ap (λ (k : ℕ). drop (at + k) s) (sym size) in
+      ap (λ (l : List A). take at s ++ (part ++ l)) rest
+      ∙ sym (append_assoc (take at s) part (drop (at + length part) s))
+      ∙ sym (sets-eq part s at (omega arith))
+      ∙ ap (sets s at) is
+      ∙ sets_fitting s b at n e

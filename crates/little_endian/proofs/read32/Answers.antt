@@ -1,8 +1,7 @@
--- `little_endian::read32` meets its contract: `read_halves` joins its two halves.
+-- `little_endian::read32` meets its contract: the number is that of the bytes there.
 -- Assumes nothing.
-use borrow.Author.Rules.{rules}
-use Rattle.little_endian.proofs.Reading.{read_halves}
+use Rattle.little_endian.proofs.Reading.{le_at_bytes}
 use Rattle.little_endian.proofs.read32.Goals as goal
 
 pub returns : goal.returns
-returns c = let a = c.args in read_halves 2 a.s.now a.at _ (search rules) c.read16-low.ensures c.after.ensures c.read16-high.ensures
+returns c = rw c.from_le_bytes.ensures (le_at_bytes 3 c.bytes_at.result c.args.s.now c.args.at c.bytes_at.ensures)

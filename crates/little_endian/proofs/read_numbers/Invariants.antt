@@ -7,10 +7,7 @@ use lib.ListN.{length, take}
 use Rattle.little_endian.specs.Bytes.{numbers_at}
 use Rattle.little_endian.proofs.read_numbers.Given as goal
 
-abbrev pub invariant-loop-i : goal.invariant-loop-i
-invariant-loop-i l =
-    (l.i ≤ length l.initial.numbers) × (length l.numbers ≡ length l.initial.numbers)
-    × (take l.i l.numbers ++ numbers_at (length l.initial.numbers - l.i) l.s l.place ≡ numbers_at (length l.initial.numbers) l.s l.at)
-
-abbrev pub decreases-loop-i : goal.decreases-loop-i
-decreases-loop-i l = length l.initial.numbers - l.i
+abbrev pub invariant-loop-number : goal.invariant-loop-number
+invariant-loop-number l =
+    (l.number-index ≤ length l.initial.numbers) × (length l.numbers ≡ length l.initial.numbers)
+    × (take l.number-index l.numbers ++ numbers_at (length l.initial.numbers - l.number-index) l.s l.place ≡ numbers_at (length l.initial.numbers) l.s l.at)

@@ -1,8 +1,9 @@
--- `little_endian::write16` meets its contract: `write_halves` joins its two halves.
+-- `little_endian::write16` meets its contract: the bytes of the number are stored.
 -- Assumes nothing.
-use borrow.Author.Rules.{rules}
-use Rattle.little_endian.proofs.Writing.{write_halves}
+use mathlib.Core.Path.{ap, ◌∙◌}
+use lib.Seq.{sets}
+use Rattle.little_endian.proofs.Numbers.{low_first}
 use Rattle.little_endian.proofs.write16.Goals as goal
 
 pub returns : goal.returns
-returns c = let a = c.args in write_halves 1 a.x a.out.now a.at _ (search rules) c.write8.ensures c.after.ensures c.write8-2.ensures
+returns c = let a = c.args in c.put.ensures ∙ ap (sets a.out.now a.at) (c.to_le_bytes.ensures ∙ low_first 2 a.x)

@@ -1,14 +1,11 @@
--- `little_endian::write8` meets its contract: a write of one byte is a store, and past the end none.
+-- `little_endian::write8` meets its contract: its byte is stored.
 -- Assumes nothing.
-use mathlib.Core.Path.{sym}
-use borrow.Author.Rules.{rules}
+use native.Mathlib.Nat.{mod-eq_of_lt}
+use Prim.Native.Nat.{◌<◌}
+use Rattle.std.proofs.Common.{rules}
 use Rattle.little_endian.specs.Bytes.{to_le}
-use Rattle.little_endian.proofs.Stores.{sets_out}
-use Rattle.little_endian.proofs.Writing.{write_byte}
 use Rattle.little_endian.proofs.write8.Goals as goal
 
-pub returns-then-at-out : goal.returns-then-at-out
-returns-then-at-out c = let a = c.args in sym (write_byte a.out.now a.at a.x (search rules))
-
-pub returns-else-at-out : goal.returns-else-at-out
-returns-else-at-out c = let a = c.args in sym (sets_out a.out.now a.at (to_le 1 a.x) c.if-at-out.false)
+pub returns : goal.returns
+unfolding to_le
+returns c = let byte : c.args.x < 256 = search rules in rw (mod-eq_of_lt byte) c.put.ensures
