@@ -2,17 +2,16 @@
 --
 --   equal-same, equal_true   it passes for equal lists, and only for them
 --   equal_lengths            it fails where the lengths differ
---   equal_end, equal_more    the test from a position on
+--   equal_slices             it is what `==` of slices tells
 -- Assumes nothing.
 use mathlib.Core.Path.{◌≡◌, refl, sym, ap, ap₂, ◌∙◌}
-use mathlib.Core.Bool.{true, false, ◌&&◌, and-false}
+use mathlib.Core.Bool.{Bool, true, false, ◌&&◌, and-false}
 use mathlib.Core.List.{List, [], ◌∷◌}
-use Prim.Native.Nat.{ℕ, suc, ◌+◌, ◌≤◌, ◌<◌}
-use native.Mathlib.Numerals.{add-one}
+use Prim.Native.Nat.{ℕ, suc}
 use native.Mathlib.Omega.{arith}
 use lib.Dec.{eqb}
-use lib.ListN.{length, drop, get_or, drop_of_length-le}
-use lib.Seq.{drop-cons}
+use lib.Pointwise.{pointwise}
+use lib.ListN.{length}
 use borrow.Author.Tests.{eqb-true, eq-eqb}
 use Rattle.computed_tests.proofs.Tests.{and_both}
 use Rattle.lent_bytes.specs.Equal.{equal}
@@ -39,12 +38,10 @@ equal_lengths [] (b ∷ t) h = refl
 equal_lengths (a ∷ s) [] h = refl
 equal_lengths (a ∷ s) (b ∷ t) h = simp (equal_lengths s t (λ e. h (ap suc e)), and-false (eqb a b))
 
-module _ (s t : List ℕ) (i : ℕ) where
-  pub equal_end : length s ≤ i → length t ≤ i → equal (drop i s) (drop i t) ≡ true
-  unfolding equal
-  equal_end h k = simp (drop_of_length-le s h, drop_of_length-le t k)
-
-  pub equal_more : i < length s → i < length t
-      → equal (drop i s) (drop i t) ≡ (eqb (get_or s i 0) (get_or t i 0) && equal (drop (i + 1) s) (drop (i + 1) t))
-  unfolding equal
-  equal_more h k = simp (drop-cons s i 0 h, drop-cons t i 0 k, add-one)
+-- `==` of slices is this test
+pub equal_slices : (s t : List ℕ) → pointwise eqb s t ≡ equal s t
+unfolding equal
+equal_slices [] [] = refl
+equal_slices [] (b ∷ t) = refl
+equal_slices (a ∷ s) [] = refl
+equal_slices (a ∷ s) (b ∷ t) = ap (λ (e : Bool). eqb a b && e) (equal_slices s t)

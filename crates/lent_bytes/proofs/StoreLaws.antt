@@ -9,31 +9,19 @@
 -- Assumes nothing.
 use mathlib.Core.Path.{◌≡◌, refl, sym, ap, ap₂, ◌∙◌}
 use mathlib.Core.List.{List, [], ◌∷◌, ◌++◌, flatten}
-use Prim.Native.Nat.{ℕ, ◌+◌, ◌-◌, ◌≤◌, ◌<◌, min}
+use Prim.Native.Nat.{ℕ, ◌+◌, ◌≤◌, ◌<◌}
 use native.Mathlib.Numerals.{add-one}
 use native.Mathlib.Omega.{arith}
-use lib.ListN.{length, take, drop, get_or, set, length-drop, take-append-drop}
-use lib.Seq.{sets, sets-eq, length-sets, take-suc, length-take-le}
-use Rattle.little_endian.proofs.Stores.{sets_append, sets_out}
+use lib.ListN.{length, take, drop, get_or, set}
+use lib.Seq.{sets, sets-eq, take-suc, length-take-le}
+use Rattle.little_endian.proofs.Stores.{sets_append}
+pub use Rattle.little_endian.proofs.Stores.{sets_fitting}
 
 -- ---- at the front, and past the end
 
 pub sets_over : (s p : List ℕ) → length p ≤ length s → sets s 0 p ≡ p ++ drop (length p) s
 sets_over s p h = let n : 0 + length p ≡ length p = omega arith in
     sets-eq p s 0 (rw n h) ∙ ap (λ (k : ℕ). p ++ drop k s) n
-
--- what lies past the end is dropped
-pub sets_fitting : (s b : List ℕ) (at n : ℕ) → n ≡ min (length b) (length s - at) → sets s at (take n b) ≡ sets s at b
-sets_fitting s b at n e = let t : List ℕ = sets s at (take n b) in
-    let out : t ≡ sets t (at + length (take n b)) (drop n b) = sym (past (drop n b) refl) in
-    out ∙ sym (sets_append s at (take n b) (drop n b)) ∙ ap (sets s at) (take-append-drop n b)
-  where
-    past : (v : List ℕ) → v ≡ drop n b → sets (sets s at (take n b)) (at + length (take n b)) v ≡ sets s at (take n b)
-    past [] z = refl
-    past (x ∷ v) z =
-        let size : length (take n b) ≡ n = length-take-le n b (omega arith) in
-        sets_out (sets s at (take n b)) (at + length (take n b)) (x ∷ v)
-        (omega (arith, length-sets s at (take n b), ap length z, length-drop n b))
 
 pub sets_more : (s b : List ℕ) (at i : ℕ) {t : List ℕ} → i < length b → t ≡ sets s at (take i b)
     → set t (at + i) (get_or b i 0) ≡ sets s at (take (i + 1) b)

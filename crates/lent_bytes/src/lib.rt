@@ -1,13 +1,13 @@
 // Stores into lent bytes, what a call answers that writes there (document 01, "What comes back"), and the comparing of bytes and of lengths.
 #![tactic(auto)]
 
-ghost use Rattle.std.specs.Prelude.{◌≡◌, ◌-◌, min, max};
-ghost use Rattle.std.proofs.lemmas.List.Edits.{sets};
+ghost use Rattle.std.specs.Prelude.{◌≡◌, min, max};
 ghost use Rattle.lent_bytes.specs.Writing.{written, writing_refusal, with_number};
 
 mod comparing;
 
 pub use comparing::same;
+pub use little_endian::put;
 use refusals::{NO_ROOM, Refusal};
 
 // The refusal that an answer is, with the number 0 where it is accepted.
@@ -31,38 +31,16 @@ pub fn write<'a, 'b>(out: &'a mut [u8], bytes: &'b [u8]) -> u32
     0
 }
 
-// Writes `bytes` from `at` on; what lies past the end of `out` is dropped.
-pub fn put<'a, 'b>(out: &'a mut [u8], at: usize, bytes: &'b [u8])
-    ensures { out.new ≡ sets out.old at bytes.now }
-{
-    let n = fitting(out.len(), at, bytes.len());
-    let mut i: usize = 0;
-    while i < n {
-        out[at + i] = bytes[i];
-        i += 1;
-    }
-}
-
-// How many of `count` bytes have room from `at` on in `length` bytes.
-fn fitting(length: usize, at: usize, count: usize) -> usize
-    ensures { result ≡ min count (length - at) }
-{
-    if length <= at {
-        return 0;
-    }
-    lesser(count, length - at)
-}
-
 // The lesser of two lengths.
 pub fn lesser(a: usize, b: usize) -> usize
     ensures { result ≡ min a b }
 {
-    if a < b { a } else { b }
+    a.min(b)
 }
 
 // The greater of two lengths.
 pub fn greater(a: usize, b: usize) -> usize
     ensures { result ≡ max a b }
 {
-    if a < b { b } else { a }
+    a.max(b)
 }
