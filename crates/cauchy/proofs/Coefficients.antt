@@ -5,12 +5,13 @@
 --   cauchy_bytes             in range it is a byte other than 0
 --   cauchy_by_tables         it is what the tables give
 -- Assumes nothing.
-use Rattle.std.proofs.Common.{◌≡◌, ℕ, ◌-◌, ◌%◌, ◌<◌, List, sym, refl, ap, ◌∙◌, mod-lt, mod-eq_of_lt, arith}
+use Rattle.std.proofs.Common.{◌≡◌, ℕ, ◌-◌, ◌%◌, ◌<◌, sym, refl, ap, ◌∙◌, mod-lt, mod-eq_of_lt, arith}
 use native.Mathlib.Decide.{ℕ_discrete}
 use lib.Bits.{bit_xor}
 use Rattle.gf256.specs.Field.{product, power, inverse, inverse_below}
 use Rattle.gf256.specs.Polynomial.{coeff, sum_below, poly_product, remainder}
-use Rattle.gf256.specs.Tables.{powers_of_2, IsExponents}
+use Rattle.gf256.specs.Tables.{IsTables}
+use Rattle.gf256.specs.declared.tables.Tables.{Tables}
 use Rattle.gf256.proofs.Xor.{xor_byte, xor_equal}
 use Rattle.gf256.proofs.Products.{product_zero_r}
 use Rattle.gf256.proofs.Inverses.{inverse_byte, inverse-power, one_inverse}
@@ -68,7 +69,7 @@ inverse_by_power a h = elim (ℕ_discrete a 0) [
   | no q ↦ sym (inverse-power a h (omega (arith, q)))
 ]
 
-pub cauchy_by_tables : (ps es : List ℕ) → ps ≡ powers_of_2 → IsExponents es → (f v : ℕ) → f < 256 → cauchy_by ps es f v ≡ cauchy f v
+pub cauchy_by_tables : (t : Tables) → IsTables t → (f v : ℕ) → f < 256 → cauchy_by t.powers t.exponents f v ≡ cauchy f v
 unfolding cauchy_by cauchy
-cauchy_by_tables ps es p t f v h = let byte = xor_byte h (mod-lt (256 - v) (omega arith)) in
-    power_by_tables ps es p t (bit_xor f (row_point v)) 254 byte ∙ inverse_by_power (bit_xor f (row_point v)) byte
+cauchy_by_tables t is f v h = let byte = xor_byte h (mod-lt (256 - v) (omega arith)) in
+    power_by_tables t is (bit_xor f (row_point v)) 254 byte ∙ inverse_by_power (bit_xor f (row_point v)) byte

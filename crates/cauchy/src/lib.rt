@@ -4,11 +4,13 @@
 ghost use Rattle.std.specs.Prelude.{◌≡◌};
 ghost use Rattle.cauchy.specs.Cauchy.{cauchy_by};
 
+use gf256::Tables;
+
 // The inverse of the file's number exclusive-or 256 less the volume's, by the tables that are lent: one look-up. An inverse is the
 // power 254. It answers for all bytes.
-pub fn cauchy_by(powers: &[u8; 263], exponents: &[u8; 256], file: u8, volume: u8) -> u8
-    ensures { result ≡ cauchy_by powers.now exponents.now file volume }
+#[tactic(auto, unfolding(crate::specs::Cauchy::cauchy_by))]
+pub fn cauchy_by(tables: &Tables, file: u8, volume: u8) -> u8
+    ensures { result ≡ cauchy_by tables.now.powers tables.now.exponents file volume }
 {
-    let row = std::num::wrapping_sub_u8(0, volume);
-    gf256::power_by(powers, exponents, file ^ row, 254)
+    tables.power(file ^ volume.wrapping_neg(), 254)
 }

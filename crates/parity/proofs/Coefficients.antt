@@ -12,12 +12,12 @@
 use Rattle.std.specs.Prelude.{Ok, Err}
 use mathlib.Core.Path.{◌≡◌}
 use mathlib.Core.Bool.{or-true}
-use mathlib.Core.List.{List}
 use Prim.Native.Nat.{ℕ, ◌+◌, ◌-◌, ◌<◌, ◌≤◌}
 use native.Mathlib.Decide.{ℕ_discrete, dec_lt}
 use native.Mathlib.Omega.{arith}
 use borrow.Author.Tests.{eq-eqb, ne_eqb, lt-ltb, le-ltb}
-use Rattle.gf256.specs.Tables.{powers_of_2, IsExponents}
+use Rattle.gf256.specs.Tables.{IsTables}
+use Rattle.gf256.specs.declared.tables.Tables.{Tables}
 use Rattle.gf256.proofs.Powers.{power_byte}
 use Rattle.gf256.proofs.TableLaws.{power_by_tables}
 use Rattle.codes.specs.declared.Code.{Code}
@@ -34,15 +34,15 @@ module _ (c : Code) (f v : ℕ) where
   unfolding coefficient_answer
   answer_in_range hf hv h = simp (ne_eqb f 0 (λ e. omega arith), ne_eqb v 0 (λ e. omega arith), le-ltb 255 (f + v) h)
 
-  pub answer_file_zero : f ≡ 0 → coefficient_answer c f v ≡ Err 10
+  answer_file_zero : f ≡ 0 → coefficient_answer c f v ≡ Err 10
   unfolding coefficient_answer
   answer_file_zero e = simp (eq-eqb f 0 e)
 
-  pub answer_volume_zero : v ≡ 0 → coefficient_answer c f v ≡ Err 10
+  answer_volume_zero : v ≡ 0 → coefficient_answer c f v ≡ Err 10
   unfolding coefficient_answer
   answer_volume_zero e = simp (eq-eqb v 0 e, or-true)
 
-  pub answer_sum_above : 255 < f + v → coefficient_answer c f v ≡ Err 10
+  answer_sum_above : 255 < f + v → coefficient_answer c f v ≡ Err 10
   unfolding coefficient_answer
   answer_sum_above h = simp (lt-ltb 255 (f + v) h, or-true)
 
@@ -85,8 +85,7 @@ rule_byte Cauchy f v h = cauchy_byte f v h
 
 -- ---- the tables
 
-pub rule_by_tables : (ps es : List ℕ) → ps ≡ powers_of_2 → IsExponents es
-    → (c : Code) (f v : ℕ) → f < 256 → coefficient_by c ps es f v ≡ rule_of c f v
+pub rule_by_tables : (c : Code) (t : Tables) → IsTables t → (f v : ℕ) → f < 256 → coefficient_by c t.powers t.exponents f v ≡ rule_of c f v
 unfolding coefficient_by coefficient
-rule_by_tables ps es p t Powers f v h = power_by_tables ps es p t f (v - 1) h
-rule_by_tables ps es p t Cauchy f v h = cauchy_by_tables ps es p t f v h
+rule_by_tables Powers t is f v h = power_by_tables t is f (v - 1) h
+rule_by_tables Cauchy t is f v h = cauchy_by_tables t is f v h
