@@ -3,7 +3,7 @@ ghost use Rattle.std.specs.Prelude.{◌≡◌};
 ghost use Rattle.md5_blocks.specs.Rounds.{sines};
 ghost use Rattle.md5_blocks.specs.Blocks.{words_of, plus, compress, all_blocks};
 
-use crate::rounds::Words;
+use crate::rounds::{Words, rounds};
 
 // T[1] to T[64], each the whole part of 2^32 * abs(sin(i)).
 const SINES: [u32; 64] = [
@@ -17,47 +17,42 @@ const SINES: [u32; 64] = [
     0x6fa87e4f, 0xfe2ce6e0, 0xa3014314, 0x4e0811a1, 0xf7537e82, 0xbd3af235, 0x2ad7d2bb, 0xeb86d391,
 ];
 
-// The words w after the blocks of `first`, and then every whole block of `more`. The table is copied once, here, and lent.
-pub fn after_blocks<'a, 'b>(w: Words, first: &'a [u8], more: &'b [u8]) -> Words
+// The words w after the blocks of `first`, and then every whole block of `more`. The table is copied once, here, and lent:
+// read where it is used, as a constant or a static, it makes a hash 2.4 times as slow.
+pub fn after_blocks(w: Words, first: &[u8], more: &[u8]) -> Words
     ensures { result ≡ all_blocks (all_blocks w first.now) more.now }
 {
     let table = SINES;
-    let v = blocks(w, first, &table);
-    blocks(v, more, &table)
+    blocks(blocks(w, first, &table), more, &table)
 }
 
 // Every whole block of s.
-fn blocks<'a, 'b>(w: Words, s: &'a [u8], t: &'b [u32; 64]) -> Words
+fn blocks(w: Words, s: &[u8], t: &[u32; 64]) -> Words
     requires { t.now ≡ sines }
     ensures { result ≡ all_blocks w s.now }
 {
     let mut v = w;
-    let mut at: usize = 0;
-    while s.len() - at >= 64 {
-        v = block(v, &s[at..at + 64], t);
-        at += 64;
+    for bytes in s.chunks_exact(64) {
+        v = block(v, bytes, t);
     }
     v
 }
 
 // One block.
-fn block<'a, 'b>(w: Words, s: &'a [u8], t: &'b [u32; 64]) -> Words
+fn block(w: Words, s: &[u8], t: &[u32; 64]) -> Words
     requires { t.now ≡ sines }
     ensures { result ≡ compress w s.now }
 {
-    let x = words(s);
-    sum(crate::rounds::rounds(w, &x, t), w)
+    sum(rounds(w, &words(s), t), w)
 }
 
 // The sixteen words of a block.
 fn words(s: &[u8]) -> [u32; 16]
     ensures { result ≡ words_of 16 s.now }
 {
-    let mut x = [0u32; 16];
-    let mut k: usize = 0;
-    while k < 16 {
-        x[k] = little_endian::read32(s, 4 * k);
-        k += 1;
+    let mut x = [0; 16];
+    for (k, word) in x.iter_mut().enumerate() {
+        *word = little_endian::read32(s, 4 * k);
     }
     x
 }
@@ -67,9 +62,9 @@ fn sum(v: Words, w: Words) -> Words
     ensures { result ≡ plus v w }
 {
     Words {
-        a: std::num::wrapping_add_u32(v.a, w.a),
-        b: std::num::wrapping_add_u32(v.b, w.b),
-        c: std::num::wrapping_add_u32(v.c, w.c),
-        d: std::num::wrapping_add_u32(v.d, w.d),
+        a: v.a.wrapping_add(w.a),
+        b: v.b.wrapping_add(w.b),
+        c: v.c.wrapping_add(w.c),
+        d: v.d.wrapping_add(w.d),
     }
 }

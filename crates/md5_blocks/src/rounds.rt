@@ -13,7 +13,7 @@ pub struct Words {
 }
 
 // All 64 operations on w, over the block's words x and the table t.
-pub fn rounds<'a, 'b>(w: Words, x: &'a [u32; 16], t: &'b [u32; 64]) -> Words
+pub fn rounds(w: Words, x: &[u32; 16], t: &[u32; 64]) -> Words
     ensures { result ≡ steps t.now x.now 0 64 w }
 {
     let w = round(0, w, x, t);
@@ -23,7 +23,7 @@ pub fn rounds<'a, 'b>(w: Words, x: &'a [u32; 16], t: &'b [u32; 64]) -> Words
 }
 
 // Sixteen operations, from operation j on.
-fn round<'a, 'b>(j: usize, w: Words, x: &'a [u32; 16], t: &'b [u32; 64]) -> Words
+fn round(j: usize, w: Words, x: &[u32; 16], t: &[u32; 64]) -> Words
     requires { j ≤ 48 }
     ensures { result ≡ steps t.now x.now j 16 w }
 {
@@ -34,7 +34,7 @@ fn round<'a, 'b>(j: usize, w: Words, x: &'a [u32; 16], t: &'b [u32; 64]) -> Word
 }
 
 // Four operations, from operation j on: [ABCD ..] [DABC ..] [CDAB ..] [BCDA ..].
-fn four<'a, 'b>(j: usize, w: Words, x: &'a [u32; 16], t: &'b [u32; 64]) -> Words
+fn four(j: usize, w: Words, x: &[u32; 16], t: &[u32; 64]) -> Words
     requires { j ≤ 60 }
     ensures { result ≡ steps t.now x.now j 4 w }
 {
@@ -46,40 +46,26 @@ fn four<'a, 'b>(j: usize, w: Words, x: &'a [u32; 16], t: &'b [u32; 64]) -> Words
 }
 
 // b + ((a + f(b, c, d) + X[k] + T[i]) <<< s), with f, k, s and i those of operation j. Two sums of two are quicker than a chain of four.
-fn operation<'a, 'b>(
-    j: usize,
-    a: u32,
-    b: u32,
-    c: u32,
-    d: u32,
-    x: &'a [u32; 16],
-    t: &'b [u32; 64],
-) -> u32
+fn operation(j: usize, a: u32, b: u32, c: u32, d: u32, x: &[u32; 16], t: &[u32; 64]) -> u32
     requires { j < 64 }
     ensures { result ≡ operation_of t.now x.now j a b c d }
 {
     let k = word(j);
     let f = auxiliary(j / 16, b, c, d);
-    let left = std::num::wrapping_add_u32(a, f);
-    let right = std::num::wrapping_add_u32(x[k], t[j]);
-    let sum = std::num::wrapping_add_u32(left, right);
-    std::num::wrapping_add_u32(b, rotl(sum, shift(j)))
+    let sum = a.wrapping_add(f).wrapping_add(x[k].wrapping_add(t[j]));
+    b.wrapping_add(rotl(sum, shift(j)))
 }
 
 // F, G, H or I of the words x, y, z, by the number of the round, from 0.
 fn auxiliary(round: usize, x: u32, y: u32, z: u32) -> u32
     ensures { result ≡ aux round x y z }
 {
-    if round == 0 {
-        return (x & y) | (!x & z);
+    match round {
+        0 => (x & y) | (!x & z),
+        1 => (x & z) | (y & !z),
+        2 => x ^ y ^ z,
+        _ => y ^ (x | !z),
     }
-    if round == 1 {
-        return (x & z) | (y & !z);
-    }
-    if round == 2 {
-        return x ^ y ^ z;
-    }
-    y ^ (x | !z)
 }
 
 // k of operation j.
@@ -87,34 +73,26 @@ fn word(j: usize) -> usize
     requires { j < 64 }
     ensures { (result < 16) × (result ≡ (row j).k) }
 {
-    if j < 16 {
-        return j;
+    match j / 16 {
+        0 => j,
+        1 => (5 * j + 1) % 16,
+        2 => (3 * j + 5) % 16,
+        _ => 7 * j % 16,
     }
-    if j < 32 {
-        return (5 * j + 1) % 16;
-    }
-    if j < 48 {
-        return (3 * j + 5) % 16;
-    }
-    7 * j % 16
 }
 
-// s of operation j. A round's four shifts stand in a number, a byte each, the first lowest: a table would be copied at each read.
+// s of operation j.
 fn shift(j: usize) -> u32
     requires { j < 64 }
     ensures { result ≡ (row j).s }
 {
-    let at = 8 * (j % 4);
-    if j < 16 {
-        return (0x16110c07u32 >> at) % 256;
-    }
-    if j < 32 {
-        return (0x140e0905u32 >> at) % 256;
-    }
-    if j < 48 {
-        return (0x17100b04u32 >> at) % 256;
-    }
-    (0x150f0a06u32 >> at) % 256
+    let shifts = match j / 16 {
+        0 => [7, 12, 17, 22],
+        1 => [5, 9, 14, 20],
+        2 => [4, 11, 16, 23],
+        _ => [6, 10, 15, 21],
+    };
+    shifts[j % 4]
 }
 
 // x rotated to the left by s bits.
@@ -122,5 +100,5 @@ fn rotl(x: u32, s: u32) -> u32
     requires { (0 < s) × (s < 32) }
     ensures { result ≡ rotl_of x s }
 {
-    (x << s) | (x >> (32 - s))
+    x.rotate_left(s)
 }

@@ -1,21 +1,21 @@
 -- `md5_blocks::rounds::auxiliary` meets its contract.
 -- Assumes nothing.
+use Rattle.std.proofs.Common.{◌≡◌, suc, ◌-◌, arith}
 use Rattle.md5_blocks.specs.Rounds.{aux_f, aux_g, aux_h, aux_i}
-use Rattle.md5_blocks.proofs.Rows.{aux-last}
 use Rattle.md5_blocks.proofs.rounds.auxiliary.Goals as goal
 
-pub returns-then-round-eq0 : goal.returns-then-round-eq0
+pub returns-in-0 : goal.returns-in-0
 unfolding aux_f
-returns-then-round-eq0 c = rw c.if-round-eq0.true
+returns-in-0 c = rw c.in-0.is
 
-pub returns-then-round-eq1 : goal.returns-then-round-eq1
+pub returns-in-1 : goal.returns-in-1
 unfolding aux_g
-returns-then-round-eq1 c = rw c.if-round-eq1.true
+returns-in-1 c = rw c.in-1.is
 
-pub returns-then-round-eq2 : goal.returns-then-round-eq2
+pub returns-in-2 : goal.returns-in-2
 unfolding aux_h
-returns-then-round-eq2 c = rw c.if-round-eq2.true
+returns-in-2 c = rw c.in-2.is
 
-pub returns : goal.returns
+pub returns-in_default : goal.returns-in_default
 unfolding aux_i
-returns c = rw (aux-last c.args.round c.if-round-eq0.false c.if-round-eq1.false c.if-round-eq2.false)
+returns-in_default c = let past : c.args.round ≡ suc (suc (suc (c.args.round - 3))) = omega arith in rw past

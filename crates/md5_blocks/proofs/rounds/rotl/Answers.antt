@@ -1,9 +1,7 @@
 -- `md5_blocks::rounds::rotl` meets its contract.
 -- Assumes nothing.
-use Rattle.std.proofs.Common.{refl}
-use Rattle.md5_blocks.specs.Rounds.{rotl}
+use Rattle.md5_blocks.proofs.Steps.{rotated}
 use Rattle.md5_blocks.proofs.rounds.rotl.Goals as goal
 
 pub returns : goal.returns
-unfolding rotl
-returns c = refl
+returns c = cc (rotated c.args.x c.args.s c.requires.0 c.requires.1)

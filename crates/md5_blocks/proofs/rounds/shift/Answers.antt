@@ -1,16 +1,15 @@
 -- `md5_blocks::rounds::shift` meets its contract.
 -- Assumes nothing.
-use Rattle.md5_blocks.proofs.Rows.{in_round_1, in_round_2, in_round_3, in_round_4, shift_is}
+use Rattle.std.proofs.Common.{◌≡◌, ◌/◌, arith}
+use Rattle.md5_blocks.proofs.Rows.{shift_is}
+use Rattle.md5_blocks.proofs.rounds.shift.Goals.{in-0, in-1, in-2, in_default}
 use Rattle.md5_blocks.proofs.rounds.shift.Goals as goal
 
-pub returns-then-j-lt16 : goal.returns-then-j-lt16
-returns-then-j-lt16 c = in_round_1 (shift_is _ c.requires) c.if-j-lt16.true
-
-pub returns-then-j-lt32 : goal.returns-then-j-lt32
-returns-then-j-lt32 c = in_round_2 (shift_is _ c.requires) c.if-j-lt16.false c.if-j-lt32.true
-
-pub returns-then-j-lt48 : goal.returns-then-j-lt48
-returns-then-j-lt48 c = in_round_3 (shift_is _ c.requires) c.if-j-lt16.false c.if-j-lt32.false c.if-j-lt48.true
-
 pub returns : goal.returns
-returns c = in_round_4 (shift_is _ c.requires) c.if-j-lt16.false c.if-j-lt32.false c.if-j-lt48.false
+returns c = let is = shift_is c.args.j c.requires in
+    elim c.match-j-div16.branch [
+      | in-0 w ↦ rw w.shifts-is (rw w.in-0.is at is)
+      | in-1 w ↦ rw w.shifts-is (rw w.in-1.is at is)
+      | in-2 w ↦ rw w.shifts-is (rw w.in-2.is at is)
+      | in_default w ↦ (let last : c.args.j / 16 ≡ 3 = omega arith in rw w.shifts-is (rw last at is))
+    ]

@@ -1,17 +1,17 @@
 -- `md5_blocks::rounds::word` meets its contract.
 -- Assumes nothing.
-use Rattle.md5_blocks.proofs.Rows.{in_round_1, in_round_2, in_round_3, in_round_4, word_is}
-use Rattle.std.proofs.Common.{rules}
+use Rattle.std.proofs.Common.{◌≡◌, ◌/◌, arith, rules}
+use Rattle.md5_blocks.proofs.Rows.{word_is}
 use Rattle.md5_blocks.proofs.rounds.word.Goals as goal
 
-pub returns-then-j-lt16 : goal.returns-then-j-lt16
-returns-then-j-lt16 c = (search rules, in_round_1 (word_is _ c.requires) c.if-j-lt16.true)
+pub returns-in-0 : goal.returns-in-0
+returns-in-0 c = (search rules, rw c.in-0.is at (word_is _ c.requires))
 
-pub returns-then-j-lt32 : goal.returns-then-j-lt32
-returns-then-j-lt32 c = (search rules, in_round_2 (word_is _ c.requires) c.if-j-lt16.false c.if-j-lt32.true)
+pub returns-in-1 : goal.returns-in-1
+returns-in-1 c = (search rules, rw c.in-1.is at (word_is _ c.requires))
 
-pub returns-then-j-lt48 : goal.returns-then-j-lt48
-returns-then-j-lt48 c = (search rules, in_round_3 (word_is _ c.requires) c.if-j-lt16.false c.if-j-lt32.false c.if-j-lt48.true)
+pub returns-in-2 : goal.returns-in-2
+returns-in-2 c = (search rules, rw c.in-2.is at (word_is _ c.requires))
 
-pub returns : goal.returns
-returns c = (search rules, in_round_4 (word_is _ c.requires) c.if-j-lt16.false c.if-j-lt32.false c.if-j-lt48.false)
+pub returns-in_default : goal.returns-in_default
+returns-in_default c = let last : c.args.j / 16 ≡ 3 = omega arith in (search rules, rw last at (word_is _ c.requires))
