@@ -4,7 +4,7 @@
 --   accepted_most              an amended volume is no longer than a volume may be
 --   refused_most               a number of at most 21, and the place of an entry of 58 bytes or more in the room
 -- Assumes nothing.
-use Rattle.std.specs.Prelude.{Ok, Err}
+use Rattle.std.specs.Prelude.{Some, None, Ok, Err}
 use mathlib.Core.Path.{◌≡◌, refl, subst}
 use mathlib.Core.Bool.{Bool, true, false, cond}
 use mathlib.Core.List.{List}
@@ -22,10 +22,8 @@ use Rattle.refusals.proofs.RangeLaws.{AtMost, most_more, bare_most}
 use Rattle.lent_bytes.specs.Writing.{refused, accepted, written, written_unless}
 use Rattle.lent_bytes.proofs.WritingLaws.{never, unless_tells, not-refused, refused_tells}
 use Rattle.entries.specs.Entry.{entry_size}
-use Rattle.entries.specs.Walk.{first_of}
+use Rattle.entries.specs.Walk.{Item, first_of}
 use Rattle.entries.specs.declared.Fault.TheVariants.{Size, FileSize, Name}
-use Rattle.entries.specs.declared.Item.{Item}
-use Rattle.entries.specs.declared.Item.TheVariants as item
 use Rattle.par1.specs.Checking.{item_number, lone_refusal}
 use Rattle.par1_read.specs.Reading.{entries_in, read_of}
 use Rattle.par1_read.specs.Reading.{Reading}
@@ -42,11 +40,11 @@ lone_most e = by (eqb (entry_size e) (length e)) (first_of e)
   where
     by : (b : Bool) (i : Item) → test 16 b (item_number i) ≤ 18
     by false i = omega arith
-    by true (item.Entry n status size) = omega arith
-    by true item.End = omega arith
-    by true (item.Fault Size) = omega arith
-    by true (item.Fault FileSize) = omega arith
-    by true (item.Fault Name) = omega arith
+    by true (Ok (Some e)) = omega arith
+    by true (Ok None) = omega arith
+    by true (Err Size) = omega arith
+    by true (Err FileSize) = omega arith
+    by true (Err Name) = omega arith
 
 abbrev Most : ℕ → Refusal → Type 0
 Most k r = AtMost 21 k r

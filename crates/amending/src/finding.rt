@@ -3,8 +3,6 @@ ghost use Rattle.std.specs.Prelude.{◌≡◌, ◌-◌};
 ghost use Rattle.entries.specs.Walk.{entries_of};
 ghost use Rattle.amending.specs.Plan.{span_in};
 
-use entries::Item;
-
 // A part of a list: where it starts, and its length.
 #[derive(Clone, Copy)]
 pub struct Span {
@@ -19,20 +17,18 @@ pub(crate) fn entry_of(list: &[u8], file: u64) -> Span
     let mut saved_before = before(file);
     let mut from: usize = 0;
     loop {
-        let Item::Entry {
-            length,
-            status,
-            size: _,
-        } = entries::at(list, from)
-        else {
+        let Some(entry) = entries::at(list, from) else {
             return Span { from, length: 0 };
         };
-        let saved = entries::saved_count(status);
+        let saved = entries::saved_count(entry.status);
         if saved_before < saved {
-            return Span { from, length };
+            return Span {
+                from,
+                length: entry.length,
+            };
         }
         saved_before -= saved;
-        from += length;
+        from += entry.length;
     }
 }
 

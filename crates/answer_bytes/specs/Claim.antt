@@ -7,9 +7,8 @@
 --   EntryPlaced            so do those of an entry, and three zeros where the list is over
 -- The contracts of put_reading and put_entry cite read_into and entry_into.
 -- Assumes nothing.
-use Rattle.std.specs.Prelude.{◌≡◌, List, ℕ, ◌^◌, ◌<◌, Ok}
+use Rattle.std.specs.Prelude.{◌≡◌, List, ℕ, ◌^◌, ◌<◌, Some, None, Ok}
 use Rattle.codes.specs.Codes.{code_number}
-use Rattle.entries.specs.declared.Item.TheVariants.{Entry, End}
 use Rattle.little_endian.specs.Bytes.{le_at}
 use Rattle.par1_read.specs.declared.reading.Parts.{Parts}
 use Rattle.refusals.specs.Tests.{bare}
@@ -48,5 +47,5 @@ pub record EntryAt (l status size : ℕ) (out : List ℕ) : Type 0 where
 -- proved: proofs/Places.antt, `entry_placed`
 pub record EntryPlaced : Type 0 where
   pub of_entry : (l status size : ℕ) → l < 2 ^ 64 → status < 2 ^ 64 → size < 2 ^ 64
-      → (out out' : List ℕ) → entry_into (Entry l status size) out ≡ (0, out') → EntryAt l status size out'
-  pub of_end : (out out' : List ℕ) → entry_into End out ≡ (0, out') → EntryAt 0 0 0 out'
+      → (out out' : List ℕ) → entry_into (Ok (Some (record { length = l; status = status; size = size }))) out ≡ (0, out') → EntryAt l status size out'
+  pub of_end : (out out' : List ℕ) → entry_into (Ok None) out ≡ (0, out') → EntryAt 0 0 0 out'

@@ -6,14 +6,12 @@
 --   entry_numbers l st n    an entry's length, status and file size: three numbers
 --   entry_into i out      the number of a fault, or 14, and what `out` then holds: the numbers of the entry over its first bytes
 -- Assumes nothing.
-use Rattle.std.specs.Prelude.{List, [], ◌∷◌, ℕ, Ok, Err}
+use Rattle.std.specs.Prelude.{List, [], ◌∷◌, ℕ, Some, None, Ok, Err}
 use Rattle.codes.specs.Codes.{code_number}
 use Rattle.refusals.specs.Tests.{bare}
 use Rattle.refusals.specs.declared.Refusal.{Refusal}
 use Rattle.lent_bytes.specs.Writing.{refused, written, with_refusal, with_number}
-use Rattle.entries.specs.Walk.{fault_number}
-use Rattle.entries.specs.declared.Item.{Item}
-use Rattle.entries.specs.declared.Item.TheVariants as item
+use Rattle.entries.specs.Walk.{Item, fault_number}
 use Rattle.gf256.specs.Answer.{ByteAnswer}
 use Rattle.little_endian.specs.Bytes.{numbers}
 use Rattle.par1_read.specs.declared.reading.Parts.{Parts}
@@ -46,6 +44,6 @@ entry_numbers l status size = numbers (l ∷ status ∷ size ∷ [])
 
 -- an entry has 58 bytes or more, so three zeros say that the list is over
 unfoldable pub entry_into : Item → List ℕ → ℕ × List ℕ
-entry_into (item.Entry l status size) out = with_number (written (entry_numbers l status size) out)
-entry_into item.End out = with_number (written (entry_numbers 0 0 0) out)
-entry_into (item.Fault f) out = with_number (refused (bare (fault_number f)) out)
+entry_into (Ok (Some e)) out = with_number (written (entry_numbers e.length e.status e.size) out)
+entry_into (Ok None) out = with_number (written (entry_numbers 0 0 0) out)
+entry_into (Err f) out = with_number (refused (bare (fault_number f)) out)

@@ -5,7 +5,7 @@ ghost use Rattle.std.specs.Prelude.{◌≡◌};
 ghost use Rattle.answer_bytes.specs.Results.{byte_into, parts_bytes, read_into, entry_numbers, entry_into};
 ghost use Rattle.lent_bytes.specs.Writing.{written, with_number};
 
-use entries::{Item, fault_number};
+use entries::{Entry, Fault, fault_number};
 use lent_bytes::write;
 use little_endian::write_numbers;
 use par1_read::Parts;
@@ -48,23 +48,14 @@ pub fn put_reading(reading: Result<Parts, Refusal>, out: &mut [u8]) -> Refusal
 }
 
 // The numbers of the entry that a list begins with, over the first bytes of `out`; zeros where the list is over.
-pub fn put_entry(item: Item, out: &mut [u8]) -> u32
+#[tactic(auto, unfolding(crate::specs::Results::entry_into))]
+pub fn put_entry(item: Result<Option<Entry>, Fault>, out: &mut [u8]) -> u32
     ensures { (result, out.new) ≡ entry_into item out.old }
 {
     match item {
-        Item::Entry {
-            length,
-            status,
-            size,
-        } => {
-            return put_numbers(length as u64, status, size, out);
-        }
-        Item::End => {
-            return put_numbers(0, 0, 0, out);
-        }
-        Item::Fault(fault) => {
-            return fault_number(fault);
-        }
+        Ok(Some(entry)) => put_numbers(entry.length as u64, entry.status, entry.size, out),
+        Ok(None) => put_numbers(0, 0, 0, out),
+        Err(fault) => fault_number(fault),
     }
 }
 

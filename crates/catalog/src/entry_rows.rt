@@ -7,7 +7,6 @@ ghost use Rattle.entries.specs.Walk.{entries_of};
 ghost use Rattle.catalog.specs.Rows.{row, file_number_after, rows_for};
 
 use crate::{HEAD_LENGTH, ROW_LENGTH};
-use entries::Item;
 use par1_rules::layout;
 
 // Writes the entry rows of `list`, one after another.
@@ -19,20 +18,15 @@ pub(crate) fn put_rows<'a, 'b>(out: &'a mut [u8], list: &'b [u8])
     let mut saved: u64 = 0;
     let mut from: usize = 0;
     loop {
-        let Item::Entry {
-            length,
-            status,
-            size,
-        } = entries::at(list, from)
-        else {
+        let Some(entry) = entries::at(list, from) else {
             return;
         };
         let hash = layout::part(list, from + entries::MD5_AT, layout::HASH_LENGTH);
-        let row = row_of(file_number(saved, status), size, hash);
+        let row = row_of(file_number(saved, entry.status), entry.size, hash);
         lent_bytes::put(out, at, &row);
-        saved += entries::saved_count(status);
+        saved += entries::saved_count(entry.status);
         at += ROW_LENGTH;
-        from += length;
+        from += entry.length;
     }
 }
 
@@ -44,22 +38,17 @@ pub(crate) fn gives_rows(list: &[u8], rows: &[u8]) -> bool
     let mut saved: u64 = 0;
     let mut from: usize = 0;
     loop {
-        let Item::Entry {
-            length,
-            status,
-            size,
-        } = entries::at(list, from)
-        else {
+        let Some(entry) = entries::at(list, from) else {
             return at == rows.len();
         };
         let hash = layout::part(list, from + entries::MD5_AT, layout::HASH_LENGTH);
-        let row = row_of(file_number(saved, status), size, hash);
+        let row = row_of(file_number(saved, entry.status), entry.size, hash);
         if !lent_bytes::same(&row, layout::part(rows, at, ROW_LENGTH)) {
             return false;
         }
-        saved += entries::saved_count(status);
+        saved += entries::saved_count(entry.status);
         at += ROW_LENGTH;
-        from += length;
+        from += entry.length;
     }
 }
 

@@ -16,8 +16,7 @@ use lib.Seq.{take-length}
 use borrow.Author.Tests.{eqb-true}
 use Rattle.entries.specs.Claim.{breaks_size, breaks_file_size, breaks_name}
 use Rattle.entries.specs.Entry.{entry_size, file_size_of, name_of, file_size_allowed, name_allowed, entry_size_allowed}
-use Rattle.entries.specs.Walk.{first_of}
-use Rattle.entries.specs.declared.Item.{Item}
+use Rattle.entries.specs.Walk.{Item, first_of}
 use Rattle.entries.proofs.EntryLaws.{sized, first_entry}
 use Rattle.par1.specs.Checking.{item_number, lone_refusal, is_described, check_of}
 use Rattle.par1.proofs.Faults.{item_broken}

@@ -5,6 +5,7 @@
 --   walked_alike, walk_same     so they do, and give the same
 --   first_alike        the claim
 -- Assumes nothing.
+use Rattle.std.specs.Prelude.{Err}
 use mathlib.Core.Path.{◌≡◌, refl, sym, ap, ◌∙◌}
 use mathlib.Core.Bool.{Bool, true, false, cond}
 use mathlib.Core.List.{List, ◌++◌}
@@ -15,10 +16,8 @@ use lib.Seq.{take-append_seam, drop-append_seam}
 use Rattle.cut_lists.specs.Pieces.{none, before}
 use Rattle.cut_lists.proofs.CutLaws.{cut_stop, cut_more}
 use Rattle.entries.specs.Entry.{entry_size, file_size_of, file_size_allowed, entry_size_allowed, body_allowed, entry_allowed, length_of}
-use Rattle.entries.specs.Walk.{fault_of, item_of, first_of, entries_of, totals_of, walked_to, walk_of}
+use Rattle.entries.specs.Walk.{Item, fault_of, item_of, first_of, entries_of, totals_of, walked_to, walk_of}
 use Rattle.entries.specs.declared.Fault.TheVariants.{FileSize, Name}
-use Rattle.entries.specs.declared.Item.{Item}
-use Rattle.entries.specs.declared.Item.TheVariants as item
 use Rattle.entries.specs.declared.Totals.{Totals}
 use Rattle.entries.proofs.EntryLaws.{sized, first_some}
 use Rattle.entries.proofs.FirstFaults.{sized_right}
@@ -53,7 +52,7 @@ module _ {e : List ℕ} (z : SizeRight e) (s : List ℕ) where
   front_some : 0 < length (e ++ s)
   front_some = omega (arith, low, length-append e s)
 
-  front_item : first_of (e ++ s) ≡ cond (body_allowed e) (item_of e) (item.Fault (cond (file_size_allowed (file_size_of e)) Name FileSize))
+  front_item : first_of (e ++ s) ≡ cond (body_allowed e) (item_of e) (Err (cond (file_size_allowed (file_size_of e)) Name FileSize))
   unfolding entry_allowed
   front_item = first_some (e ++ s) front_some ∙ simp (front_fault, own_size, size_allowed, take-append_seam e s)
 
@@ -111,8 +110,8 @@ first_alike s t (rest-same _) = refl
 first_alike _ _ (entry_more {e} {g} {s} {t} z a l) = cc (front_item z s, by (body_allowed e), body_allowed_lem a, front_item (sized_alike a z) t)
   where
     fault : List ℕ → Item
-    fault = λ d. item.Fault (cond (file_size_allowed (file_size_of d)) Name FileSize)
+    fault = λ d. Err (cond (file_size_allowed (file_size_of d)) Name FileSize)
 
     by : (b : Bool) → without_marks (cond b (item_of e) (fault e)) ≡ without_marks (cond b (item_of g) (fault g))
     by true = cc (a.length-same, a.status_alike, file_size a)
-    by false = ap (λ (n : ℕ). without_marks (item.Fault (cond (file_size_allowed n) Name FileSize))) (file_size a)
+    by false = ap (λ (n : ℕ). without_marks (Err (cond (file_size_allowed n) Name FileSize))) (file_size a)

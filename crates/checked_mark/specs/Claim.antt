@@ -18,14 +18,12 @@
 -- The contracts of read, first, check, write_volume, list, list_input, export, import, open and add cite read_of, first_of, check_of, write_volume_of, listing_of,
 -- input_listing, export_into, import_into, open_of and add_of, those of a running read push_answer and end_answer.
 -- Assumes nothing.
-use Rattle.std.specs.Prelude.{◌≡◌, ◌⊎◌, ℕ, ◌+◌, ◌^◌, ◌<◌, take, drop, Ok}
+use Rattle.std.specs.Prelude.{◌≡◌, ◌⊎◌, ℕ, ◌+◌, ◌^◌, ◌<◌, take, drop, Some, None, Ok, Err}
 use mathlib.Core.List.{List, map, flatten}
 use Rattle.catalog.specs.Calls.{open_of, add_of}
 use Rattle.codes.specs.declared.Code.{Code}
 use Rattle.entries.specs.Numbering.{file_number}
-use Rattle.entries.specs.Walk.{first_of}
-use Rattle.entries.specs.declared.Item.{Item}
-use Rattle.entries.specs.declared.Item.TheVariants as item
+use Rattle.entries.specs.Walk.{Item, first_of}
 use Rattle.jobs.specs.Job.{after_pushes}
 use Rattle.listing.specs.Listing.{listing_of, input_listing}
 use Rattle.md5sum_text.specs.Export.{export_into}
@@ -75,9 +73,9 @@ NothingActs = (f g : List ℕ) → AlikeButMarks f g → SameAnswers f g
 
 -- all bits of a status are told
 abbrev pub without_marks : Item → Item
-without_marks (item.Entry length status size) = item.Entry length (unmarked status) size
-without_marks item.End = item.End
-without_marks (item.Fault f) = item.Fault f
+without_marks (Ok (Some e)) = Ok (Some (record { length = e.length; status = unmarked e.status; size = e.size }))
+without_marks (Ok None) = Ok None
+without_marks (Err f) = Err f
 
 -- proved: proofs/ListMarks.antt, `first_alike`
 abbrev pub FirstAlike : Type 0

@@ -1,28 +1,30 @@
 -- What the first entry of a list is, from the tests in turn, and what the answer tells.
 --
 --   Sized n m, sized   an entry of n bytes may stand at the front of m bytes, in numbers
---   first_end, first_some, first_size, first_file_size, first_name, first_entry     first_of, by what the tests found
+--   some_left, first_end, first_some, first_size, first_file_size, first_name, first_entry     first_of, by what the tests found
 --   length_sized       an entry that keeps every rule has 58 bytes or more, and lies in the list
---   IsEntry, IsFault, is_end, is_entry, is_fault      what each answer of first_of tells
+--   IsEntry, IsFault, is_end, is_entry, is_fault, length_end      what each answer of first_of tells
 --   EntryAt, entry_at                                 an entry at a position of a list, as a loop over it meets it
 -- Assumes nothing.
-use mathlib.Core.Path.{◌≡◌, refl, sym, ◌∙◌, subst}
+use Rattle.std.specs.Prelude.{Option, Some, None, Ok, Err}
+use mathlib.Core.Path.{◌≡◌, refl, sym, ap, ◌∙◌, subst}
 use mathlib.Core.Bool.{Bool, true, false, cond, ◌&&◌}
+use mathlib.Core.Logic.{inl, inr}
 use mathlib.Core.List.{List, [], ◌∷◌}
 use Prim.Native.Nat.{ℕ, ◌+◌, ◌%◌, ◌≤◌, ◌<◌}
+use native.Mathlib.Nat.{eq-zero-or-pos}
 use native.Mathlib.Omega.{arith}
 use lib.Dec.{leb, eqb}
 use lib.ListN.{length, take, drop, length-drop}
 use lib.Seq.{length-take-le, drop-drop}
-use borrow.Author.Tests.{leb-true, eqb-true}
+use borrow.Author.Tests.{eqb-false, leb-true, eqb-true}
 use Rattle.computed_tests.proofs.Tests.{and_both}
 use Rattle.entries.specs.Entry.{entry_size, status_of, file_size_of, name_of, length_of}
 use Rattle.entries.specs.Entry.{name_allowed, file_size_allowed, entry_size_allowed, body_allowed, entry_allowed}
-use Rattle.entries.specs.Walk.{fault_of, item_of, first_of}
+use Rattle.entries.specs.Walk.{Item, entry_in, fault_of, item_of, first_of}
 use Rattle.entries.specs.declared.Fault.{Fault}
 use Rattle.entries.specs.declared.Fault.TheVariants as fault
-use Rattle.entries.specs.declared.Item.{Item}
-use Rattle.entries.specs.declared.Item.TheVariants as item
+use Rattle.entries.specs.declared.Entry.{Entry}
 
 -- ---- the tests, as facts
 
@@ -39,29 +41,32 @@ sized n m e = let both = and_both (eqb (n % 2) 0 && leb 58 n) (leb n m) e in
 
 -- ---- first_of, by what the tests found
 
-pub first_end : (s : List ℕ) → length s ≡ 0 → first_of s ≡ item.End
+pub first_end : (s : List ℕ) → length s ≡ 0 → first_of s ≡ Ok None
 unfolding first_of
 first_end [] h = refl
 first_end (b ∷ s) h = absurd (omega arith)
 
+pub some_left : (s : List ℕ) → eqb (length s) 0 ≡ false → 0 < length s
+some_left s z = let some = eqb-false _ _ z in omega arith
+
 pub first_some : (s : List ℕ) → 0 < length s
-    → first_of s ≡ cond (entry_allowed s) (item_of (take (entry_size s) s)) (item.Fault (fault_of s))
+    → first_of s ≡ cond (entry_allowed s) (item_of (take (entry_size s) s)) (Err (fault_of s))
 unfolding first_of
 first_some [] h = absurd (omega arith)
 first_some (b ∷ s) h = refl
 
 module _ (s : List ℕ) (some : 0 < length s) {n : ℕ} (size_is : n ≡ entry_size s) where
-  pub first_size : entry_size_allowed n (length s) ≡ false → first_of s ≡ item.Fault fault.Size
+  pub first_size : entry_size_allowed n (length s) ≡ false → first_of s ≡ Err fault.Size
   unfolding entry_allowed fault_of
   first_size z = first_some s some ∙ simp (sym size_is, z)
 
   module _ (size : entry_size_allowed n (length s) ≡ true) where
-    pub first_file_size : file_size_allowed (file_size_of (take n s)) ≡ false → first_of s ≡ item.Fault fault.FileSize
+    pub first_file_size : file_size_allowed (file_size_of (take n s)) ≡ false → first_of s ≡ Err fault.FileSize
     unfolding entry_allowed body_allowed fault_of
     first_file_size f = first_some s some ∙ simp (sym size_is, size, f)
 
     module _ (file_size : file_size_allowed (file_size_of (take n s)) ≡ true) where
-      pub first_name : name_allowed (name_of (take n s)) ≡ false → first_of s ≡ item.Fault fault.Name
+      pub first_name : name_allowed (name_of (take n s)) ≡ false → first_of s ≡ Err fault.Name
       unfolding entry_allowed body_allowed fault_of
       first_name r = first_some s some ∙ simp (sym size_is, size, file_size, r)
 
@@ -121,9 +126,9 @@ entry_is s e = let z = allowed_sized s e in
 
 -- the answers, each with what it tells
 data View (s : List ℕ) : Item → Type 0 where
-  view_end : s ≡ [] → View s item.End
-  view_entry : {n status size : ℕ} → IsEntry s n status size → View s (item.Entry n status size)
-  view_fault : {f : Fault} → IsFault s f → View s (item.Fault f)
+  view_end : s ≡ [] → View s (Ok None)
+  view_entry : {e : Entry} → IsEntry s e.length e.status e.size → View s (Ok (Some e))
+  view_fault : {f : Fault} → IsFault s f → View s (Err f)
 
 view : (s : List ℕ) → View s (first_of s)
 view [] = subst (View []) (sym (first_end [] refl)) (view_end refl)
@@ -132,28 +137,35 @@ view (b ∷ s) = by (b ∷ s) (omega arith) (entry_allowed (b ∷ s)) refl
     by : (s : List ℕ) → 0 < length s → (t : Bool) → t ≡ entry_allowed s → View s (first_of s)
     by s h true t = let e : first_of s ≡ item_of (take (entry_size s) s) = first_some s h ∙ simp (sym t) in
         subst (View s) (sym e) (view_entry (entry_is s (sym t)))
-    by s h false t = let e : first_of s ≡ item.Fault (fault_of s) = first_some s h ∙ simp (sym t) in
+    by s h false t = let e : first_of s ≡ Err (fault_of s) = first_some s h ∙ simp (sym t) in
         let n : length_of s ≡ 0 = no_length s (sym t) in
         subst (View s) (sym e) (view_fault (record { some = h; length_zero = n; fault_is = refl }))
 
 module _ {s : List ℕ} where
-  pub is_end : item.End ≡ first_of s → s ≡ []
+  pub is_end : Ok None ≡ first_of s → s ≡ []
   is_end e = by (subst (View s) (sym e) (view s))
     where
-      by : View s item.End → s ≡ []
+      by : View s (Ok None) → s ≡ []
       by (view_end z) = z
 
-  pub is_entry : {n status size : ℕ} → item.Entry n status size ≡ first_of s → IsEntry s n status size
-  is_entry {n} {status} {size} e = by (subst (View s) (sym e) (view s))
+  pub is_entry : {e : Entry} → Ok (Some e) ≡ first_of s → IsEntry s e.length e.status e.size
+  is_entry {e} is = by (subst (View s) (sym is) (view s))
     where
-      by : View s (item.Entry n status size) → IsEntry s n status size
+      by : View s (Ok (Some e)) → IsEntry s e.length e.status e.size
       by (view_entry i) = i
 
-  pub is_fault : {f : Fault} → item.Fault f ≡ first_of s → IsFault s f
+  pub is_fault : {f : Fault} → Err f ≡ first_of s → IsFault s f
   is_fault {f} e = by (subst (View s) (sym e) (view s))
     where
-      by : View s (item.Fault f) → IsFault s f
+      by : View s (Err f) → IsFault s f
       by (view_fault i) = i
+
+-- no entry stands where the list is over, and where the answer is a fault
+pub length_end : (s : List ℕ) → Ok None ≡ first_of s → length_of s ≡ 0
+length_end s e = elim (eq-zero-or-pos (length_of s)) [
+  | inl z ↦ z
+  | inr some ↦ let z = length_sized s some in absurd (omega (arith, z.1, z.2, ap length (is_end e)))
+]
 
 -- ---- at a position of a list
 
@@ -164,12 +176,17 @@ pub record EntryAt (s : List ℕ) (at n status size : ℕ) : Type 0 where
   pub fits : at + n ≤ length s
   pub next : drop n (drop at s) ≡ drop (at + n) s
 
-pub entry_at : (s : List ℕ) (at : ℕ) {n status size : ℕ} {i : Item} → i ≡ first_of (drop at s) → i ≡ item.Entry n status size
-    → EntryAt s at n status size
-entry_at s at {n} answer e = let found = is_entry (sym e ∙ answer) in
+-- an item that is an entry
+is_item : {e : Entry} (i : Item) → entry_in i ≡ Some e → i ≡ Ok (Some e)
+is_item (Ok o) is = ap Ok is
+is_item (Err f) is = cc
+
+pub entry_at : (s : List ℕ) (at : ℕ) {e : Entry} {o : Option Entry} → o ≡ entry_in (first_of (drop at s)) → o ≡ Some e
+    → EntryAt s at e.length e.status e.size
+entry_at s at {e} answer is = let found = is_entry (sym (is_item (first_of (drop at s)) (sym answer ∙ is))) in
     record {
       entry = found;
       low = found.low;
       fits = omega (arith, found.low, found.high, length-drop at s);
-      next = drop-drop n at s;
+      next = drop-drop e.length at s;
     }

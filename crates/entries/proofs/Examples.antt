@@ -1,5 +1,6 @@
 -- Worked examples of the definitions, computed: entries at the edges of the rules, names, and the numbering of saved entries.
 -- Assumes nothing.
+use Rattle.std.specs.Prelude.{Some, None, Ok, Err}
 use mathlib.Core.Path.{◌≡◌, refl}
 use mathlib.Core.Bool.{true, false}
 use mathlib.Core.List.{List, [], ◌∷◌, ◌++◌}
@@ -11,22 +12,21 @@ use Rattle.entries.specs.Entry.{units_of, unit_allowed, is_dots, name_allowed, e
 use Rattle.entries.specs.Numbering.{file_number}
 use Rattle.entries.specs.Walk.{fault_of, first_of}
 use Rattle.entries.specs.declared.Fault.TheVariants as fault
-use Rattle.entries.specs.declared.Item.TheVariants.{Entry, End, Fault}
 
 -- an entry that says it has n bytes, of a file of k bytes, with a name of one unit
 entry : ℕ → ℕ → ℕ → List ℕ
 entry n k unit = to_le 8 n ++ to_le 8 1 ++ to_le 8 k ++ replicate 32 0 ++ to_le 2 unit
 
 edges :
-    (first_of [] ≡ End)
-    × (first_of (entry 58 16777216 65) ≡ Entry 58 1 16777216)
-    × (first_of (entry 56 0 65) ≡ Fault fault.Size)
-    × (first_of (entry 57 0 65) ≡ Fault fault.Size)
-    × (first_of (entry 60 0 65) ≡ Fault fault.Size)
-    × (first_of (entry 58 16777217 65) ≡ Fault fault.FileSize)
-    × (first_of (entry 58 0 47) ≡ Fault fault.Name)
-    × (first_of (entry 58 0 92) ≡ Fault fault.Name)
-    × (first_of (entry 58 0 46) ≡ Fault fault.Name)
+    (first_of [] ≡ Ok None)
+    × (first_of (entry 58 16777216 65) ≡ Ok (Some (record { length = 58; status = 1; size = 16777216 })))
+    × (first_of (entry 56 0 65) ≡ Err fault.Size)
+    × (first_of (entry 57 0 65) ≡ Err fault.Size)
+    × (first_of (entry 60 0 65) ≡ Err fault.Size)
+    × (first_of (entry 58 16777217 65) ≡ Err fault.FileSize)
+    × (first_of (entry 58 0 47) ≡ Err fault.Name)
+    × (first_of (entry 58 0 92) ≡ Err fault.Name)
+    × (first_of (entry 58 0 46) ≡ Err fault.Name)
 unfolding entry from_le to_le le_at units_of unit_allowed is_dots equal name_allowed entry_size_allowed body_allowed entry_allowed fault_of first_of
 edges = (refl, refl, refl, refl, refl, refl, refl, refl, refl)
 

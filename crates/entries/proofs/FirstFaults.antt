@@ -30,7 +30,6 @@ use Rattle.entries.specs.Claim.{Keeps, Breaks, breaks_size, breaks_file_size, br
 use Rattle.entries.specs.Entry.{entry_size, file_size_of, name_of, length_of}
 use Rattle.entries.specs.Entry.{name_allowed, file_size_allowed, entry_size_allowed, body_allowed, entry_allowed}
 use Rattle.entries.specs.Walk.{fault_of, fault_number, refusal_at, first_of, entries_of, totals_of, walked_to, walk_of}
-use Rattle.entries.specs.declared.Item.TheVariants as item
 use Rattle.entries.proofs.EntryLaws.{sized, length_sized}
 
 pub sized_right : (n m : ℕ) → n % 2 ≡ 0 → 58 ≤ n → n ≤ m → entry_size_allowed n m ≡ true
@@ -99,7 +98,7 @@ not_allowed s (breaks_size p) = simp p
 not_allowed s (breaks_file_size p q) = simp (p, q)
 not_allowed s (breaks_name p q r) = simp (p, q, r)
 
-pub broken_first : (s : List ℕ) {n : ℕ} → 0 < length s → Breaks s n → (first_of s ≡ item.Fault (fault_of s)) × (fault_number (fault_of s) ≡ n)
+pub broken_first : (s : List ℕ) {n : ℕ} → 0 < length s → Breaks s n → (first_of s ≡ Err (fault_of s)) × (fault_number (fault_of s) ≡ n)
 unfolding first_of
 broken_first [] some b = absurd (omega arith)
 broken_first (c ∷ s) some b = (simp (not_allowed (c ∷ s) b), (fault_broken (c ∷ s) b).1)

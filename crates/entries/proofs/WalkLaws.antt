@@ -1,12 +1,14 @@
 -- The walk over a list, entry by entry.
 --
+--   first_fits, entry_first, no_first     an entry at the front of a list, and none, by the length that stands there
 --   entries_more   an entry at the front is the first entry
---   length_none, entries_none    there is none where the front is the end or a fault
+--   entries_none    there is none where the front is the end or a fault
 --   EntryHere, entry_here, no_entry     an entry at a position of a list, and none, by the length that stands there
 --   walk_from t c   the totals t and those of the entries c, where nothing is left after them; or the refusal of what is left
 --   saved_most     an entry is one saved entry at most
 --   walk_start     the walk from no entries at all
 --   walk_more, walk_end, walk_fault    a step of the walk, by what is at the front
+--   Walks, walks   a step past an entry, as the loop over a list meets it
 --   stopped        what the walk gives where something is left
 --   walk_totals, walk_count, walk_saved    what a walk to the end tells
 --   entries_long, entries_most     an entry has 58 bytes or more
@@ -15,13 +17,11 @@
 --   Added t u      u is t with one entry more, and at most one saved entry more
 --   add_added      an entry more is one entry more, and one saved entry more at most
 -- Assumes nothing.
-use Rattle.std.specs.Prelude.{Ok, Err}
-use mathlib.Core.Path.{◌≡◌, refl, sym, ap, ap₂, ◌∙◌}
+use Rattle.std.specs.Prelude.{Option, Some, None, Ok, Err}
+use mathlib.Core.Path.{◌≡◌, refl, sym, ap, ap₂, ◌∙◌, subst}
 use mathlib.Core.Bool.{Bool, true, false, cond}
-use mathlib.Core.Logic.{inl, inr}
 use mathlib.Core.List.{List, [], ◌∷◌, map, foldr}
 use Prim.Native.Nat.{ℕ, ◌+◌, ◌*◌, ◌/◌, ◌≤◌, ◌<◌, max}
-use native.Mathlib.Nat.{eq-zero-or-pos}
 use native.Mathlib.Omega.{arith}
 use lib.ListN.{length, take, drop, length-drop}
 use lib.Seq.{drop-drop, length-take-le}
@@ -34,28 +34,38 @@ use Rattle.entries.specs.Numbering.{keep, saved_of}
 use Rattle.entries.specs.Walk.{fault_of, fault_number, refusal_at, first_of, entries_of, totals_of, add_entry, walked_to, walk_of}
 use Rattle.entries.specs.declared.Fault.{Fault}
 use Rattle.entries.specs.declared.Fault.TheVariants.{Size, FileSize, Name}
-use Rattle.entries.specs.declared.Item.{Item}
-use Rattle.entries.specs.declared.Item.TheVariants as item
+use Rattle.entries.specs.declared.Entry.{Entry}
 use Rattle.entries.specs.declared.Totals.{Totals}
-use Rattle.entries.specs.Walk.{Walked}
-use Rattle.entries.proofs.EntryLaws.{length_sized, IsEntry, IsFault, is_end, is_fault}
+use Rattle.entries.specs.Walk.{Walked, Item, entry_in}
+use Rattle.entries.proofs.EntryLaws.{length_sized, IsEntry, IsFault, length_end, is_fault}
 
 pub entries_more : {s : List ℕ} {n status size : ℕ} → IsEntry s n status size → entries_of s ≡ before (take n s) (entries_of (drop n s))
 entries_more {s} i =
     cut_more length_of s (omega (arith, i.low, i.high)) (omega (arith, i.low, i.length_is))
     ∙ ap (λ (k : ℕ). before (take k s) (entries_of (drop k s))) i.length_is
 
--- no entry more: the item at the front is the end or a fault, as the else of `let Item::Entry { .. } = item else` tells
-pub length_none : (s : List ℕ) (i : Item) → i ≡ first_of s → ((n status size : ℕ) → i ≡ item.Entry n status size → ⊥) → length_of s ≡ 0
-length_none s (item.Entry n status size) e k = absurd (k n status size refl)
-length_none s item.End e k = elim (eq-zero-or-pos (length_of s)) [
-  | inl z ↦ z
-  | inr some ↦ let z = length_sized s some in absurd (omega (arith, z.1, z.2, ap length (is_end e)))
-]
-length_none s (item.Fault f) e k = (is_fault e).length_zero
+-- an entry at the front, by the length that stands there
+pub first_fits : (s : List ℕ) {n : ℕ} → n ≡ length_of s → (n ≡ 0 → ⊥) → n ≤ length s
+first_fits s is some = let sized = length_sized s (omega arith) in omega (arith, sized.2)
 
-pub entries_none : (s : List ℕ) (i : Item) → i ≡ first_of s → ((n status size : ℕ) → i ≡ item.Entry n status size → ⊥) → (entries_of s).pieces ≡ []
-entries_none s i e k = ap (λ (c : Cut). c.pieces) (cut_stop length_of s (length_none s i e k))
+pub entry_first : (s : List ℕ) {n : ℕ} {e rest : List ℕ} → n ≡ length_of s → (n ≡ 0 → ⊥) → e ≡ take n s → rest ≡ drop n s
+    → (entries_of s).pieces ≡ e ∷ (entries_of rest).pieces
+entry_first s is some e_is rest_is = let sized = length_sized s (omega arith) in
+    ap (λ (c : Cut). c.pieces) (cut_more length_of s (omega (arith, sized.1, sized.2)) (omega arith))
+    ∙ ap (λ (k : ℕ). take k s ∷ (entries_of (drop k s)).pieces) (sym is)
+    ∙ ap₂ (λ (e rest : List ℕ). e ∷ (entries_of rest).pieces) (sym e_is) (sym rest_is)
+
+pub no_first : (s : List ℕ) {n : ℕ} → n ≡ length_of s → n ≡ 0 → (entries_of s).pieces ≡ []
+no_first s is z = ap (λ (c : Cut). c.pieces) (cut_stop length_of s (sym is ∙ z))
+
+-- no entry more: the item at the front is the end or a fault, as the else of `let Some(entry) = .. else` tells
+pub entries_none : (s : List ℕ) (o : Option Entry) → o ≡ entry_in (first_of s) → ((e : Entry) → o ≡ Some e → ⊥) → (entries_of s).pieces ≡ []
+entries_none s o is none = ap (λ (c : Cut). c.pieces) (cut_stop length_of s (by (first_of s) refl (λ e h. none e (is ∙ h))))
+  where
+    by : (i : Item) → i ≡ first_of s → ((e : Entry) → entry_in i ≡ Some e → ⊥) → length_of s ≡ 0
+    by (Ok (Some e)) is none = absurd (none e refl)
+    by (Ok None) is none = length_end s is
+    by (Err f) is none = (is_fault is).length_zero
 
 -- an entry of n bytes stands at the position
 pub record EntryHere (s : List ℕ) (at n : ℕ) : Type 0 where
@@ -147,6 +157,20 @@ walk_more t {s} {n} {status} {size} i = let rest : Cut = entries_of (drop n s) i
     ap₂ (λ (x y : ℕ). walk_from (add_entry t x y) rest) i.status_is i.size_is
     ∙ ap (λ (u : Totals). walked_to u rest.rest) (plus-entry t e rest.pieces)
     ∙ ap (walk_from t) (sym (entries_more i))
+
+-- a step of the walk, from the totals t at s to the totals u at rest
+pub record Walks (s rest : List ℕ) (t u : Totals) : Type 0 where
+  pub length_is : length rest + 58 ≤ length s
+  pub added : Added t u
+  pub walk_is : walk_from u (entries_of rest) ≡ walk_from t (entries_of s)
+
+pub walks : {s rest : List ℕ} {t u : Totals} {n status size : ℕ} → IsEntry s n status size → rest ≡ drop n s → u ≡ add_entry t status size
+    → Walks s rest t u
+walks {s} {t = t} {n} {status} {size} i rest_is u_is = record {
+  length_is = omega (arith, i.low, i.high, ap length rest_is, length-drop n s);
+  added = subst (Added t) (sym u_is) (add_added t status size);
+  walk_is = ap₂ (λ (u : Totals) (q : List ℕ). walk_from u (entries_of q)) u_is rest_is ∙ walk_more t i;
+}
 
 pub walk_end : (t : Totals) {s : List ℕ} → s ≡ [] → walk_from t (entries_of s) ≡ Ok t
 unfolding walk_from

@@ -5,8 +5,11 @@
 --   fault_of s        the first rule that the entry at the front of s breaks, where it breaks one
 --   fault_number f    the number of the refusal for a fault
 --   refusal_at f p    the refusal for a fault of the entry at place p
---   item_of e         the entry e, as numbers
---   first_of s        what s begins with: an entry, nothing, or a fault
+--   Item              what a list begins with: an entry, as numbers, nothing, or a fault
+--   numbers_of e      the entry e, as numbers
+--   item_of e         the item that the entry e is
+--   entry_in i        the entry that the item i is, in numbers, where it is one
+--   first_of s        what s begins with
 --   entries_of s      the entries of s up to the first fault, and the rest of s
 --   greatest_of es    the greatest file size of the entries es that count for the data size
 --   totals_of es      how many entries es are, how many of them are saved, and the greatest size
@@ -14,20 +17,22 @@
 --   walked_to t s     the totals t, where s, which remains after their entries, is empty; or the refusal of the entry at its front
 --   walk_of s         the totals of the entries of s, where they fill it; or the refusal of the first entry that breaks a rule
 -- Assumes nothing.
-use Rattle.std.specs.Prelude.{ℕ, ◌+◌, max, cond, length, take, Result, Ok, Err}
+use Rattle.std.specs.Prelude.{ℕ, ◌+◌, max, cond, length, take, Option, Some, None, Result, Ok, Err}
 use mathlib.Core.List.{List, [], ◌∷◌, map, foldr}
 use Rattle.cut_lists.specs.Pieces.{Cut, cut}
 use Rattle.refusals.specs.declared.Refusal.{Refusal}
 use Rattle.entries.specs.Entry.{entry_size, status_of, file_size_of, saved_count, is_counted, entry_size_allowed, file_size_allowed, entry_allowed, length_of}
 use Rattle.entries.specs.Numbering.{keep, saved_of}
+use Rattle.entries.specs.declared.Entry.{Entry}
 use Rattle.entries.specs.declared.Fault.{Fault}
 use Rattle.entries.specs.declared.Fault.TheVariants.{Size, FileSize, Name}
-use Rattle.entries.specs.declared.Item.{Item}
-use Rattle.entries.specs.declared.Item.TheVariants as item
 use Rattle.entries.specs.declared.Totals.{Totals}
 
 abbrev pub Walked : Type 0
 Walked = Result Totals Refusal
+
+abbrev pub Item : Type 0
+Item = Result (Option Entry) Fault
 
 -- "Within an entry in that order": the entry's size, its file's size, its name
 unfoldable pub fault_of : List ℕ → Fault
@@ -44,13 +49,20 @@ fault_number Name = 18
 abbrev pub refusal_at : Fault → ℕ → Refusal
 refusal_at f place = record { number = fault_number f; place = place }
 
+abbrev pub numbers_of : List ℕ → Entry
+numbers_of e = record { length = length e; status = status_of e; size = file_size_of e }
+
 abbrev pub item_of : List ℕ → Item
-item_of e = item.Entry (length e) (status_of e) (file_size_of e)
+item_of e = Ok (Some (numbers_of e))
+
+abbrev pub entry_in : Item → Option Entry
+entry_in (Ok e) = e
+entry_in (Err f) = None
 
 unfoldable pub first_of : List ℕ → Item
-first_of [] = item.End
+first_of [] = Ok None
 first_of (b ∷ s) =
-    cond (entry_allowed (b ∷ s)) (item_of (take (entry_size (b ∷ s)) (b ∷ s))) (item.Fault (fault_of (b ∷ s)))
+    cond (entry_allowed (b ∷ s)) (item_of (take (entry_size (b ∷ s)) (b ∷ s))) (Err (fault_of (b ∷ s)))
 
 abbrev pub entries_of : List ℕ → Cut
 entries_of s = cut length_of s

@@ -1,12 +1,14 @@
 // The entries of a Par 1.0 list (document 01, "Byte layout"): the first entry of a part of a list, and the walk over a whole one.
 #![tactic(auto)]
 
-ghost use Rattle.std.specs.Prelude.{◌≡◌, cond, ◌+◌, ◌%◌, ◌<◌, ◌≤◌, ◌^◌, max, length, drop};
+ghost use Rattle.std.specs.Prelude.{◌≡◌, cond, ◌+◌, ◌%◌, ◌<◌, ◌≤◌, ◌^◌, max, length, drop, ℕ, List};
+ghost use Rattle.std.specs.Iterator.{YieldsFirstRef, item_count};
 ghost use Rattle.entries.specs.Entry.{unit_allowed, is_dot, units_allowed, only_dots, is_dots, name_allowed, units_of};
-ghost use Rattle.entries.specs.Entry.{entry_size_allowed, is_saved, saved_count, is_counted, length_of};
-ghost use Rattle.entries.specs.Walk.{fault_number, refusal_at, first_of, add_entry, walk_of};
+ghost use Rattle.entries.specs.Entry.{entry_size_allowed, is_saved, saved_count, is_counted, status_of, file_size_of, length_of};
+ghost use Rattle.entries.specs.Walk.{fault_number, refusal_at, entry_in, first_of, entries_of, add_entry, walk_of};
 
 use refusals::Refusal;
+use std::marker::Model;
 
 // The shortest entry: 56 bytes of fields, and a name of one unit.
 pub const MIN_ENTRY_SIZE: u64 = 58;
@@ -33,16 +35,12 @@ pub enum Fault {
     Name,
 }
 
-// What a part of a list begins with: an entry, nothing, or an entry that breaks a rule.
+// An entry in numbers: its length, its status, and the size of its file.
 #[derive(Clone, Copy)]
-pub enum Item {
-    Entry {
-        length: usize,
-        status: u64,
-        size: u64,
-    },
-    End,
-    Fault(Fault),
+pub struct Entry {
+    pub length: usize,
+    pub status: u64,
+    pub size: u64,
 }
 
 // Of the entries of a list: their number, that of the saved ones, and the greatest size of a file that counts for the data size.
@@ -53,57 +51,104 @@ pub struct Totals {
     pub greatest: u64,
 }
 
-// The first entry of `list`, as numbers. The entry is the first `length` bytes, and the list goes on after it.
-pub fn first(list: &[u8]) -> Item
+// The first entry of `list`, in numbers, `None` where the list is over, or the rule that the entry breaks. The list goes on after its `length`
+// bytes.
+pub fn first(list: &[u8]) -> Result<Option<Entry>, Fault>
     ensures { result ≡ first_of list.now }
 {
-    if list.len() == 0 {
-        return Item::End;
+    if list.is_empty() {
+        return Ok(None);
     }
     let entry_size = little_endian::read64(list, 0);
     if !entry_size_allowed(entry_size, list.len()) {
-        return Item::Fault(Fault::Size);
+        return Err(Fault::Size);
     }
     let length = entry_size as usize;
     let entry = &list[..length];
-    let size = little_endian::read64(entry, FILE_SIZE_AT);
+    let size = file_size_of(entry);
     if size > refusals::MAX_FILE_SIZE {
-        return Item::Fault(Fault::FileSize);
+        return Err(Fault::FileSize);
     }
     if !name_allowed(&entry[NAME_AT..]) {
-        return Item::Fault(Fault::Name);
+        return Err(Fault::Name);
     }
-    let status = little_endian::read64(entry, STATUS_AT);
-    Item::Entry {
+    let status = status_of(entry);
+    Ok(Some(Entry {
         length,
         status,
         size,
-    }
+    }))
 }
 
-// What stands at the place `from` of `list`: an entry, or the end of the list, or a fault. Past the end there is nothing.
-pub fn at(list: &[u8], from: usize) -> Item
-    ensures { result ≡ first_of (drop from list.now) }
+// The entry at the place `from` of `list`, `None` where there is none that keeps every rule.
+pub fn at(list: &[u8], from: usize) -> Option<Entry>
+    ensures { result ≡ entry_in (first_of (drop from list.now)) }
 {
     if list.len() < from {
-        return Item::End;
+        return None;
     }
-    first(&list[from..])
+    match first(&list[from..]) {
+        Ok(found) => found,
+        Err(_) => None,
+    }
 }
 
 // The length of the entry at the place `from` of `list`, 0 where there is none.
 pub fn length_at(list: &[u8], from: usize) -> usize
     ensures { result ≡ length_of (drop from list.now) }
 {
-    let Item::Entry {
-        length,
-        status: _,
-        size: _,
-    } = at(list, from)
-    else {
+    if list.len() < from {
         return 0;
-    };
-    length
+    }
+    first_length(&list[from..])
+}
+
+// The length of the entry that `list` begins with, 0 where there is none.
+fn first_length(list: &[u8]) -> usize
+    ensures { result ≡ length_of list.now }
+{
+    match first(list) {
+        Ok(Some(entry)) => entry.length,
+        Ok(None) => 0,
+        Err(_) => 0,
+    }
+}
+
+// The entries of a list, one after another, up to its end or the first that breaks a rule.
+#[derive(Drop)]
+pub struct Entries<'a> {
+    rest: &'a [u8],
+}
+
+impl<'a> Model for Entries<'a> {
+    ghost Value = { List (List ℕ) };
+
+    ghost view = { λ s. (entries_of s.rest.now).pieces };
+}
+
+impl<'a> Iterator for Entries<'a> {
+    type Item = &'a [u8];
+
+    ghost next_gives = { YieldsFirstRef (λ s. s) };
+
+    ghost remaining = { item_count (λ s. s) };
+
+    fn next(&mut self) -> Option<&'a [u8]> {
+        let length = first_length(self.rest);
+        if length == 0 {
+            return None;
+        }
+        let (entry, rest) = self.rest.split_at(length);
+        self.rest = rest;
+        Some(entry)
+    }
+}
+
+// The entries of `list`.
+pub fn of(list: &[u8]) -> Entries<'_>
+    ensures { result ≡ (entries_of list.now).pieces }
+{
+    Entries { rest: list }
 }
 
 // The totals of the entries of `list`, or the refusal of the first that breaks a rule, with its place.
@@ -115,21 +160,31 @@ pub fn walk(list: &[u8]) -> Result<Totals, Refusal>
         saved: 0,
         greatest: 0,
     };
-    let mut from: usize = 0;
+    let mut rest = list;
     loop {
-        match at(list, from) {
-            Item::Entry {
-                length,
-                status,
-                size,
-            } => {
-                totals = added(totals, status, size);
-                from += length;
+        match first(rest) {
+            Ok(Some(entry)) => {
+                totals = added(totals, entry.status, entry.size);
+                rest = &rest[entry.length..];
             }
-            Item::End => return Ok(totals),
-            Item::Fault(fault) => return Err(refusal_at(fault, totals.entries + 1)),
+            Ok(None) => return Ok(totals),
+            Err(fault) => return Err(refusal_at(fault, totals.entries + 1)),
         }
     }
+}
+
+// The status of an entry.
+pub fn status_of(entry: &[u8]) -> u64
+    ensures { result ≡ status_of entry.now }
+{
+    little_endian::read64(entry, STATUS_AT)
+}
+
+// The size of an entry's file.
+pub fn file_size_of(entry: &[u8]) -> u64
+    ensures { result ≡ file_size_of entry.now }
+{
+    little_endian::read64(entry, FILE_SIZE_AT)
 }
 
 // Whether the bytes of a name are allowed: one unit or more, whole units, each of them allowed, and neither "." nor "..".

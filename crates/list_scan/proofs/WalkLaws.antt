@@ -8,7 +8,7 @@
 --   found_walk         the scan over a list finds what the walk over it finds
 --   scan_set_hash      its hash ends in the set hash
 -- Assumes nothing.
-use Rattle.std.specs.Prelude.{Ok, Err}
+use Rattle.std.specs.Prelude.{Some, None, Ok, Err}
 use Rattle.std.proofs.Common.{◌≡◌, ℕ, zero, suc, ◌+◌, ◌%◌, ◌^◌, ◌<◌, ◌≤◌, true, false, List, [], ◌∷◌, ◌++◌, length, get_or, take, drop, sym, refl, ap, ◌∙◌, subst, append_assoc, append-nil, le_refl, arith, length-append, length-drop, take-append-drop, length-take-le, take-suc}
 use mathlib.Core.List.{foldl, foldl-append}
 use Rattle.computed_tests.proofs.Tests.{test_fails}
@@ -17,10 +17,8 @@ use Rattle.cut_lists.proofs.CutLaws.{if_zero_pos, cut-none, cut_stop}
 use Rattle.md5_digest.specs.declared.Md5.{Md5}
 use Rattle.md5_digest.specs.Running.{state_of, finished}
 use Rattle.entries.specs.Entry.{status_of, file_size_of, md5_of, units_of, length_of}
-use Rattle.entries.specs.Walk.{fault_of, refusal_at, first_of, entries_of, add_entry, walk_of}
+use Rattle.entries.specs.Walk.{Item, fault_of, refusal_at, first_of, entries_of, add_entry, walk_of}
 use Rattle.entries.specs.declared.Fault.{Fault}
-use Rattle.entries.specs.declared.Item.{Item}
-use Rattle.entries.specs.declared.Item.TheVariants as item
 use Rattle.entries.specs.declared.Totals.{Totals}
 use Rattle.entries.proofs.EntryLaws.{IsEntry, IsFault, is_end, is_entry, is_fault}
 use Rattle.entries.proofs.FirstFaults.{keeps_first, kept_length}
@@ -139,9 +137,9 @@ abbrev AllEnded : List ℕ → Type 0
 AllEnded s = (t : Totals) (h : Md5) (sc : Scan) → Amid t h [] sc → Ended t h s sc
 
 ended_by : (s : List ℕ) (i : Item) → i ≡ first_of s → ((k : ℕ) → 58 ≤ k → k ≤ length s → AllEnded (drop k s)) → AllEnded s
-ended_by s item.End e rest t h sc m = ended-none m (is_end e)
-ended_by s (item.Fault f) e rest t h sc m = ended_fault m (is_fault e)
-ended_by s (item.Entry k status size) e rest t h sc m = let i = is_entry e in ended_more m i (rest k i.low i.high)
+ended_by s (Ok None) is rest t h sc m = ended-none m (is_end is)
+ended_by s (Err f) is rest t h sc m = ended_fault m (is_fault is)
+ended_by s (Ok (Some e)) is rest t h sc m = let i = is_entry is in ended_more m i (rest e.length i.low i.high)
 
 ended_in : (n : ℕ) (s : List ℕ) → length s ≤ n → AllEnded s
 ended_in zero s bound = ended_by s (first_of s) refl (λ k low high. absurd (omega arith))

@@ -5,7 +5,6 @@ ghost use Rattle.entries.specs.Walk.{entries_of};
 ghost use Rattle.text.specs.Buffer.{buffer, put as put_of};
 ghost use Rattle.listing.specs.Lines.{shown as shown_of, is_placed, place_field, refused_line, head_line, label, line_of, entry_lines};
 
-use entries::Item;
 use par1_rules::layout;
 use refusals::Refusal;
 
@@ -36,18 +35,13 @@ pub fn put_entries<'a, 'b>(out: &'a mut [u8], start: usize, list: &'b [u8]) -> u
     let mut saved: u64 = 0;
     let mut from: usize = 0;
     loop {
-        let Item::Entry {
-            length,
-            status,
-            size,
-        } = entries::at(list, from)
-        else {
+        let Some(entry) = entries::at(list, from) else {
             return at;
         };
-        let name = layout::name_of(layout::part(list, from, length));
-        saved += entries::saved_count(status);
-        at = put_line(out, at, status, saved, size, name);
-        from += length;
+        let name = layout::name_of(layout::part(list, from, entry.length));
+        saved += entries::saved_count(entry.status);
+        at = put_line(out, at, entry.status, saved, entry.size, name);
+        from += entry.length;
     }
 }
 

@@ -4,6 +4,7 @@
 --   Lone, lone_tells    what it then tells
 -- A test of document 01 is passed where it does not hold.
 -- Assumes nothing.
+use Rattle.std.specs.Prelude.{Some, None, Ok, Err}
 use mathlib.Core.Path.{◌≡◌, refl, sym, ap, ◌∙◌}
 use mathlib.Core.Bool.{true}
 use mathlib.Core.List.{List}
@@ -15,11 +16,9 @@ use lib.Seq.{take-length}
 use borrow.Author.Tests.{eqb-true}
 use Rattle.computed_tests.proofs.Tests.{and_both}
 use Rattle.entries.specs.Entry.{entry_size, file_size_of, file_size_allowed, entry_size_allowed, body_allowed, entry_allowed}
-use Rattle.entries.specs.Walk.{fault_number, first_of}
+use Rattle.entries.specs.Walk.{Item, fault_number, first_of}
 use Rattle.entries.specs.declared.Fault.{Fault}
 use Rattle.entries.specs.declared.Fault.TheVariants.{Size, FileSize, Name}
-use Rattle.entries.specs.declared.Item.{Item}
-use Rattle.entries.specs.declared.Item.TheVariants as item
 use Rattle.entries.proofs.EntryLaws.{sized, is_entry}
 use Rattle.refusals.specs.Tests.{bare, test}
 use Rattle.refusals.proofs.TestLaws.{test_passed}
@@ -59,6 +58,6 @@ lone_tells e z = let passed = test_passed 16 (eqb (entry_size e) (length e)) (it
     by (first_of e) refl (eqb-true _ _ passed.0) passed.1
   where
     by : (i : Item) → i ≡ first_of e → entry_size e ≡ length e → item_number i ≡ 0 → Lone e
-    by (item.Entry n status size) f fills z = allowed_lone e fills (is_entry f).allowed
-    by item.End f fills z = absurd (omega arith)
-    by (item.Fault k) f fills z = absurd (fault_some k z)
+    by (Ok (Some i)) f fills z = allowed_lone e fills (is_entry f).allowed
+    by (Ok None) f fills z = absurd (omega arith)
+    by (Err k) f fills z = absurd (fault_some k z)

@@ -4,6 +4,7 @@
 --   entry_back        it is that of its file
 --   entry-written     and so is every written entry
 -- Assumes nothing.
+use Rattle.std.specs.Prelude.{Some, Ok}
 use mathlib.Core.Path.{◌≡◌, refl, sym, ap, ap₂, ◌∙◌, subst}
 use mathlib.Core.Bool.{true, ◌&&◌}
 use mathlib.Core.List.{List, [], ◌∷◌, ◌++◌, append-nil}
@@ -22,8 +23,8 @@ use Rattle.little_endian.proofs.Reading.{le_at-append}
 use Rattle.md5_digest.specs.Digest.{md5}
 use Rattle.refusals.specs.Tests.{bare}
 use Rattle.entries.specs.Entry.{entry_size, status_of, file_size_of, md5_of, md5_of_16k, name_of, name_allowed, file_size_allowed}
-use Rattle.entries.specs.Walk.{first_of, entries_of}
-use Rattle.entries.specs.declared.Item.TheVariants.{Entry}
+use Rattle.entries.specs.Walk.{item_of, first_of, entries_of}
+use Rattle.entries.specs.declared.Entry.{Entry}
 use Rattle.entries.proofs.EntryLaws.{first_entry, is_entry}
 use Rattle.entries.proofs.FirstFaults.{sized_right}
 use Rattle.entries.proofs.WalkLaws.{entries_more}
@@ -81,7 +82,7 @@ named_right name e = let both = and_both (leb 2 (length name) && eqb (length nam
 
 module _ {e m : List ℕ} {status : ℕ} {name : List ℕ} (size : length e ≡ 56 + length name) (d : EntryFields e m status name)
     (right : Named name) (short : file_size_allowed (length m) ≡ true) where
-  walked_back : (rest : List ℕ) → first_of (e ++ rest) ≡ Entry (length e) status (length m)
+  walked_back : (rest : List ℕ) → first_of (e ++ rest) ≡ Ok (Some (record { length = length e; status = status; size = length m }))
   walked_back rest = let s : List ℕ = e ++ rest in
       let total : length s ≡ length e + length rest = length-append e rest in
       let own : take (length e) s ≡ e = take-append_seam e rest in
@@ -91,8 +92,8 @@ module _ {e m : List ℕ} {status : ℕ} {name : List ℕ} (size : length e ≡ 
       ap (λ (l : List ℕ). file_size_allowed (file_size_of l)) own ∙ ap file_size_allowed d.size_is ∙ short in
       let name_right = ap (λ (l : List ℕ). name_allowed (name_of l)) own ∙ ap name_allowed d.named ∙ right.allowed in
       first_entry s (omega (arith, right.some)) told allowed file_size name_right
-      ∙ ap (λ (l : List ℕ). Entry (length l) (status_of l) (file_size_of l)) own
-      ∙ ap₂ (λ (x y : ℕ). Entry (length e) x y) d.status_is d.size_is
+      ∙ ap item_of own
+      ∙ ap₂ (λ (x y : ℕ). Ok (Some (record { length = length e; status = x; size = y }))) d.status_is d.size_is
 
   listed_back : (rest : List ℕ) → entries_of (e ++ rest) ≡ before e (entries_of rest)
   listed_back rest =
@@ -101,7 +102,7 @@ module _ {e m : List ℕ} {status : ℕ} {name : List ℕ} (size : length e ≡ 
 
   lone_back : lone_refusal e ≡ 0
   unfolding lone_refusal
-  lone_back = let whole : first_of e ≡ Entry (length e) status (length m) = ap first_of (sym (append-nil e)) ∙ walked_back [] in
+  lone_back = let whole : first_of e ≡ Ok (Some (record { length = length e; status = status; size = length m })) = ap first_of (sym (append-nil e)) ∙ walked_back [] in
       simp (eq-eqb (entry_size e) (length e) (d.entry_size_lem ∙ sym size), whole)
 
   checked_back : check_of e m ≡ bare 0

@@ -15,8 +15,7 @@ use lib.ListN.{length, take}
 use borrow.Author.Tests.{eq-eqb, ne_eqb}
 use Rattle.entries.specs.Claim.{Breaks, breaks_size, breaks_file_size, breaks_name}
 use Rattle.entries.specs.Entry.{entry_size, file_size_of, name_of, name_allowed, file_size_allowed, entry_size_allowed}
-use Rattle.entries.specs.Walk.{first_of}
-use Rattle.entries.specs.declared.Item.{Item}
+use Rattle.entries.specs.Walk.{Item, first_of}
 use Rattle.entries.specs.Walk.{Walked}
 use Rattle.entries.proofs.EntryLaws.{sized, first_entry}
 use Rattle.entries.proofs.FirstFaults.{breaks_number, broken_first, first_refused}

@@ -6,13 +6,11 @@
 --   is_described e m  whether the contents m have the length and the hashes that the entry e tells
 --   check_of e m      the refusal of the contents m by the entry e, with the number 0 where they are those of its file
 -- Assumes nothing.
-use Rattle.std.specs.Prelude.{ℕ, Bool, ◌&&◌, List, eqb, length}
+use Rattle.std.specs.Prelude.{ℕ, Bool, ◌&&◌, List, eqb, length, Some, None, Ok, Err}
 use Rattle.md5_digest.specs.Digest.{md5}
 use Rattle.entries.specs.Entry.{entry_size, file_size_of, md5_of, md5_of_16k}
-use Rattle.entries.specs.Walk.{fault_number, first_of}
+use Rattle.entries.specs.Walk.{Item, fault_number, first_of}
 use Rattle.entries.specs.declared.Fault.TheVariants as fault
-use Rattle.entries.specs.declared.Item.{Item}
-use Rattle.entries.specs.declared.Item.TheVariants as item
 use Rattle.lent_bytes.specs.Equal.{equal}
 use Rattle.par1_rules.specs.Hashes.{md5_first}
 use Rattle.refusals.specs.Tests.{bare, test, or_else}
@@ -20,9 +18,9 @@ use Rattle.refusals.specs.declared.Refusal.{Refusal}
 
 -- "16 .. fewer than 8 bytes left": so no entry at all is 16
 abbrev pub item_number : Item → ℕ
-item_number (item.Entry length status size) = 0
-item_number item.End = fault_number fault.Size
-item_number (item.Fault f) = fault_number f
+item_number (Ok (Some e)) = 0
+item_number (Ok None) = fault_number fault.Size
+item_number (Err f) = fault_number f
 
 -- "16 entry size .. (lone entry) short of its slice", before 17 and 18: "Within an entry in that order"
 unfoldable pub lone_refusal : List ℕ → ℕ

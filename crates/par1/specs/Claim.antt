@@ -27,7 +27,7 @@
 --   Checked                      checking answers it, and nothing else
 -- The contracts of write_volume, read, write_entry and check cite write_volume_of, read_of, write_entry_of and check_of.
 -- Assumes nothing.
-use Rattle.std.specs.Prelude.{◌≡◌, true, List, [], ◌∷◌, ◌++◌, ◌↔◌, ℕ, ◌+◌, ◌%◌, ◌^◌, ◌<◌, ◌≤◌, length, take, drop, Ok, Err}
+use Rattle.std.specs.Prelude.{◌≡◌, true, List, [], ◌∷◌, ◌++◌, ◌↔◌, ℕ, ◌+◌, ◌%◌, ◌^◌, ◌<◌, ◌≤◌, length, take, drop, Some, Ok, Err}
 use Rattle.lent_bytes.specs.Writing.{refused, accepted, RefusedExactly}
 use Rattle.refusals.specs.Limits.{max_file_size, max_volume_length}
 use Rattle.refusals.specs.Order.{First}
@@ -41,7 +41,6 @@ use Rattle.entries.specs.Entry.{entry_size, status_of, file_size_of, md5_of, md5
 use Rattle.entries.specs.Numbering.{saved_of}
 use Rattle.entries.specs.Walk.{first_of, entries_of, walk_of}
 use Rattle.entries.specs.declared.Totals.{Totals}
-use Rattle.entries.specs.declared.Item.TheVariants.{Entry}
 use Rattle.md5_digest.specs.Digest.{md5}
 use Rattle.par1_rules.specs.Layout.{version_of, control_hash_of, set_hash_of, volume_number_of, count_of, list_start_of, list_size_of, data_start_of, data_size_of}
 use Rattle.par1_rules.specs.Layout.{list_of, data_of}
@@ -204,7 +203,7 @@ EntryRefused = (m : List ℕ) (status : ℕ) (name out : List ℕ) → RefusedEx
 
 pub record EntryBack (e m : List ℕ) (status : ℕ) (name : List ℕ) : Type 0 where
   -- at the front of a list, whatever follows
-  pub first_is : (rest : List ℕ) → first_of (e ++ rest) ≡ Entry (length e) status (length m)
+  pub first_is : (rest : List ℕ) → first_of (e ++ rest) ≡ Ok (Some (record { length = length e; status = status; size = length m }))
   pub entries_are : (rest : List ℕ) → entries_of (e ++ rest) ≡ before e (entries_of rest)
   -- its fields
   pub status_is : status_of e ≡ status

@@ -2,7 +2,7 @@
 ghost use Rattle.std.specs.Prelude.{◌≡◌};
 ghost use Rattle.par1.specs.Checking.{item_number, lone_refusal, is_described, check_of};
 
-use entries::{Fault, Item};
+use entries::{Entry, Fault};
 use par1_rules::{hashes, layout};
 use refusals::{Refusal, bare, or_else, test};
 
@@ -39,16 +39,12 @@ pub fn lone_refusal(entry: &[u8]) -> u32
 }
 
 // The number of the refusal of bytes that begin with `item`, 0 where it is an entry.
-fn item_number(item: Item) -> u32
+fn item_number(item: Result<Option<Entry>, Fault>) -> u32
     ensures { result ≡ item_number item }
 {
     match item {
-        Item::Entry {
-            length: _,
-            status: _,
-            size: _,
-        } => 0,
-        Item::End => entries::fault_number(Fault::Size),
-        Item::Fault(fault) => entries::fault_number(fault),
+        Ok(Some(_)) => 0,
+        Ok(None) => entries::fault_number(Fault::Size),
+        Err(fault) => entries::fault_number(fault),
     }
 }

@@ -8,7 +8,7 @@
 --   mul_add_stored_kept, read_stored_kept, push_kept, hash_push_kept, hash_end_kept, read_end_kept     the calls on jobs
 --   refused_kept                 the claim
 -- Assumes nothing.
-use Rattle.std.specs.Prelude.{Ok, Err}
+use Rattle.std.specs.Prelude.{Some, None, Ok, Err}
 use mathlib.Core.Path.{◌≡◌, refl, sym, ap, ◌∙◌, subst}
 use mathlib.Core.Logic.{◌≢◌}
 use mathlib.Core.Bool.{Bool, true, false, cond}
@@ -24,9 +24,7 @@ use Rattle.parity.specs.Parity.{is_file}
 use Rattle.gf256.specs.Answer.{inverse_answer}
 use Rattle.gf256.specs.Answer.{ByteAnswer}
 use Rattle.answer_bytes.specs.Results.{byte_into, parts_bytes, read_into, entry_numbers, entry_into}
-use Rattle.entries.specs.Walk.{first_of}
-use Rattle.entries.specs.declared.Item.{Item}
-use Rattle.entries.specs.declared.Item.TheVariants as item
+use Rattle.entries.specs.Walk.{Item, first_of}
 use Rattle.md5_digest.specs.Digest.{md5}
 use Rattle.md5_digest.specs.Running.{pushed, finished}
 use Rattle.refusals.specs.Tests.{bare}
@@ -122,10 +120,10 @@ read_kept (Ok p) out = told_keeps (written (parts_bytes p) out) (writing_kept.fo
 
 entry_kept : (i : Item) (out : List ℕ) → Keeps (entry_into i out) out
 unfolding entry_into
-entry_kept (item.Entry l status size) out =
-    number_keeps (written (entry_numbers l status size) out) (writing_kept.for_room (entry_numbers l status size) out)
-entry_kept item.End out = number_keeps (written (entry_numbers 0 0 0) out) (writing_kept.for_room (entry_numbers 0 0 0) out)
-entry_kept (item.Fault f) out = λ z. refl
+entry_kept (Ok (Some e)) out =
+    let numbers = entry_numbers e.length e.status e.size in number_keeps (written numbers out) (writing_kept.for_room numbers out)
+entry_kept (Ok None) out = number_keeps (written (entry_numbers 0 0 0) out) (writing_kept.for_room (entry_numbers 0 0 0) out)
+entry_kept (Err f) out = λ z. refl
 
 stored_kept : (o : Outcome) (b : List ℕ) → Keeps (stored_by o b) b
 unfolding stored_by

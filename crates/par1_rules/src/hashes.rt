@@ -6,7 +6,6 @@ ghost use Rattle.lent_bytes.specs.Equal.{equal};
 ghost use Rattle.par1_rules.specs.Hashes.{set_hash, hash_entry};
 
 use crate::layout;
-use entries::Item;
 use md5_digest::Md5;
 
 // How many bytes of a file the second hash of its entry covers.
@@ -35,20 +34,10 @@ pub fn of_set(list: &[u8]) -> [u8; 16]
     ensures { result ≡ set_hash (entries_of list.now).pieces }
 {
     let mut hash = Md5::new();
-    let mut from: usize = 0;
-    loop {
-        let Item::Entry {
-            length,
-            status,
-            size: _,
-        } = entries::at(list, from)
-        else {
-            return hash.finish();
-        };
-        let md5 = layout::part(list, from + entries::MD5_AT, layout::HASH_LENGTH);
-        hash = with_entry(hash, status, md5);
-        from += length;
+    for entry in entries::of(list) {
+        hash = with_entry(hash, entries::status_of(entry), layout::md5_of(entry));
     }
+    hash.finish()
 }
 
 // The running hash after an entry, which counts where it is saved.

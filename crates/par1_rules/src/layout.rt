@@ -1,6 +1,6 @@
 // Where the fields of a Par 1.0 header lie (document 01, "Byte layout"), and parts of a file.
 ghost use Rattle.std.specs.Prelude.{◌≡◌, take, drop};
-ghost use Rattle.entries.specs.Entry.{name_of};
+ghost use Rattle.entries.specs.Entry.{md5_of, name_of};
 
 // "PAR" and five zero bytes, as a number at 0.
 pub const SIGNATURE: u64 = 0x524150;
@@ -50,6 +50,13 @@ pub fn part(bytes: &[u8], at: usize, count: usize) -> &[u8]
         return rest;
     }
     &rest[..count]
+}
+
+// The MD5 of the whole file that an entry describes.
+pub fn md5_of(entry: &[u8]) -> &[u8]
+    ensures { result.now ≡ md5_of entry.now }
+{
+    part(entry, entries::MD5_AT, HASH_LENGTH)
 }
 
 // The name of an entry, in bytes.

@@ -1,12 +1,10 @@
--- `entries::length_at` meets its contract.
+-- `entries::length_at` meets its contract: past the end nothing stands.
 -- Assumes nothing.
-use mathlib.Core.Path.{sym, ◌∙◌}
-use Rattle.entries.proofs.EntryLaws.{is_entry}
-use Rattle.entries.proofs.WalkLaws.{length_none}
+use mathlib.Core.Path.{sym}
+use native.Mathlib.Omega.{arith}
+use lib.ListN.{length-drop}
+use Rattle.entries.proofs.EntryLaws.{first_end, length_end}
 use Rattle.entries.proofs.length_at.Goals as goal
 
-pub returns-in_default : goal.returns-in_default
-returns-in_default c = sym (length_none _ _ c.at.ensures c.in_default.not-Entry)
-
-pub returns : goal.returns
-returns c = sym (is_entry (sym c.in-Entry.is ∙ c.at.ensures)).length_is
+pub returns-then-list-from : goal.returns-then-list-from
+returns-then-list-from c = let a = c.args in sym (length_end _ (sym (first_end _ (omega (arith, length-drop a.from a.list.now)))))

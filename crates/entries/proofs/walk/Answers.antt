@@ -1,37 +1,43 @@
 -- `entries::walk` meets its contract. The loop's invariant: the walk over what remains, from the totals so far, is the whole walk.
 -- Assumes nothing.
-use Rattle.std.specs.Prelude.{Err}
-use mathlib.Core.Path.{sym, ap, ap₂, ◌∙◌}
+use Rattle.std.specs.Prelude.{Some, Ok, Err}
+use mathlib.Core.Path.{◌≡◌, sym, ap, ◌∙◌}
 use native.Mathlib.Omega.{arith}
 use mathlib.Core.List.{List}
-use Rattle.entries.specs.Walk.{entries_of}
+use Prim.Native.Nat.{ℕ, ◌-◌}
+use lib.ListN.{length, take, drop}
+use Rattle.lent_bytes.proofs.PartLaws.{part_to_end}
+use Rattle.entries.specs.Walk.{first_of, add_entry}
+use Rattle.entries.specs.declared.Entry.{Entry}
 use Rattle.entries.specs.declared.Totals.{Totals}
-use Rattle.entries.proofs.EntryLaws.{is_end, is_fault, EntryAt, entry_at}
-use Rattle.entries.proofs.WalkLaws.{walk_from, walk_start, walk_more, walk_end, walk_fault, add_added}
+use Rattle.entries.proofs.EntryLaws.{is_end, is_entry, is_fault}
+use Rattle.entries.proofs.WalkLaws.{walk_start, walk_end, walk_fault, Walks, walks}
 use Rattle.entries.proofs.walk.Goals as goal
 
-pub loop-length-init : goal.loop-length-init
-loop-length-init c = (omega arith, omega arith, omega arith, walk_start c.args.list.now)
+pub loop-entry-init : goal.loop-entry-init
+loop-entry-init c = (omega arith, omega arith, walk_start c.args.list.now)
 
-pub overflow_add-from : goal.overflow_add-from
-overflow_add-from c = omega (arith, (let h : EntryAt c.args.list.now c.loop-length.from c.in-Entry.length c.in-Entry.status c.in-Entry.size = entry_at _ _ c.at.ensures c.in-Entry.is in h).fits)
+module _ (s : List ℕ) {t u : Totals} {e : Entry} (i : Ok (Some e) ≡ first_of s) (sum : u ≡ add_entry t e.status e.size) where
+  step : Walks s (take (length s - e.length) (drop e.length s)) t u
+  step = walks (is_entry i) (part_to_end s e.length) sum
 
-pub loop-length-smaller : goal.loop-length-smaller
-loop-length-smaller c = let i = (let h : EntryAt c.args.list.now c.loop-length.from c.in-Entry.length c.in-Entry.status c.in-Entry.size = entry_at _ _ c.at.ensures c.in-Entry.is in h) in omega (arith, i.low, i.fits)
+pub slice_bounds-rest-count : goal.slice_bounds-rest-count
+slice_bounds-rest-count c = (is_entry (ap Ok (sym c.in-Ok-Some.field-0-is) ∙ c.in-Ok-Some.ensures)).high
 
-pub loop-length-preserved : goal.loop-length-preserved
-loop-length-preserved c = let i = (let h : EntryAt c.args.list.now c.loop-length.from c.in-Entry.length c.in-Entry.status c.in-Entry.size = entry_at _ _ c.at.ensures c.in-Entry.is in h) in
-    let l = c.loop-length in let more = add_added l.totals c.in-Entry.status c.in-Entry.size in
-    let sum = c.added-totals.ensures in (
-      i.fits,
-      omega (arith, i.low, ap (λ (t : Totals). t.entries) sum, more.entries_is),
-      omega (arith, i.low, ap (λ (t : Totals). t.saved) sum, more.saved_most),
-      ap₂ (λ (t : Totals) (q : List _). walk_from t (entries_of q)) sum (sym i.next) ∙ walk_more l.totals i.entry ∙ l.invariant.3,
-    )
+pub slice_bounds-rest-start : goal.slice_bounds-rest-start
+slice_bounds-rest-start c = (is_entry (ap Ok (sym c.in-Ok-Some.field-0-is) ∙ c.in-Ok-Some.ensures)).high
 
-pub returns-in-End : goal.returns-in-End
-returns-in-End c = let l = c.loop-length in sym (walk_end l.totals (is_end (sym c.in-End.is ∙ c.at.ensures))) ∙ l.invariant.3
+pub loop-entry-smaller : goal.loop-entry-smaller
+loop-entry-smaller c = omega (arith, (step _ (ap Ok (sym c.in-Ok-Some.field-0-is) ∙ c.in-Ok-Some.ensures) c.added-totals.ensures).length_is)
 
-pub returns-in-Fault : goal.returns-in-Fault
-returns-in-Fault c = let l = c.loop-length in let refused = walk_fault l.totals (is_fault (sym c.in-Fault.is ∙ c.at.ensures)) in
-    ap Err c.refusal_at.ensures ∙ sym refused ∙ l.invariant.3
+pub loop-entry-preserved : goal.loop-entry-preserved
+loop-entry-preserved c = let l = c.loop-entry in
+    let w = step _ (ap Ok (sym c.in-Ok-Some.field-0-is) ∙ c.in-Ok-Some.ensures) c.added-totals.ensures in
+    (omega (arith, w.length_is, w.added.entries_is), omega (arith, w.length_is, w.added.saved_most), w.walk_is ∙ l.invariant.2)
+
+pub returns-in-Ok-None : goal.returns-in-Ok-None
+returns-in-Ok-None c = let l = c.loop-entry in sym (walk_end l.totals (is_end (ap Ok (sym c.in-Ok-None.field-0-is) ∙ c.in-Ok-None.ensures))) ∙ l.invariant.2
+
+pub returns-in-Err : goal.returns-in-Err
+returns-in-Err c = let l = c.loop-entry in let refused = walk_fault l.totals (is_fault c.in-Err.ensures) in
+    ap Err c.refusal_at.ensures ∙ sym refused ∙ l.invariant.2

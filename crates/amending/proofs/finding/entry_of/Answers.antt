@@ -18,30 +18,30 @@ nothing-before x = let e : 0 + x.from ≡ x.from = omega arith in ap (λ (k : �
 further : (n m : ℕ) (x : Span) → past (n + m) x ≡ past n (past m x)
 further n m x = let e : n + m + x.from ≡ n + (m + x.from) = omega arith in ap (λ (k : ℕ). record { from = k; length = x.length }) e
 
-pub loop-length-init : goal.loop-length-init
-loop-length-init c = let s = c.args.list.now in (omega arith, nothing-before _ ∙ ap (span_in (entries_of s).pieces) c.before-saved_before.ensures)
+pub loop-entry-init : goal.loop-entry-init
+loop-entry-init c = let s = c.args.list.now in (omega arith, nothing-before _ ∙ ap (span_in (entries_of s).pieces) c.before-saved_before.ensures)
 
 pub returns-in_default : goal.returns-in_default
-returns-in_default c = let l = c.loop-length in let none = entries_none _ _ c.at.ensures c.in_default.not-Entry in
+returns-in_default c = let l = c.loop-entry in let none = entries_none _ _ c.at.ensures c.in_default.not-Some in
     let at : l.from ≡ l.from + 0 = omega arith in
     ap (λ (n : ℕ). record { from = n; length = 0 }) at ∙ ap (past l.from) (sym (span_none l.saved_before none)) ∙ l.invariant.1
 
 pub returns-then-saved_before-saved : goal.returns-then-saved_before-saved
-returns-then-saved_before-saved c = let i = (let h : EntryAt c.args.list.now c.loop-length.from c.in-Entry.length c.in-Entry.status c.in-Entry.size = entry_at _ _ c.at.ensures c.in-Entry.is in h) in
-    let l = c.loop-length in let at : l.from ≡ l.from + 0 = omega arith in
+returns-then-saved_before-saved c = let i = (let h : EntryAt c.args.list.now c.loop-entry.from c.in-Some.entry.length c.in-Some.entry.status c.in-Some.entry.size = entry_at _ _ c.at.ensures c.in-Some.is in h) in
+    let l = c.loop-entry in let at : l.from ≡ l.from + 0 = omega arith in
     let here = span_here i.entry l.saved_before (omega (arith, c.saved_count-saved.ensures)) in
-    ap (λ (n : ℕ). record { from = n; length = c.in-Entry.length }) at ∙ ap (past l.from) (sym here) ∙ l.invariant.1
+    ap (λ (n : ℕ). record { from = n; length = c.in-Some.entry.length }) at ∙ ap (past l.from) (sym here) ∙ l.invariant.1
 
 pub overflow_add-from : goal.overflow_add-from
-overflow_add-from c = omega (arith, (let h : EntryAt c.args.list.now c.loop-length.from c.in-Entry.length c.in-Entry.status c.in-Entry.size = entry_at _ _ c.at.ensures c.in-Entry.is in h).fits)
+overflow_add-from c = omega (arith, (let h : EntryAt c.args.list.now c.loop-entry.from c.in-Some.entry.length c.in-Some.entry.status c.in-Some.entry.size = entry_at _ _ c.at.ensures c.in-Some.is in h).fits)
 
-pub loop-length-smaller : goal.loop-length-smaller
-loop-length-smaller c = let i = (let h : EntryAt c.args.list.now c.loop-length.from c.in-Entry.length c.in-Entry.status c.in-Entry.size = entry_at _ _ c.at.ensures c.in-Entry.is in h) in omega (arith, i.low, i.fits)
+pub loop-entry-smaller : goal.loop-entry-smaller
+loop-entry-smaller c = let i = (let h : EntryAt c.args.list.now c.loop-entry.from c.in-Some.entry.length c.in-Some.entry.status c.in-Some.entry.size = entry_at _ _ c.at.ensures c.in-Some.is in h) in omega (arith, i.low, i.fits)
 
-pub loop-length-preserved : goal.loop-length-preserved
-loop-length-preserved c = let i = (let h : EntryAt c.args.list.now c.loop-length.from c.in-Entry.length c.in-Entry.status c.in-Entry.size = entry_at _ _ c.at.ensures c.in-Entry.is in h) in
-    let s = c.args.list.now in let from = c.loop-length.from in let count = c.saved_count-saved.ensures in let more = span_more i.entry c.loop-length.saved_before (omega (arith, count)) in (
+pub loop-entry-preserved : goal.loop-entry-preserved
+loop-entry-preserved c = let i = (let h : EntryAt c.args.list.now c.loop-entry.from c.in-Some.entry.length c.in-Some.entry.status c.in-Some.entry.size = entry_at _ _ c.at.ensures c.in-Some.is in h) in
+    let s = c.args.list.now in let from = c.loop-entry.from in let count = c.saved_count-saved.ensures in let more = span_more i.entry c.loop-entry.saved_before (omega (arith, count)) in (
       i.fits,
-      ap₂ (λ (q : List ℕ) (n : ℕ). past (from + c.in-Entry.length) (span_in (entries_of q).pieces (c.loop-length.saved_before - n))) (sym i.next) count
-          ∙ further from c.in-Entry.length _ ∙ ap (past from) (sym more) ∙ c.loop-length.invariant.1,
+      ap₂ (λ (q : List ℕ) (n : ℕ). past (from + c.in-Some.entry.length) (span_in (entries_of q).pieces (c.loop-entry.saved_before - n))) (sym i.next) count
+          ∙ further from c.in-Some.entry.length _ ∙ ap (past from) (sym more) ∙ c.loop-entry.invariant.1,
     )

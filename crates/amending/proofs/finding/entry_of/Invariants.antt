@@ -8,9 +8,9 @@ use Rattle.amending.specs.Plan.{span_in}
 use Rattle.amending.proofs.SpanLaws.{past}
 use Rattle.amending.proofs.finding.entry_of.Given as goal
 
-abbrev pub invariant-loop-length : goal.invariant-loop-length
-invariant-loop-length l =
+abbrev pub invariant-loop-entry : goal.invariant-loop-entry
+invariant-loop-entry l =
     (l.from ≤ length l.list) × (past l.from (span_in (entries_of (drop l.from l.list)).pieces l.saved_before) ≡ span_in (entries_of l.list).pieces (l.file - 1))
 
-abbrev pub decreases-loop-length : goal.decreases-loop-length
-decreases-loop-length l = length l.list - l.from
+abbrev pub decreases-loop-entry : goal.decreases-loop-entry
+decreases-loop-entry l = length l.list - l.from

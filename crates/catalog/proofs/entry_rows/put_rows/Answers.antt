@@ -22,34 +22,34 @@ shape_of-out-in_default c = c.loop-at.invariant.1
 
 pub returns-in_default : goal.returns-in_default
 unfolding rows_after flatten
-returns-in_default c = let none = ap (rows_after c.loop-at.saved) (entries_none _ _ c.at.ensures c.in_default.not-Entry) in
+returns-in_default c = let none = ap (rows_after c.loop-at.saved) (entries_none _ _ c.at.ensures c.in_default.not-Some) in
     sym (ap (λ (rs : List (List ℕ)). sets c.loop-at.out c.loop-at.at (flatten rs)) none) ∙ c.loop-at.invariant.4
 
 pub overflow_add-from : goal.overflow_add-from
-overflow_add-from c = let i = (let h : EntryAt c.args.list.now c.loop-at.from c.in-Entry.length c.in-Entry.status c.in-Entry.size = entry_at _ _ c.at.ensures c.in-Entry.is in h) in omega (arith, i.low, i.fits)
+overflow_add-from c = let i = (let h : EntryAt c.args.list.now c.loop-at.from c.in-Some.entry.length c.in-Some.entry.status c.in-Some.entry.size = entry_at _ _ c.at.ensures c.in-Some.is in h) in omega (arith, i.low, i.fits)
 
 pub file_number-requires : goal.file_number-requires
-file_number-requires c = omega (arith, (let h : EntryAt c.args.list.now c.loop-at.from c.in-Entry.length c.in-Entry.status c.in-Entry.size = entry_at _ _ c.at.ensures c.in-Entry.is in h).low, (let h : EntryAt c.args.list.now c.loop-at.from c.in-Entry.length c.in-Entry.status c.in-Entry.size = entry_at _ _ c.at.ensures c.in-Entry.is in h).fits)
+file_number-requires c = omega (arith, (let h : EntryAt c.args.list.now c.loop-at.from c.in-Some.entry.length c.in-Some.entry.status c.in-Some.entry.size = entry_at _ _ c.at.ensures c.in-Some.is in h).low, (let h : EntryAt c.args.list.now c.loop-at.from c.in-Some.entry.length c.in-Some.entry.status c.in-Some.entry.size = entry_at _ _ c.at.ensures c.in-Some.is in h).fits)
 
 pub row_of-row-requires : goal.row_of-row-requires
-row_of-row-requires c = let i = (let h : EntryAt c.args.list.now c.loop-at.from c.in-Entry.length c.in-Entry.status c.in-Entry.size = entry_at _ _ c.at.ensures c.in-Entry.is in h) in hash_length 0 _ _ i c.part-hash.ensures
+row_of-row-requires c = let i = (let h : EntryAt c.args.list.now c.loop-at.from c.in-Some.entry.length c.in-Some.entry.status c.in-Some.entry.size = entry_at _ _ c.at.ensures c.in-Some.is in h) in hash_length 0 _ _ i c.part-hash.ensures
 
 pub overflow_add-saved : goal.overflow_add-saved
-overflow_add-saved c = let i = (let h : EntryAt c.args.list.now c.loop-at.from c.in-Entry.length c.in-Entry.status c.in-Entry.size = entry_at _ _ c.at.ensures c.in-Entry.is in h) in
-    omega (arith, i.low, i.fits, c.saved_count-saved.ensures, saved_most c.in-Entry.status)
+overflow_add-saved c = let i = (let h : EntryAt c.args.list.now c.loop-at.from c.in-Some.entry.length c.in-Some.entry.status c.in-Some.entry.size = entry_at _ _ c.at.ensures c.in-Some.is in h) in
+    omega (arith, i.low, i.fits, c.saved_count-saved.ensures, saved_most c.in-Some.entry.status)
 
 pub overflow_add-at : goal.overflow_add-at
-overflow_add-at c = omega (arith, entries_next 0 _ _ (let h : EntryAt c.args.list.now c.loop-at.from c.in-Entry.length c.in-Entry.status c.in-Entry.size = entry_at _ _ c.at.ensures c.in-Entry.is in h))
+overflow_add-at c = omega (arith, entries_next 0 _ _ (let h : EntryAt c.args.list.now c.loop-at.from c.in-Some.entry.length c.in-Some.entry.status c.in-Some.entry.size = entry_at _ _ c.at.ensures c.in-Some.is in h))
 
 pub overflow_add-from-in-loop-at : goal.overflow_add-from-in-loop-at
-overflow_add-from-in-loop-at c = omega (arith, (let h : EntryAt c.args.list.now c.loop-at.from c.in-Entry.length c.in-Entry.status c.in-Entry.size = entry_at _ _ c.at.ensures c.in-Entry.is in h).fits)
+overflow_add-from-in-loop-at c = omega (arith, (let h : EntryAt c.args.list.now c.loop-at.from c.in-Some.entry.length c.in-Some.entry.status c.in-Some.entry.size = entry_at _ _ c.at.ensures c.in-Some.is in h).fits)
 
 pub loop-at-smaller : goal.loop-at-smaller
-loop-at-smaller c = let i = (let h : EntryAt c.args.list.now c.loop-at.from c.in-Entry.length c.in-Entry.status c.in-Entry.size = entry_at _ _ c.at.ensures c.in-Entry.is in h) in omega (arith, i.low, i.fits)
+loop-at-smaller c = let i = (let h : EntryAt c.args.list.now c.loop-at.from c.in-Some.entry.length c.in-Some.entry.status c.in-Some.entry.size = entry_at _ _ c.at.ensures c.in-Some.is in h) in omega (arith, i.low, i.fits)
 
 pub loop-at-preserved : goal.loop-at-preserved
-loop-at-preserved c = let i = (let h : EntryAt c.args.list.now c.loop-at.from c.in-Entry.length c.in-Entry.status c.in-Entry.size = entry_at _ _ c.at.ensures c.in-Entry.is in h) in
-    let s = c.args.list.now in let status = c.in-Entry.status in let from : ℕ = c.loop-at.from + c.in-Entry.length in
+loop-at-preserved c = let i = (let h : EntryAt c.args.list.now c.loop-at.from c.in-Some.entry.length c.in-Some.entry.status c.in-Some.entry.size = entry_at _ _ c.at.ensures c.in-Some.is in h) in
+    let s = c.args.list.now in let status = c.in-Some.entry.status in let from : ℕ = c.loop-at.from + c.in-Some.entry.length in
     let hash_is = c.part-hash.ensures in let next = rows_next c.loop-at.saved s c.loop-at.from i c.file_number.ensures hash_is in
     let size = ap length c.row_of-row.ensures ∙ length-row _ _ _ (hash_length 0 s c.loop-at.from i hash_is) in
     let saved = ap (λ (k : ℕ). c.loop-at.saved + k) c.saved_count-saved.ensures in

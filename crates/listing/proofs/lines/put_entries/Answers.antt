@@ -20,26 +20,26 @@ pub loop-at-init : goal.loop-at-init
 loop-at-init c = (omega arith, refl, omega arith, omega arith, refl)
 
 pub returns-in_default : goal.returns-in_default
-returns-in_default c = let l = c.loop-at in put-over _ _ l.invariant.4 l.invariant.2 (lines_none l.saved (entries_none _ _ c.at.ensures c.in_default.not-Entry))
+returns-in_default c = let l = c.loop-at in put-over _ _ l.invariant.4 l.invariant.2 (lines_none l.saved (entries_none _ _ c.at.ensures c.in_default.not-Some))
 
 pub overflow_add-saved : goal.overflow_add-saved
-overflow_add-saved c = let i = (let h : EntryAt c.args.list.now c.loop-at.from c.in-Entry.length c.in-Entry.status c.in-Entry.size = entry_at _ _ c.at.ensures c.in-Entry.is in h) in
-    omega (arith, i.low, i.fits, c.saved_count-saved.ensures, saved_most c.in-Entry.status)
+overflow_add-saved c = let i = (let h : EntryAt c.args.list.now c.loop-at.from c.in-Some.entry.length c.in-Some.entry.status c.in-Some.entry.size = entry_at _ _ c.at.ensures c.in-Some.is in h) in
+    omega (arith, i.low, i.fits, c.saved_count-saved.ensures, saved_most c.in-Some.entry.status)
 
 pub overflow_add-from : goal.overflow_add-from
-overflow_add-from c = omega (arith, (let h : EntryAt c.args.list.now c.loop-at.from c.in-Entry.length c.in-Entry.status c.in-Entry.size = entry_at _ _ c.at.ensures c.in-Entry.is in h).fits)
+overflow_add-from c = omega (arith, (let h : EntryAt c.args.list.now c.loop-at.from c.in-Some.entry.length c.in-Some.entry.status c.in-Some.entry.size = entry_at _ _ c.at.ensures c.in-Some.is in h).fits)
 
 pub loop-at-smaller : goal.loop-at-smaller
-loop-at-smaller c = let i = (let h : EntryAt c.args.list.now c.loop-at.from c.in-Entry.length c.in-Entry.status c.in-Entry.size = entry_at _ _ c.at.ensures c.in-Entry.is in h) in omega (arith, i.low, i.fits)
+loop-at-smaller c = let i = (let h : EntryAt c.args.list.now c.loop-at.from c.in-Some.entry.length c.in-Some.entry.status c.in-Some.entry.size = entry_at _ _ c.at.ensures c.in-Some.is in h) in omega (arith, i.low, i.fits)
 
 pub loop-at-preserved : goal.loop-at-preserved
-loop-at-preserved c = let i = (let h : EntryAt c.args.list.now c.loop-at.from c.in-Entry.length c.in-Entry.status c.in-Entry.size = entry_at _ _ c.at.ensures c.in-Entry.is in h) in
-    let s = c.args.list.now in let status : ℕ = c.in-Entry.status in
+loop-at-preserved c = let i = (let h : EntryAt c.args.list.now c.loop-at.from c.in-Some.entry.length c.in-Some.entry.status c.in-Some.entry.size = entry_at _ _ c.at.ensures c.in-Some.is in h) in
+    let s = c.args.list.now in let status : ℕ = c.in-Some.entry.status in
     let saved = ap (λ (k : ℕ). c.loop-at.saved + k) c.saved_count-saved.ensures in
     let name = c.name_of-name.ensures ∙ ap name_of c.part.ensures in
     let rest : ℕ → List ℕ → List ℕ = λ k q. entry_lines k (entries_of q).pieces in
-    let others : List ℕ = rest (c.loop-at.saved + saved_count status) (drop c.in-Entry.length (drop c.loop-at.from s)) in
-    let all = sym (lines_more c.loop-at.saved i.entry) ∙ ap₂ (λ (k : ℕ) (n : List ℕ). line_of status k c.in-Entry.size n ++ others) (sym saved) (sym name) in (
+    let others : List ℕ = rest (c.loop-at.saved + saved_count status) (drop c.in-Some.entry.length (drop c.loop-at.from s)) in
+    let all = sym (lines_more c.loop-at.saved i.entry) ∙ ap₂ (λ (k : ℕ) (n : List ℕ). line_of status k c.in-Some.entry.size n ++ others) (sym saved) (sym name) in (
       i.fits,
       c.put_line-at.auto.out ∙ c.loop-at.invariant.1,
       omega arith,

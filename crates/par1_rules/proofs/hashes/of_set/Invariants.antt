@@ -2,17 +2,11 @@
 -- the set hash.
 -- Assumes nothing.
 use mathlib.Core.Path.{◌≡◌}
-use Prim.Native.Nat.{◌≤◌, ◌-◌}
-use lib.ListN.{length, drop}
 use Rattle.md5_digest.specs.Running.{finished}
 use Rattle.entries.specs.Walk.{entries_of}
 use Rattle.par1_rules.specs.Hashes.{set_hash}
 use Rattle.par1_rules.proofs.HashLaws.{pushed_over}
 use Rattle.par1_rules.proofs.hashes.of_set.Given as goal
 
-abbrev pub invariant-loop-length : goal.invariant-loop-length
-invariant-loop-length l =
-    (l.from ≤ length l.list) × (finished (pushed_over l.hash (entries_of (drop l.from l.list)).pieces) ≡ set_hash (entries_of l.list).pieces)
-
-abbrev pub decreases-loop-length : goal.decreases-loop-length
-decreases-loop-length l = length l.list - l.from
+abbrev pub invariant-loop-entry : goal.invariant-loop-entry
+invariant-loop-entry l = finished (pushed_over l.hash l.entry-iterator) ≡ set_hash (entries_of l.list).pieces
