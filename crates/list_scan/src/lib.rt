@@ -12,10 +12,10 @@ ghost use Rattle.list_scan.specs.Run.{IsRun};
 ghost use Rattle.list_scan.specs.Found.{fault_at, found_of};
 ghost use Rattle.list_scan.specs.Room.{sum_fits, has_room, pushed};
 
-use refusals::Refusal;
 use entries::{Fault, Totals};
 use md5_digest::Md5;
 use par1_rules::{hashes, layout};
+use refusals::Refusal;
 
 // How long an entry with the name ".." is; a longer one may have a name of dots alone.
 const MAX_DOTS_SIZE: u64 = (entries::NAME_AT + entries::MAX_DOTS) as u64;

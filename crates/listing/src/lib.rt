@@ -30,7 +30,11 @@ pub fn list_input(input: &[u8], out: &mut [u8]) -> Result<usize, Refusal>
 }
 
 // The listing of a file that reads as `reading`: measured, and written where it fits.
-fn list_as<'a, 'b>(file: &'a [u8], reading: Result<Parts, Refusal>, out: &'b mut [u8]) -> Result<usize, Refusal>
+fn list_as<'a, 'b>(
+    file: &'a [u8],
+    reading: Result<Parts, Refusal>,
+    out: &'b mut [u8],
+) -> Result<usize, Refusal>
     requires { ListIn reading file.now }
     ensures { (result, out.new) ≡ written (listing_by reading file.now) out.old }
 {

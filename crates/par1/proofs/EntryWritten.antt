@@ -24,7 +24,6 @@ use Rattle.md5_digest.specs.Digest.{md5}
 use Rattle.refusals.specs.Tests.{bare}
 use Rattle.entries.specs.Entry.{entry_size, status_of, file_size_of, md5_of, md5_of_16k, name_of, name_allowed, file_size_allowed}
 use Rattle.entries.specs.Walk.{item_of, first_of, entries_of}
-use Rattle.entries.specs.declared.Entry.{Entry}
 use Rattle.entries.proofs.EntryLaws.{first_entry, is_entry}
 use Rattle.entries.proofs.FirstFaults.{sized_right}
 use Rattle.entries.proofs.WalkLaws.{entries_more}

@@ -1,6 +1,6 @@
 -- `par1_rules::hashes::of_set` meets its contract: no entry yet, an entry more, and all of them.
 -- Assumes nothing.
-use mathlib.Core.Path.{ap, ◌∙◌}
+use mathlib.Core.Path.{◌∙◌}
 use Rattle.par1_rules.proofs.HashLaws.{pushed_over, set-start}
 use Rattle.par1_rules.proofs.hashes.of_set.Goals as goal
 
