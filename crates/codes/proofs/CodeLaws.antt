@@ -2,7 +2,7 @@
 --
 --   code_of      the code of a code's number is that code, and back
 --   is_code      the number of a code is 0 or 1; any other is none
---   same        a code is the same as itself, and no other
+--   same        a code is the same as itself, and no other; it is what the derived == tells
 -- Assumes nothing.
 use mathlib.Core.Path.{◌≡◌, refl}
 use mathlib.Core.Logic.{◌≢◌}
@@ -12,6 +12,8 @@ use native.Mathlib.Omega.{arith}
 use borrow.Author.Tests.{leb-true, le-leb, lt-leb}
 use Rattle.codes.specs.Codes.{code_number, is_code, code_of, same}
 use Rattle.codes.specs.Claim.{CodeNumbers}
+use denote.Enum.Bare.{sameb}
+use Rattle.codes.specs.contracts.Code.{the_type}
 use Rattle.codes.specs.declared.Code.{Code}
 use Rattle.codes.specs.declared.Code.TheVariants.{Powers, Cauchy}
 
@@ -53,3 +55,9 @@ same_only Powers Powers h = refl
 same_only Powers Cauchy h = absurd (false≢true h)
 same_only Cauchy Powers h = absurd (false≢true h)
 same_only Cauchy Cauchy h = refl
+
+pub derived_same : (c d : Code) → sameb the_type c d ≡ same c d
+derived_same Powers Powers = refl
+derived_same Powers Cauchy = refl
+derived_same Cauchy Powers = refl
+derived_same Cauchy Cauchy = refl

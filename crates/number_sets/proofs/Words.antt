@@ -6,7 +6,8 @@
 --   inserted_above, removed_above              nothing changes for a number above 255
 --   length_inserted, length_removed            there are as many words as before
 --   member-inserted, member-removed, member-none   what is in the set then
---   size_by_ones, ones_fit            the counts of ones of the words sum to the size of the set, which fits
+--   size_by_ones, size_by_sum         the counts of ones of the words sum to the size of the set
+--   ones_fit                          their sum fits
 --   words_same                        two sets with the same members are the same words
 --   words_none, words_inserted, words_removed     the words that calls give
 -- Assumes nothing.
@@ -253,20 +254,10 @@ unfolding size_below total one_if
 size_total zero set = refl
 size_total (suc m) set = ap (λ (x : ℕ). x + cond (set m) 1 0) (size_total m set)
 
--- the words' sum, in the order of `sum`
-four_ones : (ws : List ℕ) → length ws ≡ 4
-    → sum_by ones ws ≡ ones (get_or ws 0 0) + ones (get_or ws 1 0) + ones (get_or ws 2 0) + ones (get_or ws 3 0)
-four_ones [] e = absurd (omega arith)
-four_ones (a ∷ []) e = absurd (omega arith)
-four_ones (a ∷ b ∷ []) e = absurd (omega arith)
-four_ones (a ∷ b ∷ c ∷ []) e = absurd (omega arith)
-four_ones (a ∷ b ∷ c ∷ d ∷ []) e = omega arith
-four_ones (a ∷ b ∷ c ∷ d ∷ x ∷ xs) e = absurd (omega arith)
-
-pub size_by_ones : (ws : List ℕ) → Words ws → sum_by ones ws ≡ size_below 256 (member ws)
-size_by_ones ws W =
-    four_ones ws W.four
-    ∙ ap₂ ◌+◌ (ap₂ ◌+◌ (ap₂ ◌+◌ (at 0) (at 1)) (at 2)) (at 3)
+pub size_by_ones : (ws : List ℕ) → ((j : ℕ) → j < 4 → get_or ws j 0 < 2 ^ 64)
+    → ones (get_or ws 0 0) + ones (get_or ws 1 0) + ones (get_or ws 2 0) + ones (get_or ws 3 0) ≡ size_below 256 (member ws)
+size_by_ones ws h =
+    ap₂ ◌+◌ (ap₂ ◌+◌ (ap₂ ◌+◌ (at 0 (omega arith)) (at 1 (omega arith))) (at 2 (omega arith))) (at 3 (omega arith))
     ∙ sym
     (size_total 256 (member ws) ∙ total_split 192 64 m
     ∙ ap (λ (x : ℕ). x + total 64 (λ i. m (192 + i)))
@@ -278,8 +269,21 @@ size_by_ones ws W =
     m : ℕ → ℕ
     m k = one_if (member ws k)
 
-    at : (j : ℕ) → ones (get_or ws j 0) ≡ total 64 (λ b. one_if (member ws (64 * j + b)))
-    at j = word_total ws j (W.fits j)
+    at : (j : ℕ) → j < 4 → ones (get_or ws j 0) ≡ total 64 (λ b. one_if (member ws (64 * j + b)))
+    at j l = word_total ws j (h j l)
+
+-- the words' sum, in the order of `sum`
+four_ones : (ws : List ℕ) → length ws ≡ 4
+    → sum_by ones ws ≡ ones (get_or ws 0 0) + ones (get_or ws 1 0) + ones (get_or ws 2 0) + ones (get_or ws 3 0)
+four_ones [] e = absurd (omega arith)
+four_ones (a ∷ []) e = absurd (omega arith)
+four_ones (a ∷ b ∷ []) e = absurd (omega arith)
+four_ones (a ∷ b ∷ c ∷ []) e = absurd (omega arith)
+four_ones (a ∷ b ∷ c ∷ d ∷ []) e = omega arith
+four_ones (a ∷ b ∷ c ∷ d ∷ x ∷ xs) e = absurd (omega arith)
+
+pub size_by_sum : (ws : List ℕ) → Words ws → sum_by ones ws ≡ size_below 256 (member ws)
+size_by_sum ws W = four_ones ws W.four ∙ size_by_ones ws (λ j l. W.fits j)
 
 size_small : (m : ℕ) (test : ℕ → Bool) → size_below m test ≤ m
 unfolding size_below one_if
@@ -292,7 +296,7 @@ size_small (suc m) test = let one : one_if (test m) ≤ 1 = small (test m) in om
 
 -- the sum of the counts fits
 pub ones_fit : (ws : List ℕ) → Words ws → sum_by ones ws < 2 ^ 32
-ones_fit ws W = omega (arith, size_by_ones ws W, size_small 256 (member ws))
+ones_fit ws W = omega (arith, size_by_sum ws W, size_small 256 (member ws))
 
 -- ---- words of 64 bits
 

@@ -1,5 +1,5 @@
 // Sets of numbers below 256, one bit each: number k is bit k mod 64 of word k div 64. A set stays four bare words and no struct of its own, since
-// the claims on inventories (inventory specs/Claim, recovery specs/Answers, replay specs/Replay) speak of its list of words.
+// document 01 has sets as words and the claims on them, from recovery specs/Answers to replay specs/Replay, speak of its list of words.
 #![tactic(auto)]
 
 ghost use Rattle.std.specs.Prelude.{◌≡◌, length};
