@@ -5,7 +5,7 @@
 --   queried_one    two replies to one query are the same, over any rules
 --   one_answer     so at the rules of the two codes
 -- Assumes nothing.
-use mathlib.Core.Path.{◌≡◌, refl, sym, ap, ◌∙◌}
+use mathlib.Core.Path.{◌≡◌, refl, sym, ap, ap₂, ◌∙◌}
 use mathlib.Core.Logic.{◌⊎◌, inl, inr}
 use mathlib.Core.Bool.{Bool, true, false, cond}
 use mathlib.Core.List.{List}
@@ -16,12 +16,11 @@ use Rattle.parity.specs.Coefficient.{rule_of}
 use Rattle.parity.proofs.Coefficients.{rule_byte}
 use Rattle.number_sets.specs.Sets.{member}
 use Rattle.inventory.specs.Model.{query, queried}
-use Rattle.inventory.specs.Steps.{is_inventory, count_reply, answer_number}
+use Rattle.inventory.specs.Steps.{is_inventory, Counted, count_reply, answer_number}
 use Rattle.inventory.specs.Query.{state_of, Matches, Queried}
 use Rattle.inventory.specs.Claim.{OneAnswer, OneCount}
 use Rattle.inventory.specs.declared.Inventory.{Inventory}
-use Rattle.inventory.specs.declared.Counted.{Counted}
-use Rattle.inventory.specs.declared.Counted.TheVariants as counted
+use Rattle.std.specs.Prelude.{Ok, Err}
 use Rattle.recovery.specs.declared.Answer.{Answer}
 use Rattle.recovery.specs.declared.Answer.TheVariants as answer
 use Rattle.inventory.proofs.ValidInventories.{few_files}
@@ -31,10 +30,12 @@ use Rattle.inventory.proofs.Calls.{gives_one}
 
 count_one : (r r' : Counted) → count_reply r ≡ count_reply r' → r ≡ r'
 unfolding count_reply
-count_one (counted.Counts f v q) (counted.Counts g w p) e = cc
-count_one (counted.Counts f v q) (counted.Refused k) e = cc
-count_one (counted.Refused k) (counted.Counts f v q) e = cc
-count_one (counted.Refused j) (counted.Refused k) e = cc
+count_one (Ok c) (Ok d) e = let a : c.files ≡ d.files = cc in let b : c.volumes ≡ d.volumes = cc in let q : c.quarantined ≡ d.quarantined = cc in
+    ap Ok (ap₂ (λ (f v : ℕ). record { files = f; volumes = v; quarantined = c.quarantined }) a b
+    ∙ ap (λ (q : ℕ). record { files = d.files; volumes = d.volumes; quarantined = q }) q)
+count_one (Ok c) (Err k) e = cc
+count_one (Err k) (Ok c) e = cc
+count_one (Err j) (Err k) e = cc
 
 pub one_count : OneCount
 one_count s r r' p q = count_one r r' (p ∙ sym q)

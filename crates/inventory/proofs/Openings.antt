@@ -24,7 +24,7 @@ use Rattle.number_sets.specs.Sets.{member, inserted, Words}
 use Rattle.inventory.specs.Model.{opened}
 use Rattle.inventory.specs.Steps.{zeros, nonempty_of, fresh, outcome, refused_opening, open_step}
 use Rattle.inventory.specs.Claim.{size_in, OpeningNumbers}
-use Rattle.inventory.specs.declared.Outcome.{Outcome}
+use Rattle.inventory.specs.Outcome.{Outcome}
 use Rattle.number_sets.proofs.Words.{member-inserted, member-none, words_none, words_inserted}
 use Rattle.inventory.proofs.Outside.{outside_exactly}
 use Rattle.inventory.proofs.Outcomes.{open_out_of_range, open_miscounted, open_too_large, open_accepted}

@@ -1,6 +1,7 @@
 -- What the calls hand back, case by case.
 --
---   files_changed, volumes_changed, both_changed, number_same     adding, removing, quarantine and release
+--   returned                                       what a call returns
+--   files_changed, volumes_changed, not_changed, number_same     adding, removing, quarantine and release
 --   first_fails, first_holds                       a row of tests
 --   open_out_of_range, open_miscounted, open_too_large, open_accepted     opening
 --   nonempty_more, nonempty_same                   the loop of opening
@@ -18,43 +19,40 @@ use Rattle.computed_tests.specs.Numbers.{one_to, all_below}
 use Rattle.computed_tests.proofs.Tests.{all_false, all_true}
 use Rattle.codes.specs.declared.Code.{Code}
 use Rattle.number_sets.specs.Sets.{inserted}
-use Rattle.inventory.specs.Steps.{change_number, unless_refused}
+use Rattle.std.specs.Prelude.{Result, Ok, Err}
+use Rattle.inventory.specs.Steps.{change_number, or_refusal}
 use Rattle.inventory.specs.Steps.{if_inventory, outcome, accepted, with_files, with_volumes, fresh, refused_opening, nonempty_of, open_step}
 use Rattle.inventory.specs.declared.Inventory.{Inventory}
-use Rattle.inventory.specs.declared.Outcome.{Outcome}
+use Rattle.inventory.specs.Outcome.{Outcome}
 
 -- ---- adding, removing, quarantine and release
 
--- a call that changes one of the sets, the files or the volumes, unless it is refused
-module _ (s : Inventory) (ws now changed : List ℕ) (k number : ℕ) (is : changed ≡ ws) (same : k ≡ number) where
-  set-changed : (put : List ℕ → Inventory) (set : List ℕ) → put set ≡ s → now ≡ unless_refused k changed set
-      → outcome (put now) k ≡ accepted number (put ws) s
-  set-changed put set own e =
-      ap (λ (b : List ℕ). outcome (put b) k) (e ∙ ap (λ (b : List ℕ). unless_refused k b set) is)
-      ∙ go (eqb k 0) ∙ ap (λ (k : ℕ). accepted k (put ws) s) same
+abbrev pub returned : Outcome → Result Inventory ℕ
+returned o = or_refusal o.next o.number
+
+-- what a change returns after the test of its number k: the inventory changed, or the refusal
+module _ (s : Inventory) (k number : ℕ) (same : k ≡ number) where
+  pub changed : (t : Inventory) → Ok tt ≡ or_refusal (tt {0}) k → Ok t ≡ returned (accepted number t s)
+  changed t h = go (eqb k 0) h ∙ ap (λ (k : ℕ). returned (accepted k t s)) same
     where
-      go : (b : Bool) → outcome (put (cond b ws set)) k ≡ outcome (cond b (put ws) s) k
-      go true = refl
-      go false = ap (λ (x : Inventory). outcome x k) own
+      go : (b : Bool) → Ok tt ≡ cond b (Ok (tt {0})) (Err k) → Ok t ≡ cond b (Ok (cond b t s)) (Err k)
+      go true h = refl
+      go false h = absurd (cc)
 
-  pub files_changed : now ≡ unless_refused k changed s.files → outcome (with_files s now) k ≡ accepted number (with_files s ws) s
-  files_changed = set-changed (with_files s) s.files refl
+  pub files_changed : {ws now : List ℕ} → now ≡ ws → Ok tt ≡ or_refusal (tt {0}) k
+      → Ok (with_files s now) ≡ returned (accepted number (with_files s ws) s)
+  files_changed {ws} e h = ap (λ (ws : List ℕ). Ok (with_files s ws)) e ∙ changed (with_files s ws) h
 
-  pub volumes_changed : now ≡ unless_refused k changed s.volumes
-      → outcome (with_volumes s now s.quarantined) k ≡ accepted number (with_volumes s ws s.quarantined) s
-  volumes_changed = set-changed (λ ws. with_volumes s ws s.quarantined) s.volumes refl
+  pub volumes_changed : {ws now qs aside : List ℕ} → now ≡ ws → aside ≡ qs → Ok tt ≡ or_refusal (tt {0}) k
+      → Ok (with_volumes s now aside) ≡ returned (accepted number (with_volumes s ws qs) s)
+  volumes_changed {ws} {qs = qs} e f h = ap₂ (λ (ws qs : List ℕ). Ok (with_volumes s ws qs)) e f ∙ changed (with_volumes s ws qs) h
 
-  -- a call that changes both sets of volumes, unless it is refused
-  pub both_changed : {qs aside changed' : List ℕ} → changed' ≡ qs → now ≡ unless_refused k changed s.volumes
-      → aside ≡ unless_refused k changed' s.quarantined → outcome (with_volumes s now aside) k ≡ accepted number (with_volumes s ws qs) s
-  both_changed {qs} is' e f =
-      ap₂ (λ (b c : List ℕ). outcome (with_volumes s b c) k) (e ∙ ap (λ (b : List ℕ). unless_refused k b s.volumes) is)
-      (f ∙ ap (λ (b : List ℕ). unless_refused k b s.quarantined) is')
-      ∙ go (eqb k 0) ∙ ap (λ (k : ℕ). accepted k (with_volumes s ws qs) s) same
+  pub not_changed : (t : Inventory) (e : ℕ) → Err e ≡ or_refusal (tt {0}) k → Err e ≡ returned (accepted number t s)
+  not_changed t e h = go (eqb k 0) h ∙ ap (λ (k : ℕ). returned (accepted k t s)) same
     where
-      go : (b : Bool) → outcome (with_volumes s (cond b ws s.volumes) (cond b qs s.quarantined)) k ≡ outcome (cond b (with_volumes s ws qs) s) k
-      go true = refl
-      go false = refl
+      go : (b : Bool) → Err e ≡ cond b (Ok (tt {0})) (Err k) → Err e ≡ cond b (Ok (cond b t s)) (Err k)
+      go true h = absurd (cc)
+      go false h = cc
 
 -- the tests of the code are those of the step
 pub number_same : (s : Inventory) {a a' b b' c c' d d' : Bool} → a ≡ a' → b ≡ b' → c ≡ c' → d ≡ d'

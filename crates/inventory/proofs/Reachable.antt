@@ -27,7 +27,7 @@ use Rattle.inventory.specs.Steps.{is_inventory, nonempty_of, fresh, outcome, ope
 use Rattle.inventory.specs.Query.{state_of}
 use Rattle.inventory.specs.Claim.{TellsExactly, size_in, Step, Run, Given, ExactlyGivenFor, ExactlyGiven}
 use Rattle.inventory.specs.declared.Inventory.{Inventory}
-use Rattle.inventory.specs.declared.Outcome.{Outcome}
+use Rattle.inventory.specs.Outcome.{Outcome}
 use Rattle.number_sets.proofs.Words.{member_above, words_same, words_none, words_inserted, words_removed}
 use Rattle.inventory.proofs.Outcomes.{open_accepted}
 use Rattle.number_sets.proofs.Ranges.{within_bits}

@@ -22,11 +22,10 @@ use Rattle.recovery.specs.Recoverable.{State, RecoverableNow}
 use Rattle.inventory.specs.Model.{queried, opened, after, Gives, GivesQuery}
 use Rattle.inventory.specs.Steps.{is_inventory, answer_number}
 use Rattle.inventory.specs.Query.{state_of, Queried}
-use Rattle.inventory.specs.RecoverableFiles.{RecoverableSet}
+use Rattle.inventory.specs.RecoverableFiles.{RecoverableFiles, RecoverableSet}
 use Rattle.inventory.specs.Claim.{OneSet, RecoverableAfter, RecoverableAsQueried, size_in}
 use Rattle.inventory.specs.declared.Inventory.{Inventory}
 use Rattle.recovery.specs.declared.Answer.{Answer}
-use Rattle.inventory.specs.declared.recoverable.RecoverableFiles.{RecoverableFiles}
 use Rattle.inventory.proofs.ModelSets.{tests_same}
 use Rattle.inventory.proofs.Representation.{Represents}
 use Rattle.inventory.proofs.Determined.{some_size, some_matches}

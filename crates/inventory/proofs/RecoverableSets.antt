@@ -15,9 +15,8 @@ use Rattle.number_sets.proofs.Words.{words_none}
 use Rattle.recovery.specs.Answers.{Gathered}
 use Rattle.recovery.proofs.GatheredLaws.{gathered_exactly, set_words, gathered_there}
 use Rattle.inventory.specs.Steps.{is_inventory}
-use Rattle.inventory.specs.RecoverableFiles.{RecoverableSet}
+use Rattle.inventory.specs.RecoverableFiles.{RecoverableFiles, RecoverableSet}
 use Rattle.inventory.specs.declared.Inventory.{Inventory}
-use Rattle.inventory.specs.declared.recoverable.RecoverableFiles.{RecoverableFiles}
 use Rattle.number_sets.proofs.Ranges.{within_bits}
 use Rattle.inventory.proofs.ValidInventories.{few_files, nonempty_valid}
 

@@ -14,7 +14,7 @@ use Rattle.inventory.specs.Model.{Change, Call, change, count, query, Reply, rep
 use Rattle.inventory.specs.Steps.{is_inventory, if_inventory, zeros, outcome, change_step, count_step}
 use Rattle.inventory.specs.Claim.{room_of, Step, OthersRefused, ZerosRefused}
 use Rattle.inventory.specs.declared.Inventory.{Inventory}
-use Rattle.inventory.specs.declared.Outcome.{Outcome}
+use Rattle.inventory.specs.Outcome.{Outcome}
 
 module _ (s : Inventory) (e : is_inventory s ≡ false) where
   pub change_refused : (c : Change) (k : ℕ) → change_step c s k ≡ outcome s 10

@@ -68,13 +68,11 @@ use Rattle.refusals.specs.Order.{First}
 use Rattle.recovery.specs.Recoverable.{State, is_volume, IsContents, Recoverable, RecoverableNow, place, present, ComeFrom}
 use Rattle.inventory.specs.Model.{Call, change, count, query, Reply, reply, numbered, counts, queried, opened, after, GivesAll}
 use Rattle.inventory.specs.Model.{Change, add_file, remove_file, add_volume, remove_volume, quarantine, release}
-use Rattle.inventory.specs.Steps.{is_inventory, zeros, open_step, change_step, count_reply, count_step, answer_number}
+use Rattle.inventory.specs.Steps.{is_inventory, zeros, open_step, change_step, Counted, count_reply, count_step, answer_number}
 use Rattle.inventory.specs.Query.{Queried}
-use Rattle.inventory.specs.RecoverableFiles.{RecoverableSet}
+use Rattle.inventory.specs.RecoverableFiles.{RecoverableFiles, RecoverableSet}
 use Rattle.inventory.specs.declared.Inventory.{Inventory}
-use Rattle.inventory.specs.declared.Counted.{Counted}
 use Rattle.recovery.specs.declared.Answer.{Answer}
-use Rattle.inventory.specs.declared.recoverable.RecoverableFiles.{RecoverableFiles}
 
 -- ---- "a new sheet told what is in hand and what is set aside": "told only what is in hand now, in whatever order"; "Its tally and its new sheet
 -- have the code of the opening"

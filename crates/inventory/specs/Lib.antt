@@ -1,4 +1,5 @@
 pub mod Model
+pub mod Outcome
 pub mod Steps
 pub mod Query
 pub mod RecoverableFiles

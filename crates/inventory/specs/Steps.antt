@@ -2,6 +2,7 @@
 --
 --   is_inventory s        whether opening and accepted calls could have given s
 --   if_inventory s k      the number k, or 10 where s is no inventory
+--   or_refusal a k        what a call returns whose number is k: a, or the refusal k
 --   zeros                the inventory of zeros
 --   nonempty_of sizes k   the files among the first k that are not empty
 --   fresh c n sizes      an inventory of n files of these sizes, nothing present, for volumes of the code c
@@ -20,11 +21,12 @@
 --   unless_refused k a b  a, or b where the number k is a refusal's
 --   accepted k s₁ s      the outcome of a call with the number k: s₁, or s where it is refused
 --   change_step c s k     the change c of number k: adding, removing, quarantine and release
+--   Counted               what a count returns
 --   count_reply           the document's number and values for each case of a count
 --   count_step            counting
 --   answer_number         the document's number for each case of an answer
 -- Assumes nothing.
-use Rattle.std.specs.Prelude.{Bool, false, not, cond, ◌&&◌, ◌||◌, List, ℕ, zero, suc, ◌-◌, leb, eqb, length, get_or, replicate}
+use Rattle.std.specs.Prelude.{Bool, false, not, cond, ◌&&◌, ◌||◌, List, ℕ, zero, suc, ◌-◌, leb, eqb, length, get_or, replicate, Result, Ok, Err}
 use Rattle.computed_tests.specs.Numbers.{one_to, all_below}
 use Rattle.refusals.specs.Limits.{max_file_size, max_files}
 use Rattle.parity.specs.Parity.{is_file}
@@ -36,9 +38,8 @@ use Rattle.recovery.specs.Recoverable.{is_volume}
 use Rattle.inventory.specs.Model.{Change, add_file, remove_file, add_volume, remove_volume, quarantine, release}
 use Rattle.inventory.specs.Model.{Reply, numbered, counts}
 use Rattle.inventory.specs.declared.Inventory.{Inventory}
-use Rattle.inventory.specs.declared.Outcome.{Outcome}
-use Rattle.inventory.specs.declared.Counted.{Counted}
-use Rattle.inventory.specs.declared.Counted.TheVariants as counted
+use Rattle.inventory.specs.Outcome.{Outcome}
+use Rattle.inventory.specs.declared.Counts.{Counts}
 use Rattle.recovery.specs.declared.Answer.{Answer}
 use Rattle.recovery.specs.declared.Answer.TheVariants as answer
 
@@ -57,6 +58,10 @@ is_inventory s =
 -- "Every call refuses with 10, first of all, a sheet that opening and accepted calls could not have given."
 unfoldable pub if_inventory : Inventory → ℕ → ℕ
 if_inventory s k = cond (is_inventory s) k 10
+
+-- what a call returns whose number is k: the value, or the refusal
+abbrev pub or_refusal : {A : Type 0} → A → ℕ → Result A ℕ
+or_refusal a k = cond (eqb k 0) (Ok a) (Err k)
 
 -- ---- opening
 
@@ -174,9 +179,12 @@ change_step c s k =
 
 -- ---- counting
 
+abbrev pub Counted : Type 0
+Counted = Result Counts ℕ
+
 unfoldable pub count_reply : Counted → Reply
-count_reply (counted.Counts files volumes quarantined) = counts files volumes quarantined
-count_reply (counted.Refused number) = numbered number
+count_reply (Ok c) = counts c.files c.volumes c.quarantined
+count_reply (Err number) = numbered number
 
 unfoldable pub count_step : Inventory → Reply
 count_step s =

@@ -1,11 +1,13 @@
 // Whether a missing file comes back, and by which weights (document 01, "The sheet": ask).
+ghost use Rattle.std.specs.Prelude.{◌≡◌, true};
 ghost use Rattle.parity.specs.Coefficient.{rule_of};
 ghost use Rattle.inventory.specs.Query.{Queried};
+ghost use Rattle.inventory.specs.Steps.{is_inventory};
 
 use crate::Inventory;
 use crate::ranges::is_inventory;
 use number_sets::one_to;
-use recovery::Answer;
+use recovery::{Answer, Holdings};
 use refusals::OUT_OF_RANGE;
 
 impl Inventory {
@@ -14,24 +16,31 @@ impl Inventory {
     pub fn query(self, file: u64, out: &mut [u8]) -> Answer
         ensures { Queried rule_of self file out.old result out.new }
     {
-        if !is_inventory(self) {
+        if !is_inventory(self) || !one_to(self.n, file) {
             return Answer::Refused(OUT_OF_RANGE);
         }
-        if !one_to(self.n, file) {
-            return Answer::Refused(OUT_OF_RANGE);
-        }
-        let files = self.files;
-        let volumes = self.volumes;
-        let nonempty = self.nonempty;
-        let code = self.code;
-        recovery::query(
-            code,
-            self.n as u8,
+        self.holdings().query((file - 1) as u8, out)
+    }
+
+    // What is present, of at most 254 files.
+    pub(crate) fn holdings(self) -> Holdings
+        requires { is_inventory self ≡ true }
+        ensures { result ≡ record { code = self.code; n = self.n; files = self.files; volumes = self.volumes; nonempty = self.nonempty } }
+    {
+        let Inventory {
+            n,
             files,
             volumes,
             nonempty,
-            (file - 1) as u8,
-            out,
-        )
+            code,
+            ..
+        } = self;
+        Holdings {
+            code,
+            n: n as u8,
+            files,
+            volumes,
+            nonempty,
+        }
     }
 }

@@ -11,28 +11,17 @@ use refusals::MAX_FILES;
 pub fn is_inventory(s: Inventory) -> bool
     ensures { result ≡ is_inventory s }
 {
-    let n = s.n;
-    if !one_to(MAX_FILES, n) {
-        return false;
-    }
-    let most = 255 - n;
-    let files = s.files;
-    let nonempty = s.nonempty;
-    let volumes = s.volumes;
-    let quarantined = s.quarantined;
-    within(n, files)
-        & within(n, nonempty)
-        & within(most, volumes)
-        & within(most, quarantined)
-        & apart(volumes, quarantined)
+    one_to(MAX_FILES, s.n)
+        && within(s.n, s.files)
+        && within(s.n, s.nonempty)
+        && within(255 - s.n, s.volumes)
+        && within(255 - s.n, s.quarantined)
+        && apart(s.volumes, s.quarantined)
 }
 
 // Whether `volume` is the number of a volume of n files: 1 to 255 - n.
 pub fn is_volume(n: u64, volume: u64) -> bool
     ensures { result ≡ is_volume n volume }
 {
-    if 255 < n {
-        return false;
-    }
-    one_to(255 - n, volume)
+    n <= 255 && one_to(255 - n, volume)
 }

@@ -1,16 +1,19 @@
 -- `inventory::Inventory::add_volume` meets its contract.
 -- Assumes nothing.
-use mathlib.Core.Path.{ap, ◌∙◌}
+use mathlib.Core.Path.{refl, ap, ◌∙◌}
 use mathlib.Core.Bool.{not}
+use Rattle.std.proofs.lemmas.Result.{err_from_is_err_and}
+use Rattle.codes.proofs.CodeLaws.{derived_same}
 use Rattle.inventory.specs.Steps.{in_range, of_other_code, while_quarantined, already}
 use Rattle.inventory.specs.Steps.{after_change, change_step}
-use Rattle.inventory.proofs.Outcomes.{volumes_changed, number_same}
+use Rattle.inventory.proofs.Outcomes.{volumes_changed, not_changed, number_same}
 use Rattle.inventory.proofs.Inventory.add_volume.Goals as goal
+
+pub returns-in_err-permitted : goal.returns-in_err-permitted
+unfolding change_step in_range of_other_code while_quarantined already after_change
+returns-in_err-permitted c = let p = err_from_is_err_and c.from_residual.result c.from_residual.ensures.1 in
+    rw (p.1, p.2) (not_changed _ _ _ (number_same _ c.is_volume-ranged.ensures (c.ne-other.ensures ∙ ap not (derived_same _ _)) c.has-aside.ensures c.has.ensures) _ _ c.in_err-permitted.ensures)
 
 pub returns : goal.returns
 unfolding change_step in_range of_other_code while_quarantined already after_change
-returns c = volumes_changed _ _ _ _ _ _ c.insert.ensures
-    (c.change_number-number.ensures
-    ∙ number_same _ c.is_volume-ranged.ensures (ap not c.same-other.ensures)
-    c.has-aside.ensures c.has.ensures)
-    c.unless_refused-now.ensures
+returns c = volumes_changed _ _ _ (number_same _ c.is_volume-ranged.ensures (c.ne-other.ensures ∙ ap not (derived_same _ _)) c.has-aside.ensures c.has.ensures) c.insert-self.ensures refl c.in_ok-permitted.ensures

@@ -1,13 +1,10 @@
 -- `inventory::Inventory::open` meets its contract.
 -- Assumes nothing.
 use mathlib.Core.Path.{◌≡◌}
-use Prim.Native.Nat.{ℕ, ◌≤◌, ◌<◌, ◌-◌}
-use lib.ListN.{length, get_or}
+use Prim.Native.Nat.{ℕ, ◌≤◌, ◌<◌}
+use lib.ListN.{get_or}
 use Rattle.inventory.specs.Steps.{nonempty_of}
 use Rattle.inventory.proofs.Inventory.open.Given as goal
 
 abbrev pub invariant-loop-k : goal.invariant-loop-k
-invariant-loop-k l = (l.k ≤ length l.sizes) × (l.nonempty ≡ nonempty_of l.sizes l.k) × ((j : ℕ) → j < l.k → get_or l.sizes j 0 ≤ 16777216)
-
-abbrev pub decreases-loop-k : goal.decreases-loop-k
-decreases-loop-k l = length l.sizes - l.k
+invariant-loop-k l = (l.nonempty ≡ nonempty_of l.sizes l.k) × ((j : ℕ) → j < l.k → get_or l.sizes j 0 ≤ 16777216)

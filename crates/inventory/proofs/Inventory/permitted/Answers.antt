@@ -1,17 +1,17 @@
--- `inventory::change_number` meets its contract.
+-- `inventory::Inventory::permitted` meets its contract.
 -- Assumes nothing.
 use mathlib.Core.Path.{sym, ◌∙◌}
-use Rattle.inventory.specs.Steps.{change_number}
-use Rattle.inventory.specs.Steps.{if_inventory}
-use Rattle.inventory.proofs.change_number.Goals as goal
+use Rattle.inventory.specs.Steps.{change_number, if_inventory}
+use Rattle.inventory.proofs.Inventory.permitted.Goals as goal
+use Rattle.inventory.proofs.Inventory.permitted.Goals.{then-not-is_inventory-via-then-not-is_inventory, then-not-is_inventory-via-else-not-is_inventory+then-not-in_range}
 
 pub returns-then-not-is_inventory : goal.returns-then-not-is_inventory
-unfolding if_inventory
-returns-then-not-is_inventory c = simp (sym c.is_inventory.ensures ∙ c.if-not-is_inventory.true)
-
-pub returns-then-not-in_range : goal.returns-then-not-in_range
 unfolding if_inventory change_number
-returns-then-not-in_range c = simp (sym c.is_inventory.ensures ∙ c.if-not-is_inventory.false, c.if-not-in_range.true)
+returns-then-not-is_inventory c = elim c.then-not-is_inventory.branch [
+  | then-not-is_inventory-via-then-not-is_inventory w ↦ simp (sym c.is_inventory.ensures ∙ w.if-not-is_inventory.true)
+  | then-not-is_inventory-via-else-not-is_inventory+then-not-in_range w ↦
+      simp (sym c.is_inventory.ensures ∙ w.if-not-is_inventory.false, w.if-not-in_range.true)
+]
 
 pub returns-then-other : goal.returns-then-other
 unfolding if_inventory change_number
