@@ -4,55 +4,30 @@
 --   left_within, taken-within          the same within a width
 --   swept_same                         the sweep by two rows that agree
 --   row_dependent, row_independent     the two cases, for a row whose product and pivot were worked out
---   pivot_has_inverse                  the inverse of a pivot is not refused
 -- Assumes nothing.
-use Rattle.std.specs.Prelude.{Ok, Err}
 use mathlib.Core.Path.{◌≡◌, refl, sym, ap, ap₂, ◌∙◌, subst}
-use mathlib.Core.Bool.{Bool, true, false, cond, ◌&&◌, and-false}
+use mathlib.Core.Bool.{Bool, cond, ◌&&◌, and-false}
 use mathlib.Core.List.{List}
-use Prim.Native.Nat.{ℕ, ◌<◌, ◌≤◌, ◌+◌, ◌/◌, ◌%◌}
-use native.Mathlib.Nat.{zero-add}
+use Prim.Native.Nat.{ℕ, ◌<◌, ◌≤◌, ◌/◌, ◌%◌}
+use native.Mathlib.Nat.{pos_of_ne-zero}
 use native.Mathlib.Omega.{arith}
 use native.Mathlib.Decide.{ℕ_discrete, dec_lt}
 use lib.Bits.{bit_xor, xor_zero_r}
 use lib.Dec.{eqb, ltb}
-use lib.ListN.{length, get_or, set}
-use lib.Seq.{get_or-set_same, get_or-set_other}
+use lib.ListN.{length, get_or, set, take}
+use lib.Seq.{get_or-set_same, get_or-set_other, get_or-take, length-take-le}
 use borrow.Author.Tests.{eq-eqb, ne_eqb, lt-ltb, le-ltb}
 use Rattle.computed_tests.proofs.Lists.{list_below-same}
-use Rattle.gf256.specs.Answer.{inverse_answer}
-use Rattle.gf256.specs.Answer.{ByteAnswer}
 use Rattle.gf256.specs.Field.{product, inverse}
+use Rattle.gf256.specs.Tables.{IsTables, power_by}
+use Rattle.gf256.specs.declared.tables.Tables.{Tables}
+use Rattle.gf256.proofs.Inverses.{inverse-power}
+use Rattle.gf256.proofs.TableLaws.{power_by_tables}
 use Rattle.elimination.specs.Reduction.{entry, row_product, pivot_of, swept_entry, column_taken, row_added}
 use Rattle.elimination.specs.Reduction.{row_product_within, pivot_within, swept_within, column_taken_within, row_added_within}
-use Rattle.elimination.proofs.Pivots.{IsPivot, pivot_is, pivot_same}
-
--- the answer of a call for the inverse of a
-answered : (a s : ℕ) → inverse_answer a ≡ Ok s → s ≡ inverse a
-unfolding inverse_answer
-answered a s e = elim (ℕ_discrete a 0) [
-  | yes z ↦ absurd (differ (sym (ap choice (eq-eqb a 0 z)) ∙ e))
-  | no z ↦ same (sym (ap choice (ne_eqb a 0 z)) ∙ e)
-]
-  where
-    choice : Bool → ByteAnswer
-    choice b = cond b (Err 10) (Ok (inverse a))
-
-    differ : choice true ≡ Ok s → ⊥
-    differ h = let z : ◌≡◌ {A = ℕ} 0 1 = cc in omega arith
-
-    same : choice false ≡ Ok s → s ≡ inverse a
-    same h = cc
-
-refused : (a n : ℕ) → inverse_answer a ≡ Err n → a ≡ 0
-unfolding inverse_answer
-refused a n e = elim (ℕ_discrete a 0) [
-  | yes z ↦ z
-  | no z ↦ absurd (differ (sym (ap (λ (b : Bool). cond b (Err 10) (Ok (inverse a))) (ne_eqb a 0 z)) ∙ e))
-]
-  where
-    differ : Ok (inverse a) ≡ Err n → ⊥
-    differ h = let z : ◌≡◌ {A = ℕ} 0 1 = cc in omega arith
+use Rattle.elimination.proofs.Pivots.{IsPivot, pivot_is, without_owner, pivot_found, pivot_same}
+use Rattle.std.specs.Prelude.{Option, Some, None, MatchOption}
+use Rattle.std.specs.List.{zip, position}
 
 -- ---- the two cases
 
@@ -96,33 +71,51 @@ swept_same w y z k scale m h = list_below-same 65536 _ _ (λ p l. inside (p / 25
       | no q ↦ simp (le-ltb j w (omega arith), and-false) refl
     ]
 
-module _ (w : ℕ) (u m owners y : List ℕ) (k : ℕ) (hw : w ≤ 256) (long : length y ≡ 256)
-    (at : (j : ℕ) → j < w → get_or y j 0 ≡ row_product_within w u m j) (hk : k ≡ pivot_within w (λ j. get_or y (0 + j) 0) owners) where
-  -- y is the row's product with the matrix
-  same_pivot : k ≡ pivot_within w (row_product_within w u m) owners
+-- y is the row's product with the matrix, of which the first w entries were searched
+module _ (w : ℕ) (u : List ℕ) (number : ℕ) (m owners y : List ℕ) (hw : w ≤ 256) (all : length owners ≡ 256) (long : length y ≡ 256)
+    (at : (j : ℕ) → j < w → get_or y j 0 ≡ row_product_within w u m j) where
+  front : length (take w y) ≡ w
+  front = length-take-le w y (omega arith)
+
+  same_pivot : pivot_within (length (take w y)) (λ j. get_or (take w y) j 0) owners ≡ pivot_within w (row_product_within w u m) owners
   same_pivot =
-      hk ∙ pivot_same w (λ j. get_or y (0 + j) 0) (row_product_within w u m) owners (λ j l. ap (λ (i : ℕ). get_or y i 0) (zero-add j) ∙ at j l)
+      ap (λ (n : ℕ). pivot_within n (λ j. get_or (take w y) j 0) owners) front
+      ∙ pivot_same w (λ j. get_or (take w y) j 0) (row_product_within w u m) owners (λ j l. get_or-take w y j 0 (omega arith) ∙ at j l)
 
-  pub row_dependent : (number : ℕ) → w ≤ k → (m, owners) ≡ row_added_within w u number m owners
-  row_dependent number h = sym (left_within w u number m owners (subst (λ (i : ℕ). w ≤ i) same_pivot h))
+  found : (r : Option ℕ) → r ≡ position without_owner (zip (take w y) owners) → MatchOption r (w ≤ pivot_in w u number m owners) (λ k. (k < w) × (k ≡ pivot_in w u number m owners))
+  found r e = subst (λ (n : ℕ). MatchOption r (n ≤ pivot_in w u number m owners) (λ k. (k < n) × (k ≡ pivot_in w u number m owners))) front
+      (subst (λ (p : ℕ). MatchOption r (length (take w y) ≤ p) (λ k. (k < length (take w y)) × (k ≡ p))) same_pivot
+      (pivot_found (take w y) owners (omega (arith, front, all)) r e))
 
-  pub pivot_has_inverse : (n : ℕ) → k < w → inverse_answer (get_or y k 0) ≡ Err n → ⊥
-  pivot_has_inverse n l e =
-      let P = subst (IsPivot w (row_product_within w u m) owners) (sym same_pivot) (pivot_is w (row_product_within w u m) owners) in
-      (P.found l).1 (sym (at k l) ∙ refused (get_or y k 0) n e)
+  pub row_dependent : None ≡ position without_owner (zip (take w y) owners) → (m, owners) ≡ row_added_within w u number m owners
+  row_dependent e = sym (left_within w u number m owners (found None e))
 
-  pub row_independent : (number scale : ℕ) (m' : List ℕ) → k < w → inverse_answer (get_or y k 0) ≡ Ok scale
+  pub row_independent : (k : ℕ) (t : Tables) (scale : ℕ) (m' : List ℕ) → IsTables t → get_or y k 0 < 256
+      → Some k ≡ position without_owner (zip (take w y) owners)
+      → scale ≡ power_by t.powers t.exponents (get_or y k 0) 254
       → m' ≡ swept_within w (λ j. get_or (set y k (bit_xor (get_or y k 0) 1)) j 0) k scale m
       → (m', set owners k number) ≡ row_added_within w u number m owners
   unfolding column_taken_within
-  row_independent number scale m' lk e S =
+  row_independent k t scale m' is hb hk e S =
       ap (λ (z : List ℕ). (z, set owners k number))
       (S ∙ swept_same w _ _ k scale m changed
       ∙ ap (λ (s : ℕ). swept_within w (λ j. bit_xor (row_product_within w u m j) (cond (eqb k j) 1 0)) k s m)
-      (answered (get_or y k 0) scale e ∙ ap inverse (at k lk)))
-      ∙ ap (column_taken_within w u number m owners) same_pivot
-      ∙ sym (taken-within w u number m owners (subst (λ (i : ℕ). i < w) same_pivot lk))
+      (e ∙ power_by_tables t is (get_or y k 0) 254 hb ∙ sym (inverse-power (get_or y k 0) hb positive) ∙ ap inverse (at k lk)))
+      ∙ ap (column_taken_within w u number m owners) here
+      ∙ sym (taken-within w u number m owners (subst (λ (i : ℕ). i < w) here lk))
     where
+      lk : k < w
+      lk = (found (Some k) hk).0
+
+      here : k ≡ pivot_in w u number m owners
+      here = (found (Some k) hk).1
+
+      P : IsPivot w (row_product_within w u m) owners k
+      P = subst (IsPivot w (row_product_within w u m) owners) (sym here) (pivot_is w (row_product_within w u m) owners)
+
+      positive : 0 < get_or y k 0
+      positive = let apart = (P.found lk).1 in pos_of_ne-zero (λ z. apart (sym (at k lk) ∙ z))
+
       changed : (j : ℕ) → j < w → get_or (set y k (bit_xor (get_or y k 0) 1)) j 0 ≡ bit_xor (row_product_within w u m j) (cond (eqb k j) 1 0)
       changed j l = elim (ℕ_discrete j k) [
         | yes p ↦

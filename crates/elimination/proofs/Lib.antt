@@ -1,5 +1,5 @@
 pub mod Sums
-pub mod Elimination
+pub mod ByColumns
 pub mod Solutions
 mod Pivots
 mod Steps

@@ -36,7 +36,7 @@ use Rattle.elimination.specs.Reduction.{entry, with_diagonal, row_product, pivot
 use Rattle.elimination.proofs.Pivots.{IsPivot, pivot_is, pivot_whole, pivot_none, pivot_some}
 use Rattle.elimination.proofs.AddedRow.{row_left, row-taken}
 use Rattle.elimination.proofs.Sums as S
-use Rattle.elimination.proofs.Elimination.{row_times, Reduced, row_weight, reduced_start, reduced_dependent, reduced_independent}
+use Rattle.elimination.proofs.ByColumns.{row_times, Reduced, row_weight, reduced_start, reduced_dependent, reduced_independent}
 use Rattle.elimination.proofs.Solutions.{solution, kernel_vector}
 use Rattle.elimination.specs.ByteField.{Byte, byte_eq, to_byte, byte_field}
 use Rattle.elimination.proofs.ByteField.{to_byte_value, to_byte_of_value, sum_value, δ-value}

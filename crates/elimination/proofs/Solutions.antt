@@ -25,8 +25,8 @@ use borrow.Author.Tests.{eq-eqb, ne_eqb}
 use Rattle.elimination.specs.Field.{Field, sum, δ}
 use Rattle.elimination.specs.Matrix.{Dependent, IsSolution, IsKernelVector}
 use Rattle.elimination.proofs.Sums as S
-use Rattle.elimination.proofs.Elimination as E
-use Rattle.elimination.proofs.Elimination.{row_times, Reduced, row_weight}
+use Rattle.elimination.proofs.ByColumns as E
+use Rattle.elimination.proofs.ByColumns.{row_times, Reduced, row_weight}
 
 -- a number below n with a decided property, or none
 pub search : (P : ℕ → Type 0) → ((k : ℕ) → Dec (P k)) → (n : ℕ)

@@ -2,13 +2,12 @@
 --
 --   diagonal_more              the diagonal
 --   product_more               a row times the matrix within a width w
---   pivot_more                 the search for a pivot
 --   Swept w n y k scale m m'   the first n rows of m' are those of m swept, as far as w, the others those of m
 --   swept_none, swept_more     the sweep, before its first row and one row further
 --   swept_all                  after its last
 --   weight_more                the weights
 -- Assumes nothing.
-use mathlib.Core.Path.{◌≡◌, refl, sym, ap, ap₂, ◌∙◌}
+use mathlib.Core.Path.{◌≡◌, refl, sym, ap, ap₂, ◌∙◌, subst}
 use mathlib.Core.Bool.{Bool, cond, ◌&&◌, and-false}
 use mathlib.Core.List.{List, ◌++◌}
 use Prim.Native.Nat.{ℕ, ◌<◌, ◌≤◌, ◌+◌, ◌*◌, ◌-◌, ◌/◌, ◌%◌}
@@ -25,9 +24,12 @@ use borrow.Rule.Slice.PartMut.{put_mid, same_len_mid, take_put, drop_put}
 use Rattle.computed_tests.proofs.Lists.{list_below_is}
 use Rattle.gf256.specs.Polynomial.{sum_below}
 use Rattle.gf256.specs.Field.{product}
-use Rattle.gf256.specs.Tables.{powers_of_2, IsExponents, product_by}
+use Rattle.gf256.specs.Tables.{IsTables, product_by}
+use Rattle.gf256.specs.declared.tables.Tables.{Tables}
+use Rattle.gf256.proofs.Products.{product_byte}
 use Rattle.gf256.proofs.TableLaws.{product_by_tables}
-use Rattle.mul_add.specs.MulAdd.{mul_add}
+use Rattle.mul_add.specs.MulAdd.{mul_add, mul_add_by}
+use Rattle.mul_add.proofs.Multiples.{by_tables}
 use Rattle.mul_add.proofs.MulAdds.{length-mul_add, mul_add_at}
 use Rattle.elimination.specs.Reduction.{entry, with_diagonal, swept_entry, swept_within}
 
@@ -43,24 +45,16 @@ diagonal_more i m m' e = ap (λ (l : List ℕ). set l (i * 256 + i) 1) e ∙ ap 
 
 -- ---- a row times the matrix
 
-pub product_more : (w : ℕ) (u m sum : List ℕ) (i : ℕ) → w ≤ 256 → length sum ≡ 256
+pub product_more : (t : Tables) → IsTables t → (w : ℕ) (u m sum : List ℕ) (i : ℕ) → w ≤ 256 → length sum ≡ 256 → get_or u i 0 < 256
     → ((j : ℕ) → j < w → get_or sum j 0 ≡ sum_below i (λ i. product (get_or u i 0) (entry m i j)))
-    → (j : ℕ) → j < w → get_or (mul_add (get_or u i 0) (take (i * 256 + w - i * 256) (drop (i * 256) m)) sum) j 0
-    ≡ sum_below (i + 1) (λ i. product (get_or u i 0) (entry m i j))
+    → (sum' : List ℕ) → sum' ≡ mul_add_by t.powers t.exponents (get_or u i 0) (take (i * 256 + w - i * 256) (drop (i * 256) m)) sum
+    → (j : ℕ) → j < w → get_or sum' j 0 ≡ sum_below (i + 1) (λ i. product (get_or u i 0) (entry m i j))
 unfolding sum_below
-product_more w u m sum i hw e h j l =
-    mul_add_at (get_or u i 0) (take (i * 256 + w - i * 256) (drop (i * 256) m)) sum j (omega arith)
+product_more t is w u m sum i hw e hb h sum' by j l = let row = take (i * 256 + w - i * 256) (drop (i * 256) m) in
+    ap (λ (zs : List ℕ). get_or zs j 0) (by ∙ by_tables t is (get_or u i 0) hb row sum)
+    ∙ mul_add_at (get_or u i 0) row sum j (omega arith)
     ∙ ap₂ bit_xor (h j l) (ap (product (get_or u i 0)) (row_at (i * 256 + w - i * 256) m i j (omega arith)))
     ∙ ap (λ (n : ℕ). sum_below n (λ i. product (get_or u i 0) (entry m i j))) (sym (add-one i))
-
--- ---- the search for a pivot
-
-pub pivot_more : (y : ℕ → ℕ) (owners : List ℕ) (k : ℕ) → ((j : ℕ) → j < k → get_or owners j 0 ≡ 0 → y j ≡ 0)
-    → (get_or owners k 0 ≡ 0 → y k ≡ 0) → (j : ℕ) → j < k + 1 → get_or owners j 0 ≡ 0 → y j ≡ 0
-pivot_more y owners k h e j l o = elim (ℕ_discrete j k) [
-  | yes p ↦ ap y p ∙ e (ap (λ (i : ℕ). get_or owners i 0) (sym p) ∙ o)
-  | no q ↦ h j (omega arith) o
-]
 
 -- ---- the sweep
 
@@ -90,9 +84,9 @@ swept_none w y k scale m =
 
 -- the multiple v of y added to row r, and the row put back
 module _ (w r : ℕ) (y : List ℕ) (k scale : ℕ) (m m' : List ℕ) (hw : w ≤ 256) (hr : r < w) (hk : k < w) (hm : length m ≡ 65536)
-    (S : Swept w r y k scale m m') (ps es : List ℕ) (hp : ps ≡ powers_of_2) (he : IsExponents es) (hs : scale < 256) (hb : entry m' r k < 256)
-    (v : ℕ) (hv : v ≡ product_by ps es scale (entry m' r k)) (ys : List ℕ)
-    (e : ys ≡ mul_add v y (take (r * 256 + w - r * 256) (drop (r * 256) m'))) where
+    (S : Swept w r y k scale m m') (t : Tables) (is : IsTables t) (hs : scale < 256) (hb : entry m' r k < 256)
+    (v : ℕ) (hv : v ≡ product_by t.powers t.exponents scale (entry m' r k)) (ys : List ℕ)
+    (by : ys ≡ mul_add_by t.powers t.exponents v y (take (r * 256 + w - r * 256) (drop (r * 256) m'))) where
   abbrev from : ℕ
   from = r * 256
 
@@ -110,6 +104,12 @@ module _ (w r : ℕ) (y : List ℕ) (k scale : ℕ) (m m' : List ℕ) (hw : w �
 
   abbrev swept_at : ℕ → ℕ → ℕ
   swept_at i j = swept_entry (λ j. get_or y j 0) k scale m i j
+
+  multiple : product_by t.powers t.exponents scale (entry m' r k) ≡ product scale (entry m' r k)
+  multiple = product_by_tables t is scale (entry m' r k) hs hb
+
+  e : ys ≡ mul_add v y old
+  e = by ∙ by_tables t is v (subst (λ (x : ℕ). x < 256) (sym (hv ∙ multiple)) (product_byte scale (entry m' r k) hs hb)) y old
 
   pub swept_more : Swept w (r + 1) y k scale m (put_mid (r * 256) (r * 256 + w - r * 256) m' ys)
   unfolding swept_entry
@@ -142,7 +142,7 @@ module _ (w r : ℕ) (y : List ℕ) (k scale : ℕ) (m m' : List ℕ) (hw : w �
           ∙ ap (λ (zs : List ℕ). get_or zs j 0) e ∙ mul_add_at v y old j (omega (arith, old_long))
           ∙ ap₂ (λ (x z : ℕ). bit_xor x (product z (get_or y j 0)))
           (get_or-take width (drop from m') j 0 (omega arith) ∙ get_or-drop from m' j 0 ∙ S.rest (from + j) (omega arith))
-          (hv ∙ product_by_tables ps es hp he scale (entry m' r k) hs hb ∙ ap (product scale) (S.rest (from + k) (omega arith)))
+          (hv ∙ multiple ∙ ap (product scale) (S.rest (from + k) (omega arith)))
 
 pub swept_all : (w : ℕ) (y : List ℕ) (k scale : ℕ) (m m' : List ℕ) → length m ≡ 65536 → Swept w w y k scale m m'
     → m' ≡ swept_within w (λ j. get_or y j 0) k scale m
