@@ -1,4 +1,5 @@
 pub mod BackLaws
+pub mod Stores
 pub mod CountPlaces
 mod InventoryLaws
 mod CountLaws

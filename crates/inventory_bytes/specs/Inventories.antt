@@ -7,17 +7,18 @@
 --   inventory_bytes s    the bytes of the inventory s
 --   opened_by c n s      what opening for the code c with the sizes in the bytes s gives
 --   stored_by o out      the number of the outcome o, or 14, and what `out` then holds
+--   stored r out         what a call gives that returns r: the inventory stored, or the number of the refusal
 --   counted_into r out   the number of the reply r to a count, or 14, and what `out` then holds
 -- Assumes nothing.
-use Rattle.std.specs.Prelude.{cond, ◌&&◌, List, [], ◌∷◌, ◌++◌, ℕ, ◌*◌, leb, eqb, length}
+use Rattle.std.specs.Prelude.{cond, ◌&&◌, List, [], ◌∷◌, ◌++◌, ℕ, ◌*◌, leb, eqb, length, Result, Ok, Err}
 use Rattle.lent_bytes.specs.Writing.{written_unless, with_number}
 use Rattle.refusals.specs.Tests.{bare}
 use Rattle.codes.specs.Codes.{is_code, code_of, code_number}
 use Rattle.codes.specs.declared.Code.{Code}
 use Rattle.inventory.specs.Model.{Reply, reply}
-use Rattle.inventory.specs.Steps.{zeros, open_step, refused_opening}
+use Rattle.inventory.specs.Steps.{zeros, outcome, open_step, refused_opening}
 use Rattle.inventory.specs.declared.Inventory.{Inventory}
-use Rattle.inventory.specs.declared.Outcome.{Outcome}
+use Rattle.inventory.specs.Outcome.{Outcome}
 use Rattle.refusals.specs.Limits.{max_files}
 use Rattle.little_endian.specs.Bytes.{le_at, numbers, numbers_at}
 
@@ -47,6 +48,10 @@ opened_by c n s = cond (leb n max_files && eqb (length s) (8 * n)) (open_step c 
 
 unfoldable pub stored_by : Outcome → List ℕ → ℕ × List ℕ
 stored_by o out = with_number (written_unless (bare o.number) (inventory_bytes o.next) out)
+
+unfoldable pub stored : Result Inventory ℕ → List ℕ → ℕ × List ℕ
+stored (Ok s) out = stored_by (outcome s 0) out
+stored (Err number) out = (number, out)
 
 -- the values of a count are numbers of 64 bits
 unfoldable pub counted_into : Reply → List ℕ → ℕ × List ℕ

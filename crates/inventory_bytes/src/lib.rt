@@ -2,12 +2,12 @@
 #![tactic(auto)]
 
 ghost use Rattle.std.specs.Prelude.{◌≡◌, [], ◌∷◌, length};
-ghost use Rattle.inventory.specs.Steps.{open_step, count_reply, answer_number};
+ghost use Rattle.inventory.specs.Steps.{open_step, or_refusal, count_reply, answer_number};
 ghost use Rattle.little_endian.specs.Bytes.{numbers as numbers_of, numbers_at};
-ghost use Rattle.inventory_bytes.specs.Inventories.{inventory_of, inventory_bytes, opened_by, stored_by, counted_into};
+ghost use Rattle.inventory_bytes.specs.Inventories.{inventory_of, inventory_bytes, opened_by, stored, counted_into};
 
-use codes::{Code, code_number, code_of, is_code};
-use inventory::{Answer, Counted, Inventory, Outcome, refused_opening, zeros};
+use codes::Code;
+use inventory::{Answer, Counts, Inventory, zeros};
 use lent_bytes::write;
 use little_endian::{read_numbers, read64, write_numbers};
 use refusals::{MAX_FILES, OUT_OF_RANGE, PRESENT, UNDETERMINED};
@@ -22,23 +22,23 @@ const COUNT_LENGTH: usize = 24;
 const MOST_FILES: usize = MAX_FILES as usize;
 
 // Opens an inventory for volumes of this code, of n files with the sizes in these bytes.
-pub fn opened(code: Code, n: u64, sizes: &[u8]) -> Outcome
-    ensures { result ≡ opened_by code n sizes.now }
+pub fn opened(code: Code, n: u64, sizes: &[u8]) -> Result<Inventory, u32>
+    ensures { let o = opened_by code n sizes.now in result ≡ or_refusal o.next o.number }
 {
     let count = n as usize;
     if MOST_FILES < count {
-        return refused_opening(OUT_OF_RANGE);
+        return Err(OUT_OF_RANGE);
     }
     if sizes.len() != 8 * count {
-        return refused_opening(OUT_OF_RANGE);
+        return Err(OUT_OF_RANGE);
     }
     let mut numbers = [0u64; MOST_FILES];
     opened_by(code, n, sizes, &mut numbers[..count])
 }
 
 // Opens an inventory of n files with as many sizes as are to be read into `numbers`.
-fn opened_by<'a, 'b>(code: Code, n: u64, sizes: &'a [u8], numbers: &'b mut [u64]) -> Outcome
-    ensures { result ≡ open_step code n (numbers_at (length numbers.old) sizes.now 0) }
+fn opened_by(code: Code, n: u64, sizes: &[u8], numbers: &mut [u64]) -> Result<Inventory, u32>
+    ensures { let o = open_step code n (numbers_at (length numbers.old) sizes.now 0) in result ≡ or_refusal o.next o.number }
 {
     read_numbers(sizes, 0, numbers);
     Inventory::open(code, n, numbers)
@@ -51,11 +51,9 @@ pub fn loaded(bytes: &[u8]) -> Inventory
     if bytes.len() != LENGTH {
         return zeros();
     }
-    let number = read64(bytes, 136);
-    if !is_code(number) {
+    let Ok(code) = Code::try_from(read64(bytes, 136)) else {
         return zeros();
-    }
-    let code = code_of(number);
+    };
     let files = four_at(bytes, 8);
     let volumes = four_at(bytes, 40);
     let nonempty = four_at(bytes, 72);
@@ -79,16 +77,17 @@ fn four_at(bytes: &[u8], at: usize) -> [u64; 4]
     numbers
 }
 
-// An accepted outcome's inventory over the first bytes of `out`, and 0; or the number of the refusal.
-pub fn store(outcome: Outcome, out: &mut [u8]) -> u32
-    ensures { (result, out.new) ≡ stored_by outcome out.old }
+// The inventory that a call hands back over the first bytes of `out`, and 0; or the number of the refusal.
+pub fn store(outcome: Result<Inventory, u32>, out: &mut [u8]) -> u32
+    ensures { (result, out.new) ≡ stored outcome out.old }
 {
-    if outcome.number != 0 {
-        return outcome.number;
+    match outcome {
+        Ok(next) => {
+            let bytes = bytes_of(next);
+            write(out, &bytes)
+        }
+        Err(number) => number,
     }
-    let next = outcome.next;
-    let bytes = bytes_of(next);
-    write(out, &bytes)
 }
 
 // The inventory's 18 numbers.
@@ -100,8 +99,7 @@ fn bytes_of(inventory: Inventory) -> [u8; LENGTH]
     let volumes = inventory.volumes;
     let nonempty = inventory.nonempty;
     let quarantined = inventory.quarantined;
-    let code = inventory.code;
-    let number = [code_number(code)];
+    let number = [u64::from(inventory.code)];
     let mut bytes = [0u8; LENGTH];
     write_numbers(&mut bytes, 0, &n);
     write_numbers(&mut bytes, 8, &files);
@@ -113,27 +111,29 @@ fn bytes_of(inventory: Inventory) -> [u8; LENGTH]
 }
 
 // The three numbers of a count over the first bytes of `out`, and 0; or the number of the refusal.
-pub fn store_count(counted: Counted, out: &mut [u8]) -> u32
+pub fn store_count(counted: Result<Counts, u32>, out: &mut [u8]) -> u32
     ensures { (result, out.new) ≡ counted_into (count_reply counted) out.old }
 {
     match counted {
-        Counted::Refused(number) => {
-            return number;
+        Ok(counts) => {
+            let bytes = bytes_of_count(counts);
+            write(out, &bytes)
         }
-        Counted::Counts(files, volumes, quarantined) => {
-            let bytes = bytes_of_count(files, volumes, quarantined);
-            return write(out, &bytes);
-        }
+        Err(number) => number,
     }
 }
 
 // The three numbers of a count.
-fn bytes_of_count(files: u32, volumes: u32, quarantined: u32) -> [u8; COUNT_LENGTH]
-    ensures { result ≡ numbers_of (files ∷ volumes ∷ quarantined ∷ []) }
+fn bytes_of_count(counts: Counts) -> [u8; COUNT_LENGTH]
+    ensures { result ≡ numbers_of (counts.files ∷ counts.volumes ∷ counts.quarantined ∷ []) }
 {
-    let counts = [files as u64, volumes as u64, quarantined as u64];
+    let numbers = [
+        u64::from(counts.files),
+        u64::from(counts.volumes),
+        u64::from(counts.quarantined),
+    ];
     let mut bytes = [0u8; COUNT_LENGTH];
-    write_numbers(&mut bytes, 0, &counts);
+    write_numbers(&mut bytes, 0, &numbers);
     bytes
 }
 

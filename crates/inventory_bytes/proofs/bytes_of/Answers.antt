@@ -14,4 +14,4 @@ unfolding inventory_bytes
 returns c = let i = c.args.inventory in inventory_whole _ i.n i.files i.volumes i.nonempty i.quarantined _ refl (search rules) (search rules)
     (search rules) (search rules) c.write_numbers.ensures c.write_numbers-2.ensures
     c.write_numbers-3.ensures c.write_numbers-4.ensures c.write_numbers-5.ensures c.write_numbers-6.ensures
-    ∙ ap (λ (k : ℕ). numbers (i.n ∷ i.files ++ i.volumes ++ i.nonempty ++ i.quarantined ++ (k ∷ []))) c.code_number.ensures
+    ∙ ap (λ (k : ℕ). numbers (i.n ∷ i.files ++ i.volumes ++ i.nonempty ++ i.quarantined ++ (k ∷ []))) c.from.ensures

@@ -5,4 +5,4 @@ use Rattle.inventory_bytes.proofs.bytes_of_count.Goals as goal
 
 pub returns : goal.returns
 unfolding numbers to_le
-returns c = c.write_numbers.ensures
+returns c = rw (c.from.ensures, c.from-2.ensures, c.from-3.ensures) at c.write_numbers.ensures

@@ -10,11 +10,9 @@ use Rattle.inventory_bytes.proofs.loaded.Goals as goal
 pub returns-then-bytes-ne-LENGTH : goal.returns-then-bytes-ne-LENGTH
 returns-then-bytes-ne-LENGTH c = c.zeros.ensures ∙ sym (other_length _ c.if-bytes-ne-LENGTH.true)
 
-pub returns-then-not-is_code : goal.returns-then-not-is_code
-returns-then-not-is_code c = c.zeros-then-not-is_code.ensures
-    ∙ sym (other_number _ (ap is_code (sym c.read64-number.ensures) ∙ sym c.is_code.ensures ∙ c.if-not-is_code.true))
+pub returns-in_default : goal.returns-in_default
+returns-in_default c = c.zeros-in_default.ensures ∙ sym (other_number _ (ap is_code (sym c.read64.ensures) ∙ c.in_default.ensures))
 
 pub returns : goal.returns
-returns c = let b = c.args.bytes.now in let one : is_code (code_number_in b) ≡ true =
-    ap is_code (sym c.read64-number.ensures) ∙ sym c.is_code.ensures ∙ c.if-not-is_code.false in
-    cc (inventory_of_lem b c.if-bytes-ne-LENGTH.false one)
+returns c = let b = c.args.bytes.now in let one : is_code (code_number_in b) ≡ true = ap is_code (sym c.read64.ensures) ∙ c.in-Ok.ensures.0 in
+    cc (inventory_of_lem b c.if-bytes-ne-LENGTH.false one, c.in-Ok.ensures.1)

@@ -8,11 +8,11 @@ use Rattle.inventory_bytes.proofs.CountLaws.{count-refused, count-written}
 use Rattle.lent_bytes.specs.Writing.{written, with_number}
 use Rattle.inventory_bytes.proofs.store_count.Goals as goal
 
-pub returns-in-Refused : goal.returns-in-Refused
+pub returns-in-Ok : goal.returns-in-Ok
 unfolding count_reply
-returns-in-Refused c = rw c.in-Refused.is (count-refused _ _)
-
-pub returns-in-Counts : goal.returns-in-Counts
-unfolding count_reply
-returns-in-Counts c = let out = c.args.out.now in rw c.in-Counts.is
+returns-in-Ok c = let out = c.args.out.now in rw c.in-Ok.is
     (count-written out _ _ _ (c.write.ensures ∙ ap (λ (l : List ℕ). with_number (written l out)) c.bytes_of_count-bytes.ensures))
+
+pub returns-in-Err : goal.returns-in-Err
+unfolding count_reply
+returns-in-Err c = rw c.in-Err.is (count-refused _ _)
