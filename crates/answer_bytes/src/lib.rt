@@ -63,8 +63,6 @@ pub fn put_entry(item: Result<Option<Entry>, Fault>, out: &mut [u8]) -> u32
 fn bytes_of_parts(parts: Parts) -> [u8; PARTS_LENGTH]
     ensures { result ≡ parts_bytes parts }
 {
-    let code = parts.code;
-    let number = codes::code_number(code);
     let numbers = [
         parts.program as u64,
         parts.number,
@@ -73,7 +71,7 @@ fn bytes_of_parts(parts: Parts) -> [u8; PARTS_LENGTH]
         parts.list_size,
         parts.data_start,
         parts.data_size,
-        number,
+        u64::from(parts.code),
     ];
     let mut bytes = [0u8; PARTS_LENGTH];
     write_numbers(&mut bytes, 0, &numbers);

@@ -12,4 +12,4 @@ unfolding parts_bytes numbers to_le
 returns c = let p = c.args.parts in c.write_numbers.ensures
     ∙ ap
     (λ (code : ℕ). numbers (p.program ∷ p.number ∷ p.entries ∷ p.saved ∷ p.list_size ∷ p.data_start ∷ p.data_size ∷ code ∷ []))
-    c.code_number-number.ensures
+    c.from.ensures
