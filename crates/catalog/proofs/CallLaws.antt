@@ -10,7 +10,9 @@
 --   length-opened, open_over, open_short, open_many, open_unread     opening
 --   loading_whole, loading_short, loading_other     loading
 -- Assumes nothing.
-use Rattle.std.specs.Prelude.{Ok, Err, Result}
+use Rattle.std.specs.Prelude.{Ok, Err, Result, MatchResult}
+use Rattle.std.specs.Result.{IsErrAnd}
+use Rattle.std.proofs.lemmas.Result.{err_from_is_err_and}
 use mathlib.Core.Path.{◌≡◌, refl, sym, ap, ap₂, ◌∙◌, subst}
 use mathlib.Core.Bool.{Bool, true, false, cond, not, ◌&&◌, true≢false}
 use mathlib.Core.List.{List, [], ◌∷◌, ◌++◌, flatten, append-nil}
@@ -189,6 +191,21 @@ module _ (b : List ℕ) (v : ℕ) where
   unfolding plan_drop drop_of
   drop_refuses {n} {r} e is = let t = plan_refuses b (drop_number b v) v e in
       unless_refused (dropped_bytes b v) b (is ∙ ap bare t.0) (λ z. t.1 (sym (ap (λ (q : Refusal). q.number) (is ∙ ap bare t.0)) ∙ z)) refl
+
+-- ---- a refusal's number made a refusal
+
+module _ {A B C : Type 0} (P : B → C → Type 0) {s : Result A C} where
+  pub mapped_ok : (r : Result A B) {x : A} → MatchResult r (λ y. s ≡ Ok y) (λ e. IsErrAnd s (P e)) → s ≡ Ok x → r ≡ Ok x
+  mapped_ok (Ok y) {x} m e = let same : ◌≡◌ {A = Result A C} (Ok y) (Ok x) = sym m ∙ e in cc
+  mapped_ok (Err d) {x} m e = let p = err_from_is_err_and s m in
+      let other : ◌≡◌ {A = Result A C} (Err p.0) (Ok x) = sym p.1 ∙ e in cc
+
+  pub mapped_err : (r : Result A B) {q : C} → MatchResult r (λ y. s ≡ Ok y) (λ e. IsErrAnd s (P e)) → s ≡ Err q → (d : B) × (r ≡ Err d) × P d q
+  mapped_err (Ok y) {q} m e = let other : ◌≡◌ {A = Result A C} (Ok y) (Err q) = sym m ∙ e in cc
+  mapped_err (Err d) {q} m e = let p = err_from_is_err_and s m in
+      let other : ◌≡◌ {A = Result A C} (Err p.0) (Err q) = sym p.1 ∙ e in
+      let same : p.0 ≡ q = cc in
+      (d, refl, subst (P d) same p.2)
 
 -- ---- adding
 

@@ -19,17 +19,16 @@ use native.Mathlib.Omega.{arith}
 use lib.Dec.{ltb, eqb}
 use lib.ListN.{length, take, drop, get_or, length-append, length-take, length-drop}
 use lib.Seq.{sets, length-take-le, drop_at, take-add, drop-drop, drop-append-le}
-use borrow.Author.Tests.{lt-ltb, le-ltb, ltb-true, ltb-false}
 use Rattle.cut_lists.specs.All.{All, all_none, all_more}
 use Rattle.entries.proofs.KeepLaws.{all_keep}
-use Rattle.little_endian.specs.Bytes.{to_le, le_at}
+use Rattle.little_endian.specs.Bytes.{to_le}
 use Rattle.lent_bytes.specs.Writing.{accepted}
 use Rattle.lent_bytes.proofs.StoreLaws.{sets_over}
 use Rattle.lent_bytes.proofs.PartsInRow.{flatten-append}
 use Rattle.catalog.specs.Rows.{number_of, catalog_head, catalog_bytes}
 use Rattle.catalog.specs.Catalog.{entry_count, volume_count, catalog_length, rows_in, entry_rows, volume_rows, holds, insert_row, remove_row}
 use Rattle.catalog.specs.Plan.{place_of, spread, closed}
-use Rattle.catalog.proofs.RowLaws.{Sized, length-rows, flatten-rows, rows_sized, length-flatten, number_at}
+use Rattle.catalog.proofs.RowLaws.{Sized, length-rows, flatten-rows, rows_sized, length-flatten}
 use Rattle.catalog.proofs.CatalogLaws.{Catalog}
 use Rattle.catalog.proofs.PlaceLaws.{place-within, insert_at, remove_at, holds-place}
 
@@ -193,17 +192,5 @@ module _ (b : List ℕ) (c : Catalog b) where
 
   -- ---- whether a row is there, as the code sees it
 
-  pub present_is : (v : ℕ) {at to : ℕ} → at ≡ 16 + 28 * (n + Place v) → to ≡ catalog_length b
-      → (ltb at to && eqb (le_at 4 b at) v) ≡ holds v (volume_rows b)
-  present_is v {at} {to} at_is to_is = simp (holds-place _ _ 0 (volume_rows b) v c.volumes_right, count, by (ltb (Place v) m) refl)
-    where
-      count : length (volume_rows b) ≡ m
-      count = length-rows m (drop (16 + 28 * n) b)
-
-      by : (t : Bool) → t ≡ ltb (Place v) m → (t && eqb (number_of (get_or (volume_rows b) (Place v) [])) v) ≡ (ltb at to && eqb (le_at 4 b at) v)
-      by true e = let less = ltb-true (Place v) m (sym e) in
-          let sum : 16 + 28 * n + 28 * Place v ≡ at = omega arith in
-          let there : get_or (volume_rows b) (Place v) [] ≡ take 28 (drop at b) = simp (row_at, drop-drop, sum) in
-          simp (there, number_at b at, lt-ltb at to (omega arith))
-      by false e = let past = ltb-false (Place v) m (sym e) in
-          ap (λ (t : Bool). t && eqb (le_at 4 b at) v) (sym (le-ltb at to (omega arith)))
+  pub present_is : (v : ℕ) → (ltb (Place v) (length (volume_rows b)) && eqb (number_of (get_or (volume_rows b) (Place v) [])) v) ≡ holds v (volume_rows b)
+  present_is v = sym (holds-place _ _ 0 (volume_rows b) v c.volumes_right)

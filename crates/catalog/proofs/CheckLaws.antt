@@ -3,23 +3,25 @@
 --   entered_from k g rs    what the entry rows rs tell after those of k saved files of at most g bytes
 -- Assumes nothing.
 use Rattle.std.specs.Prelude.{Option, Some, None}
+use Rattle.std.specs.Bool.{then_some}
 use mathlib.Core.Path.{◌≡◌, refl, sym, ap, ap₂, ◌∙◌}
 use mathlib.Core.Bool.{Bool, true, false, cond, not, ◌&&◌, true≢false}
 use mathlib.Core.List.{List, [], ◌∷◌, map, foldr}
-use Prim.Native.Nat.{ℕ, suc, ◌+◌, ◌-◌, ◌≤◌, ◌<◌, max}
+use Prim.Native.Nat.{ℕ, suc, ◌+◌, ◌<◌, max}
 use native.Mathlib.Omega.{arith}
-use lib.Dec.{ltb, eqb}
-use lib.ListN.{length, take, drop}
-use borrow.Author.Tests.{le-leb, lt-leb}
+use lib.Dec.{ltb, leb, eqb}
+use lib.ListN.{length, drop, get_or}
+use lib.Seq.{drop-cons}
+use native.Mathlib.Numerals.{add-one}
+use borrow.Author.Tests.{ne_eqb, eq-eqb}
 use Rattle.refusals.specs.Limits.{max_files}
-use Rattle.little_endian.specs.Bytes.{le_at}
 use Rattle.entries.specs.Entry.{file_size_allowed}
 use Rattle.par1_rules.specs.Rules.{number_allowed}
 use Rattle.catalog.specs.Rows.{number_of, size_of}
-use Rattle.catalog.specs.Catalog.{rows_in, saved_rows, greatest_size, in_turn, entry_rows_allowed, volume_rows_allowed}
-use Rattle.catalog.specs.Plan.{entered_of, place_of}
+use Rattle.catalog.specs.Catalog.{saved_rows, greatest_size, in_turn, entry_rows_allowed, volume_rows_allowed}
+use Rattle.catalog.specs.Plan.{entered_of}
 use Rattle.catalog.specs.declared.checking.Entered.{Entered}
-use Rattle.catalog.proofs.RowLaws.{number_at, size_at, rows_more}
+use Rattle.catalog.proofs.CatalogLaws.{then_cond}
 
 -- ---- entry rows
 
@@ -33,15 +35,11 @@ entered_start rs = let n : 0 + length (saved_rows rs) ≡ length (saved_rows rs)
     ap₂ (λ (a b : ℕ). cond (entry_rows_allowed 0 rs) (Some (record { saved = a; greatest = b })) None) n g
 
 module _ (k g : ℕ) where
-  pub entered_end : {rs : List (List ℕ)} → rs ≡ [] → k ≤ max_files → entered_from k g rs ≡ Some (record { saved = k; greatest = g })
+  pub entered_end : {rs : List (List ℕ)} → rs ≡ [] → then_some (leb k max_files) (record { saved = k; greatest = g }) ≡ entered_from k g rs
   unfolding entered_from entry_rows_allowed
-  entered_end e h = let n : k + 0 ≡ k = omega arith in
+  entered_end e = let n : k + 0 ≡ k = omega arith in
       let m : max g 0 ≡ g = omega arith in
-      ap (entered_from k g) e ∙ simp (le-leb k max_files h) (ap₂ (λ (a b : ℕ). (Some (record { saved = a; greatest = b }))) n m)
-
-  pub entered_many : {rs : List (List ℕ)} → rs ≡ [] → max_files < k → entered_from k g rs ≡ None
-  unfolding entered_from entry_rows_allowed
-  entered_many e h = ap (entered_from k g) e ∙ simp (lt-leb k max_files h)
+      then_cond _ _ ∙ sym (ap (entered_from k g) e ∙ ap₂ (λ (a b : ℕ). cond (leb k max_files) (Some (record { saved = a; greatest = b })) None) n m)
 
   -- a row more in front, which passes the tests, saved or not
   with_row : List ℕ → List (List ℕ) → Bool → Bool → Option Entered
@@ -69,50 +67,35 @@ module _ (k g : ℕ) where
   stop_by true false r rs e f z = simp (e, f)
   stop_by false b r rs e f z = simp e
 
-  module _ (s : List ℕ) (at left : ℕ) {number size : ℕ} (some : 0 < left) (number_is : number ≡ le_at 4 s at) (size_is : size ≡ le_at 8 s (at + 4)) where
-    first_number : number_of (take 28 (drop at s)) ≡ number
-    first_number = sym (number_is ∙ number_at s at)
-
-    first_size : size_of (take 28 (drop at s)) ≡ size
-    first_size = sym (size_is ∙ size_at s at)
-
-    pub entered_stop : (in_turn k number && file_size_allowed size) ≡ false → entered_from k g (rows_in left (drop at s)) ≡ None
+  module _ (rs : List (List ℕ)) (i : ℕ) {number size : ℕ} (some : i < length rs)
+      (number_is : number ≡ number_of (get_or rs i [])) (size_is : size ≡ size_of (get_or rs i [])) where
+    pub entered_stop : (in_turn k number && file_size_allowed size) ≡ false → entered_from k g (drop i rs) ≡ None
     entered_stop z =
-        ap (entered_from k g) (rows_more s at left some)
-        ∙ stop_by (in_turn k number) (file_size_allowed size) (take 28 (drop at s)) _ (ap (in_turn k) first_number)
-        (ap (λ (n : ℕ). file_size_allowed n) first_size) z
+        ap (entered_from k g) (drop-cons rs i [] some)
+        ∙ stop_by (in_turn k number) (file_size_allowed size) (get_or rs i []) _ (ap (in_turn k) (sym number_is))
+        (ap (λ (n : ℕ). file_size_allowed n) (sym size_is)) z
 
-    pub entered_more : {k' g' : ℕ} → (in_turn k number && file_size_allowed size) ≡ true → k' ≡ cond (eqb number 0) k (k + 1)
-        → g' ≡ cond (eqb number 0) g (max g size)
-        → entered_from k' g' (rows_in (left - 1) (drop (at + 28) s)) ≡ entered_from k g (rows_in left (drop at s))
-    entered_more {k'} {g'} h f e = let rest : List (List ℕ) = rows_in (left - 1) (drop (at + 28) s) in
-        let right = ap₂ (λ (a b : ℕ). in_turn k a && file_size_allowed b) first_number first_size ∙ h in
-        simp (rows_more, more_by (eqb number 0) (take 28 (drop at s)) rest (ap (λ (n : ℕ). eqb n 0) first_number) right, f, first_size, e)
+    passed : {b : Bool} → (in_turn k number && file_size_allowed size) ≡ true → eqb number 0 ≡ b
+        → entered_from (cond b k (k + 1)) (cond b g (max g size)) (drop (i + 1) rs) ≡ entered_from k g (drop i rs)
+    passed {b} h z =
+        let right = ap₂ (λ (a b : ℕ). in_turn k a && file_size_allowed b) (sym number_is) (sym size_is) ∙ h in
+        sym (ap (entered_from k g) (drop-cons rs i [] some)
+        ∙ more_by b (get_or rs i []) (drop (suc i) rs) (ap (λ (n : ℕ). eqb n 0) (sym number_is) ∙ z) right
+        ∙ ap₂ (λ (m : ℕ) (j : ℕ). entered_from (cond b k (k + 1)) (cond b g (max g m)) (drop j rs)) (sym size_is) (sym (add-one i)))
 
-pub saved_most : (b : Bool) (k : ℕ) → cond b k (k + 1) ≤ k + 1
-saved_most true k = omega arith
-saved_most false k = omega arith
+    pub entered_more : {k' g' : ℕ} → (in_turn k number && file_size_allowed size) ≡ true → (number ≡ 0 → ⊥) → k' ≡ k + 1 → g' ≡ max g size
+        → entered_from k' g' (drop (i + 1) rs) ≡ entered_from k g (drop i rs)
+    entered_more h z e f = ap₂ (λ (a b : ℕ). entered_from a b (drop (i + 1) rs)) e f ∙ passed h (ne_eqb _ _ z)
+
+    pub entered_same : {k' g' : ℕ} → (in_turn k number && file_size_allowed size) ≡ true → number ≡ 0 → k' ≡ k → g' ≡ g
+        → entered_from k' g' (drop (i + 1) rs) ≡ entered_from k g (drop i rs)
+    entered_same h z e f = ap₂ (λ (a b : ℕ). entered_from a b (drop (i + 1) rs)) e f ∙ passed h (eq-eqb _ _ z)
 
 -- ---- volume rows
 
-pub volumes_more : (n g v : ℕ) (s : List ℕ) (at left : ℕ) {number size : ℕ} {b : Bool} → 0 < left → number ≡ le_at 4 s at
-    → size ≡ le_at 8 s (at + 4) → b ≡ (ltb v number && number_allowed number n && eqb size g)
-    → volume_rows_allowed n g v (rows_in left (drop at s)) ≡ (b && volume_rows_allowed n g number (rows_in (left - 1) (drop (at + 28) s)))
+pub volumes_more : (n g v : ℕ) (rs : List (List ℕ)) (i : ℕ) {number size : ℕ} {b : Bool} → i < length rs → number ≡ number_of (get_or rs i [])
+    → size ≡ size_of (get_or rs i []) → b ≡ (ltb v number && number_allowed number n && eqb size g)
+    → volume_rows_allowed n g v (drop i rs) ≡ (b && volume_rows_allowed n g number (drop (i + 1) rs))
 unfolding volume_rows_allowed
-volumes_more n g v s at left {number} {size} {b} some number_is size_is test_is =
-    let rest : List (List ℕ) = rows_in (left - 1) (drop (at + 28) s) in
-    simp (rows_more s at left some, number_is, number_at s at, size_is, size_at s at, test_is)
-
--- ---- the place of a volume
-
-module _ (v : ℕ) (s : List ℕ) (at left : ℕ) {number : ℕ} (some : 0 < left) (number_is : number ≡ le_at 4 s at) where
-  first_is : number_of (take 28 (drop at s)) ≡ number
-  first_is = sym (number_is ∙ number_at s at)
-
-  pub place_here : ltb number v ≡ false → place_of v (rows_in left (drop at s)) ≡ 0
-  unfolding place_of
-  place_here z = ap (place_of v) (rows_more s at left some) ∙ simp (first_is, z)
-
-  pub place_later : ltb number v ≡ true → place_of v (rows_in left (drop at s)) ≡ suc (place_of v (rows_in (left - 1) (drop (at + 28) s)))
-  unfolding place_of
-  place_later z = ap (place_of v) (rows_more s at left some) ∙ simp (first_is, z)
+volumes_more n g v rs i {number} {size} {b} some number_is size_is test_is =
+    simp (drop-cons rs i [] some, number_is, size_is, test_is, add-one)

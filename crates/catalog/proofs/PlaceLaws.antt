@@ -12,10 +12,11 @@ use mathlib.Core.List.{List, [], ◌∷◌, ◌++◌}
 use Prim.Native.Nat.{ℕ, suc, ◌+◌, ◌≤◌, ◌<◌}
 use native.Mathlib.Omega.{arith}
 use lib.Dec.{ltb, eqb, leb-suc-suc}
-use lib.ListN.{length, take, drop, get_or}
+use lib.ListN.{length, take, drop, get_or, length-take}
 use borrow.Author.Tests.{eqb-true, eqb-false, ltb-true, ltb-false, eq-eqb, ne_eqb, lt-ltb}
 use Rattle.computed_tests.proofs.Tests.{and_both}
 use Rattle.par1_rules.specs.Rules.{number_allowed}
+use Rattle.std.specs.List.{take_while, prefix_len}
 use Rattle.catalog.specs.Rows.{number_of, size_of}
 use Rattle.catalog.specs.Catalog.{volume_rows_allowed, holds, insert_row, remove_row}
 use Rattle.catalog.specs.Plan.{place_of}
@@ -28,6 +29,20 @@ place-within v (r ∷ rs) = by (ltb (number_of r) v) (place-within v rs)
     by : (t : Bool) → place_of v rs ≤ length rs → cond t (suc (place_of v rs)) 0 ≤ suc (length rs)
     by true h = omega arith
     by false h = omega arith
+
+-- the place is the number of lower rows in front
+lower_rows : (v : ℕ) (rs : List (List ℕ)) → prefix_len (λ r. ltb (number_of r) v) rs ≡ place_of v rs
+unfolding place_of
+lower_rows v [] = refl
+lower_rows v (r ∷ rs) = by (ltb (number_of r) v) (lower_rows v rs)
+  where
+    by : (t : Bool) → prefix_len (λ r. ltb (number_of r) v) rs ≡ place_of v rs
+        → cond t (1 + prefix_len (λ r. ltb (number_of r) v) rs) 0 ≡ cond t (suc (place_of v rs)) 0
+    by true e = omega arith
+    by false e = refl
+
+pub place_counted : (v : ℕ) (rs : List (List ℕ)) → length (take_while (λ r. ltb (number_of r) v) rs) ≡ place_of v rs
+place_counted v rs = omega (arith, length-take (prefix_len (λ r. ltb (number_of r) v) rs) rs, lower_rows v rs, place-within v rs)
 
 -- ---- inserted
 

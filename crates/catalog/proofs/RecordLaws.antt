@@ -1,22 +1,22 @@
 -- The records of rows.
 --
---   row-none, whole, row_some     the record of row i, where the bytes are too short for it and where they are not
+--   row-none, whole     the record of row i, where the bytes are too short for it and where they are not
+--   row_past, row_in    the same, as the code finds it
 --   records_to b n, filled_to b n ys     the records of the first n rows, and the records ys after a load of n
 --   length_records, length_filled, filled_more, records_are     their number, a turn of the loop, and the records of rows that lie in the bytes
 --   Filling, filling, filling_none     how many records a load fills, and with what
 -- Assumes nothing.
 use Rattle.std.specs.Prelude.{Ok, Err}
 use mathlib.Core.Path.{◌≡◌, refl, sym, ap, ap₂, ◌∙◌}
-use mathlib.Core.List.{List, [], ◌∷◌, ◌++◌, map, append-nil, append_assoc}
-use Prim.Native.Nat.{ℕ, zero, suc, ◌+◌, ◌*◌, ◌<◌, ◌≤◌}
+use mathlib.Core.List.{List, [], ◌∷◌, ◌++◌, map, append_assoc}
+use Prim.Native.Nat.{ℕ, zero, suc, ◌+◌, ◌*◌, ◌/◌, ◌<◌, ◌≤◌}
 use native.Mathlib.Numerals.{add-one}
 use native.Mathlib.Omega.{arith}
 use lib.ListN.{length, take, drop, get_or, set, replicate, length-append, length-drop}
-use lib.Seq.{sets, length-take-le, drop-cons, drop-drop, set_at}
+use lib.Seq.{take_all, drop-cons, drop-drop, set_at}
 use borrow.Author.Tests.{le-leb, lt-leb}
+use Rattle.std.specs.Simd.{first_chunks}
 use Rattle.little_endian.specs.Bytes.{le_at}
-use Rattle.lent_bytes.proofs.StoreLaws.{sets_over}
-use Rattle.catalog.specs.Rows.{hash_of}
 use Rattle.lent_bytes.specs.Writing.{Writing}
 use Rattle.refusals.specs.declared.Refusal.{Refusal}
 use Rattle.catalog.specs.Catalog.{entry_count, rows_in}
@@ -24,7 +24,7 @@ use Rattle.catalog.specs.Calls.{record_of, row_at, loading_of, filled_by}
 use Rattle.catalog.specs.declared.records.Row.{Row}
 use Rattle.catalog.proofs.CatalogLaws.{is_catalog_lem}
 use Rattle.catalog.proofs.RangeLaws.{Loads, loads, loads_not, loading_is}
-use Rattle.catalog.proofs.RowLaws.{number_at, size_at, hash_at}
+use Rattle.catalog.proofs.RowLaws.{chunk-row}
 
 module _ (b : List ℕ) (i : ℕ) where
   pub row-none : length b < 16 + 28 * (i + 1) → row_at b i ≡ record { file = 0; size = 0; md5 = replicate 16 0 }
@@ -35,19 +35,23 @@ module _ (b : List ℕ) (i : ℕ) where
   unfolding row_at
   whole h = simp (le-leb (16 + 28 * (i + 1)) (length b) h)
 
-  pub row_some : (at : ℕ) {number size : ℕ} {part hash : List ℕ} → at ≡ 16 + 28 * i → 16 + 28 * (i + 1) ≤ length b → number ≡ le_at 4 b at
-      → size ≡ le_at 8 b (at + 4) → part ≡ take 16 (drop (at + 12) b) → hash ≡ sets (replicate 16 0) 0 part
-      → ◌≡◌ {A = Row} (record { file = number; size = size; md5 = hash }) (row_at b i)
-  unfolding row_at
-  row_some at {number} {size} {part} {hash} e h number_is size_is part-is hash_is = let r : List ℕ = take 28 (drop at b) in
-      let n : length part ≡ 16 = ap length part-is ∙ length-take-le 16 (drop (at + 12) b) (omega (arith, length-drop (at + 12) b)) in
-      let same_hash : hash ≡ hash_of r = hash_is ∙ stored part n ∙ part-is ∙ hash_at b at in
-      let same : record_of r ≡ record_of (take 28 (drop (16 + 28 * i) b)) = ap (λ (k : ℕ). record_of (take 28 (drop k b))) e in
-      (λ j. record { file = (number_is ∙ number_at b at) j; size = (size_is ∙ size_at b at) j; md5 = same_hash j })
-      ∙ same ∙ sym (whole h)
-    where
-      stored : (part : List ℕ) → length part ≡ 16 → sets (replicate 16 0) 0 part ≡ part
-      stored part n = simp (sets_over (replicate 16 0) part (omega (arith, n)), n, append-nil)
+  -- of the rows that the bytes after the head are cut into
+  module _ {part : List ℕ} {rows : List (List ℕ)} (part_is : part ≡ take (length b) (drop 16 b))
+      (count : length rows ≡ length part / 28) (rows_are : rows ≡ first_chunks 28 (length part / 28) part) where
+    after_head : part ≡ drop 16 b
+    after_head = part_is ∙ take_all (length b) (drop 16 b) (omega (arith, length-drop 16 b))
+
+    pub row_past : length rows ≤ i → row_at b i ≡ record { file = 0; size = 0; md5 = replicate 16 0 }
+    row_past h = row-none (omega (arith, count, ap length after_head, length-drop 16 b))
+
+    pub row_in : {row hash : List ℕ} {number size : ℕ} → i < length rows → row ≡ get_or rows i [] → number ≡ le_at 4 row 0
+        → size ≡ le_at 8 row 4 → hash ≡ take 16 (drop 12 row) → ◌≡◌ {A = Row} (record { file = number; size = size; md5 = hash }) (row_at b i)
+    row_in {row} h row_is number_is size_is hash_is =
+        let same : row ≡ take 28 (drop (16 + 28 * i) b) =
+        row_is ∙ ap (λ (l : List (List ℕ)). get_or l i []) rows_are ∙ chunk-row i (length part / 28) part [] (omega (arith, count))
+        ∙ ap (λ (q : List ℕ). take 28 (drop (28 * i) q)) after_head ∙ ap (take 28) (drop-drop (28 * i) 16 b) in
+        (λ j. record { file = number_is j; size = size_is j; md5 = hash_is j })
+        ∙ ap (λ (r : List ℕ). record_of r) same ∙ sym (whole (omega (arith, count, ap length after_head, length-drop 16 b)))
 
 -- ---- filled one after another
 

@@ -1,49 +1,35 @@
 -- Rows one after another, and their fields.
 --
---   number_at, size_at, hash_at     the fields of a row in its place
---   rows_more, length-rows, flatten-rows, rows_sized, rows_back     rows one after another
+--   chunks-rows, chunk-row     the rows that the library cuts bytes into, and one of them
+--   length-rows, flatten-rows, rows_sized, rows_back     rows one after another
 --   Sized r          the row r has 28 bytes
 --   length-flatten, length-row     the lengths of rows
 --   number_row, size_row, hash_row     the fields of a row that was made
 --   row-over         a row stored field by field
 -- Assumes nothing.
-use mathlib.Core.Path.{◌≡◌, refl, sym, ap, ap₂, ◌∙◌}
+use mathlib.Core.Path.{◌≡◌, refl, sym, ap, ◌∙◌}
 use mathlib.Core.List.{List, [], ◌∷◌, ◌++◌, flatten, append_assoc, append-nil}
-use Prim.Native.Nat.{ℕ, zero, suc, ◌+◌, ◌-◌, ◌*◌, ◌%◌, ◌^◌, ◌≤◌, ◌<◌}
-use native.Mathlib.Nat.{add-zero}
+use Prim.Native.Nat.{ℕ, zero, suc, ◌+◌, ◌*◌, ◌%◌, ◌^◌, ◌≤◌, ◌<◌}
 use native.Mathlib.Omega.{arith}
-use lib.ListN.{length, take, drop, length-append, length-drop, drop_of_length-le}
+use lib.ListN.{length, take, drop, get_or, length-append, length-drop, drop_of_length-le}
 use lib.Seq.{length-take-le, take_at, drop_at, take-add, drop-drop}
 use Rattle.cut_lists.specs.All.{All, all_none, all_more}
-use Rattle.little_endian.specs.Bytes.{to_le, le_at}
+use Rattle.std.specs.Simd.{first_chunks}
+use Rattle.little_endian.specs.Bytes.{to_le}
 use Rattle.little_endian.proofs.Numbers.{length-to_le, to_mod}
-use Rattle.little_endian.proofs.Reading.{le_at-drop}
-use Rattle.lent_bytes.proofs.PartLaws.{part_take, number_take}
 use Rattle.lent_bytes.proofs.StoreLaws.{Stores, stores_flatten, sets_over}
 use Rattle.lent_bytes.proofs.PartsInRow.{At, at_part, at_next, at_number}
 use Rattle.catalog.specs.Rows.{row, number_of, size_of, hash_of}
 use Rattle.catalog.specs.Catalog.{rows_in}
 
--- ---- a row in its place
-
-module _ (s : List ℕ) (at : ℕ) where
-  pub number_at : le_at 4 s at ≡ number_of (take 28 (drop at s))
-  number_at = sym (number_take 4 0 28 (drop at s) (omega arith) ∙ le_at-drop 4 s at 0 ∙ ap (le_at 4 s) (add-zero at))
-
-  pub size_at : le_at 8 s (at + 4) ≡ size_of (take 28 (drop at s))
-  size_at = sym (number_take 8 4 28 (drop at s) (omega arith) ∙ le_at-drop 8 s at 4)
-
-  pub hash_at : take 16 (drop (at + 12) s) ≡ hash_of (take 28 (drop at s))
-  hash_at = sym (part_take 12 16 28 (drop at s) (omega arith) ∙ ap (take 16) (drop-drop 12 at s))
-
-  -- the first of the rows that remain
-  pub rows_more : (n : ℕ) → 0 < n → rows_in n (drop at s) ≡ take 28 (drop at s) ∷ rows_in (n - 1) (drop (at + 28) s)
-  unfolding rows_in
-  rows_more zero h = absurd (omega arith)
-  rows_more (suc n) h = let e : n ≡ suc n - 1 = omega arith in
-      ap₂ (λ (k : ℕ) (t : List ℕ). take 28 (drop at s) ∷ rows_in k t) e (drop-drop 28 at s)
-
 -- ---- all rows
+
+-- as the library cuts bytes into them
+pub chunks-rows : (n m : ℕ) (s : List ℕ) → n ≤ m → take n (first_chunks 28 m s) ≡ rows_in n s
+unfolding rows_in
+chunks-rows zero m s h = refl
+chunks-rows (suc n) zero s h = absurd (omega arith)
+chunks-rows (suc n) (suc m) s h = ap (λ (t : List (List ℕ)). take 28 s ∷ t) (chunks-rows n m (drop 28 s) (omega arith))
 
 pub length-rows : (n : ℕ) (s : List ℕ) → length (rows_in n s) ≡ n
 unfolding rows_in
@@ -55,6 +41,12 @@ unfolding rows_in flatten
 flatten-rows zero s = refl
 flatten-rows (suc n) s = let e : 28 + 28 * n ≡ 28 * suc n = omega arith in
     ap (λ (t : List ℕ). take 28 s ++ t) (flatten-rows n (drop 28 s)) ∙ sym (take-add 28 (28 * n) s) ∙ ap (λ (k : ℕ). take k s) e
+
+pub chunk-row : (i m : ℕ) (s d : List ℕ) → i < m → get_or (first_chunks 28 m s) i d ≡ take 28 (drop (28 * i) s)
+chunk-row i zero s d h = absurd (omega arith)
+chunk-row zero (suc m) s d h = refl
+chunk-row (suc i) (suc m) s d h = let e : 28 + 28 * i ≡ 28 * suc i = omega arith in
+    chunk-row i m (drop 28 s) d (omega arith) ∙ ap (take 28) (drop-drop (28 * i) 28 s ∙ ap (λ (k : ℕ). drop k s) e)
 
 abbrev pub Sized : List ℕ → Type 0
 Sized r = length r ≡ 28

@@ -10,7 +10,7 @@ use crate::{HEAD_LENGTH, ROW_LENGTH};
 use par1_rules::layout;
 
 // Writes the entry rows of `list`, one after another.
-pub(crate) fn put_rows<'a, 'b>(out: &'a mut [u8], list: &'b [u8])
+pub(crate) fn put_rows(out: &mut [u8], list: &[u8])
     requires { 16 + 28 * length (entries_of list.now).pieces ≤ length out.old }
     ensures { out.new ≡ sets out.old 16 (flatten (rows_for (entries_of list.now).pieces)) }
 {
@@ -71,7 +71,8 @@ fn file_number(saved: u64, status: u64) -> u64
     ensures { result ≡ file_number_after saved status }
 {
     if entries::is_saved(status) {
-        return saved + 1;
+        saved + 1
+    } else {
+        0
     }
-    0
 }

@@ -12,6 +12,7 @@ mod moving;
 mod opening;
 mod planning;
 mod records;
+mod rows;
 
 use par1_read::Parts;
 use par1_rules::layout;
@@ -28,34 +29,26 @@ pub(crate) const ROW_LENGTH: usize = 28;
 pub fn open(file: &[u8], out: &mut [u8]) -> Result<usize, Refusal>
     ensures { (result, out.new) ≡ open_of file.now out.old }
 {
-    match par1::read(file) {
-        Ok(parts) => opening::open_read(file, parts, out),
-        Err(refusal) => Err(refusal),
-    }
+    let parts = par1::read(file)?;
+    opening::open_read(file, parts, out)
 }
 
 // Adds the row of `volume` to the catalog; the answer is its new length.
 pub fn add(catalog: &mut [u8], volume: &[u8]) -> Result<usize, Refusal>
     ensures { (result, catalog.new) ≡ add_of catalog.old volume.now }
 {
-    match par1::read(volume) {
-        Ok(parts) => add_read(catalog, volume, parts),
-        Err(refusal) => Err(refusal),
-    }
+    let parts = par1::read(volume)?;
+    add_read(catalog, volume, parts)
 }
 
 // Drops the row of volume `number` from the catalog; the answer is its new length.
 pub fn drop_volume(catalog: &mut [u8], number: u64) -> Result<usize, Refusal>
     ensures { (result, catalog.new) ≡ drop_of catalog.old number }
 {
-    match planning::plan_drop(catalog, number) {
-        Ok(place) => {
-            moving::remove_row(catalog, place.at, place.to);
-            opening::put_head(catalog, place.entries, place.volumes - 1);
-            Ok(place.to - ROW_LENGTH)
-        }
-        Err(refusal) => Err(bare(refusal)),
-    }
+    let place = planning::plan_drop(catalog, number).map_err(bare)?;
+    place.remove_row(catalog);
+    opening::put_head(catalog, place.entries, place.volumes - 1);
+    Ok(place.to - ROW_LENGTH)
 }
 
 // Adds the row of a volume that is read.
@@ -63,18 +56,14 @@ fn add_read(catalog: &mut [u8], volume: &[u8], parts: Parts) -> Result<usize, Re
     requires { read_of volume.now ≡ Ok parts }
     ensures { (result, catalog.new) ≡ add_of catalog.old volume.now }
 {
-    match planning::plan_add(catalog, volume, parts) {
-        Ok(place) => {
-            let total = place.to + ROW_LENGTH;
-            if catalog.len() < total {
-                return Err(bare(refusals::NO_ROOM));
-            }
-            let hash = layout::part(volume, layout::CONTROL_HASH_AT, layout::HASH_LENGTH);
-            let row = entry_rows::row_of(parts.number, parts.data_size, hash);
-            moving::insert_row(catalog, place.at, place.to, &row);
-            opening::put_head(catalog, place.entries, place.volumes + 1);
-            Ok(total)
-        }
-        Err(refusal) => Err(bare(refusal)),
+    let place = planning::plan_add(catalog, volume, parts).map_err(bare)?;
+    let total = place.to + ROW_LENGTH;
+    if catalog.len() < total {
+        return Err(bare(refusals::NO_ROOM));
     }
+    let hash = layout::part(volume, layout::CONTROL_HASH_AT, layout::HASH_LENGTH);
+    let row = entry_rows::row_of(parts.number, parts.data_size, hash);
+    place.insert_row(catalog, &row);
+    opening::put_head(catalog, place.entries, place.volumes + 1);
+    Ok(total)
 }

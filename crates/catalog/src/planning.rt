@@ -1,12 +1,14 @@
 // The tests of adding and dropping (document 02, 2026-08), all before a byte is written, and where the row lies.
-ghost use Rattle.std.specs.Prelude.{◌≡◌, true, ◌&&◌, ◌*◌, ◌-◌, ◌≤◌, ltb, eqb, length, Ok};
-ghost use Rattle.little_endian.specs.Bytes.{le_at};
+ghost use Rattle.std.specs.Prelude.{◌≡◌, true, [], ◌&&◌, ◌-◌, ltb, eqb, length, get_or, Ok};
+ghost use Rattle.std.specs.List.{take_while};
 ghost use Rattle.computed_tests.specs.Numbers.{one_to};
 ghost use Rattle.par1_read.specs.Reading.{read_of};
-ghost use Rattle.catalog.specs.Catalog.{is_catalog, rows_in};
-ghost use Rattle.catalog.specs.Plan.{counts_of, place_of, place_in, plan_by, plan_add, plan_drop};
+ghost use Rattle.catalog.specs.Rows.{number_of};
+ghost use Rattle.catalog.specs.Catalog.{is_catalog};
+ghost use Rattle.catalog.specs.Plan.{counts_of, place_in, plan_by, plan_add, plan_drop};
 
 use crate::checking::Counts;
+use crate::rows::{number_of, rows_at};
 use crate::{HEAD_LENGTH, ROW_LENGTH, checking, entry_rows};
 use par1_read::Parts;
 use par1_rules::layout;
@@ -27,10 +29,8 @@ pub(crate) fn plan_add(bytes: &[u8], volume: &[u8], parts: Parts) -> Result<Plac
     requires { read_of volume.now ≡ Ok parts }
     ensures { result ≡ plan_add bytes.now volume.now }
 {
-    let Some(counts) = checking::find(bytes) else {
-        return Err(refusals::CATALOG);
-    };
-    let place = locate(bytes, counts, parts.number);
+    let counts = checking::find(bytes).ok_or(refusals::CATALOG)?;
+    let place = counts.locate(bytes, parts.number);
     let list = layout::part(volume, layout::HEADER_LENGTH, parts.list_size as usize);
     let rows = layout::part(bytes, HEAD_LENGTH, ROW_LENGTH * counts.entries);
     let few = parts.entries <= refusals::MAX_ENTRIES;
@@ -49,10 +49,8 @@ pub(crate) fn plan_add(bytes: &[u8], volume: &[u8], parts: Parts) -> Result<Plac
 pub(crate) fn plan_drop(bytes: &[u8], number: u64) -> Result<Place, u32>
     ensures { result ≡ plan_drop bytes.now number }
 {
-    let Some(counts) = checking::find(bytes) else {
-        return Err(refusals::CATALOG);
-    };
-    let place = locate(bytes, counts, number);
+    let counts = checking::find(bytes).ok_or(refusals::CATALOG)?;
+    let place = counts.locate(bytes, number);
     let from_11 = test(refusals::ALREADY, place.present, 0);
     let refusal = test(
         refusals::OUT_OF_RANGE,
@@ -72,53 +70,44 @@ fn plan_by(number: u32, place: Place) -> Result<Place, u32>
     Ok(place)
 }
 
-// Where the row of volume `number` lies in a catalog, or is to lie.
-fn locate(bytes: &[u8], counts: Counts, number: u64) -> Place
-    requires { (is_catalog bytes.now ≡ true) × (counts ≡ counts_of bytes.now) }
-    ensures { result ≡ place_in bytes.now number }
-{
-    let start = HEAD_LENGTH + ROW_LENGTH * counts.entries;
-    let to = start + ROW_LENGTH * counts.volumes;
-    let at = start + ROW_LENGTH * place_of(&bytes[start..], counts.volumes, number);
-    Place {
-        entries: counts.entries,
-        volumes: counts.volumes,
-        at,
-        to,
-        present: is_row_of(bytes, at, to, number),
-    }
-}
-
-// The place, from 0, of the first of `count` rows that has no lower number; `count` where there is none.
-fn place_of(rows: &[u8], count: usize, number: u64) -> usize
-    requires { 28 * count ≤ length rows.now }
-    ensures { result ≡ place_of number (rows_in count rows.now) }
-{
-    let mut at: usize = 0;
-    let mut place: usize = 0;
-    while place < count {
-        if number <= little_endian::read32(rows, at) as u64 {
-            return place;
+impl Counts {
+    // Where the row of volume `number` lies in the catalog, or is to lie.
+    fn locate(self, bytes: &[u8], number: u64) -> Place
+        requires { (is_catalog bytes.now ≡ true) × (self ≡ counts_of bytes.now) }
+        ensures { result ≡ place_in bytes.now number }
+    {
+        let start = HEAD_LENGTH + ROW_LENGTH * self.entries;
+        let rows = rows_at(bytes, start, self.volumes);
+        let place = place_of(rows, number);
+        Place {
+            entries: self.entries,
+            volumes: self.volumes,
+            at: start + ROW_LENGTH * place,
+            to: start + ROW_LENGTH * self.volumes,
+            present: is_row_of(rows, place, number),
         }
-        at += ROW_LENGTH;
-        place += 1;
     }
-    place
 }
 
-// Whether a row with the number `number` lies at `at`, before the end `to` of the rows.
-fn is_row_of(bytes: &[u8], at: usize, to: usize, number: u64) -> bool
-    ensures { result ≡ (ltb at to && eqb (le_at 4 bytes.now at) number) }
+// How many rows in front have a lower number: the place, from 0, of the first that has none.
+fn place_of(rows: &[[u8; ROW_LENGTH]], number: u64) -> usize
+    ensures { result ≡ length (take_while (λ r. ltb (number_of r) number) rows.now) }
 {
-    (at < to) & (little_endian::read32(bytes, at) as u64 == number)
+    rows.iter()
+        .take_while(|row| number_of(row) < number)
+        .count()
+}
+
+// Whether there is a row at this place, from 0, and it has the number `number`.
+fn is_row_of(rows: &[[u8; ROW_LENGTH]], place: usize, number: u64) -> bool
+    ensures { result ≡ (ltb place (length rows.now) && eqb (number_of (get_or rows.now place [])) number) }
+{
+    place < rows.len() && number_of(&rows[place]) == number
 }
 
 // Whether `number` may be that of a volume of `saved` saved files.
 fn in_range(number: u64, saved: u64) -> bool
     ensures { result ≡ one_to (255 - saved) number }
 {
-    if saved > 255 {
-        return false;
-    }
-    (1 <= number) & (number <= 255 - saved)
+    1 <= number && number <= 255u64.saturating_sub(saved)
 }

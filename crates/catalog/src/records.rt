@@ -20,9 +20,7 @@ pub struct Row {
 pub fn loading(catalog: &[u8], room: usize) -> Result<usize, Refusal>
     ensures { result ≡ loading_of catalog.now room }
 {
-    let Some(counts) = checking::find(catalog) else {
-        return Err(bare(refusals::CATALOG));
-    };
+    let counts = checking::find(catalog).ok_or(bare(refusals::CATALOG))?;
     if room < counts.entries {
         return Err(bare(refusals::NO_ROOM));
     }
@@ -33,30 +31,19 @@ pub fn loading(catalog: &[u8], room: usize) -> Result<usize, Refusal>
 pub fn row_at(catalog: &[u8], i: usize) -> Row
     ensures { result ≡ row_at catalog.now i }
 {
-    let mut md5 = [0u8; 16];
-    if catalog.len() < HEAD_LENGTH {
+    let (rows, _) = layout::part(catalog, HEAD_LENGTH, catalog.len()).as_chunks::<ROW_LENGTH>();
+    let Some(row) = rows.get(i) else {
         return Row {
             file: 0,
             size: 0,
-            md5,
+            md5: [0; 16],
         };
-    }
-    if (catalog.len() - HEAD_LENGTH) / ROW_LENGTH <= i {
-        return Row {
-            file: 0,
-            size: 0,
-            md5,
-        };
-    }
-    let at = HEAD_LENGTH + ROW_LENGTH * i;
-    lent_bytes::put(
-        &mut md5,
-        0,
-        layout::part(catalog, at + 12, layout::HASH_LENGTH),
-    );
+    };
+    let mut md5 = [0; 16];
+    md5.copy_from_slice(&row[12..]);
     Row {
-        file: little_endian::read32(catalog, at),
-        size: little_endian::read64(catalog, at + 4),
+        file: little_endian::read32(row, 0),
+        size: little_endian::read64(row, 4),
         md5,
     }
 }

@@ -6,5 +6,5 @@ use Rattle.catalog.proofs.entry_rows.file_number.Goals as goal
 pub returns-then-is_saved : goal.returns-then-is_saved
 returns-then-is_saved c = simp (sym c.is_saved.ensures ∙ c.if-is_saved.true)
 
-pub returns : goal.returns
-returns c = simp (sym c.is_saved.ensures ∙ c.if-is_saved.false)
+pub returns-else-is_saved : goal.returns-else-is_saved
+returns-else-is_saved c = simp (sym c.is_saved.ensures ∙ c.if-is_saved.false)

@@ -1,17 +1,15 @@
 -- `catalog::records::row_at` meets its contract.
 -- Assumes nothing.
-use mathlib.Core.Path.{refl, sym}
-use Prim.Native.Nat.{◌+◌, ◌*◌}
-use native.Mathlib.Omega.{arith}
-use Rattle.catalog.proofs.RecordLaws.{row-none, row_some}
+use mathlib.Core.Path.{sym}
+use mathlib.Core.List.{[]}
+use Rattle.catalog.proofs.RecordLaws.{row_past, row_in}
 use Rattle.catalog.proofs.records.row_at.Goals as goal
 
-pub returns-then-catalog-lt-HEAD_LENGTH : goal.returns-then-catalog-lt-HEAD_LENGTH
-returns-then-catalog-lt-HEAD_LENGTH c = sym (row-none c.args.catalog.now c.args.i (omega arith))
-
-pub returns-then-catalog-i : goal.returns-then-catalog-i
-returns-then-catalog-i c = sym (row-none c.args.catalog.now c.args.i (omega arith))
+pub returns-in_default : goal.returns-in_default
+returns-in_default c = let h = c.in_default.ensures.lookup in sym (row_past c.args.catalog.now c.args.i c.part.ensures c.as_chunks.ensures.front_len c.as_chunks.ensures.front h.3)
 
 pub returns : goal.returns
-returns c = let a = c.args in row_some a.catalog.now a.i (16 + 28 * a.i) refl (omega arith) c.read32.ensures c.read64.ensures c.part.ensures
-    c.put.ensures
+returns c =
+    let h = c.in-Some.ensures.lookup.3 in
+    row_in c.args.catalog.now c.args.i c.part.ensures c.as_chunks.ensures.front_len c.as_chunks.ensures.front h.0 (h.1 [])
+    c.read32.ensures c.read64.ensures c.copy_from_slice.ensures.after
