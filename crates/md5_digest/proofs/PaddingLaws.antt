@@ -28,10 +28,10 @@ take-zeros k n h = let e : n ≡ k + (n - k) = omega arith in
     ∙ ap (take {A = ℕ} k) (sym (replicate-append-replicate k (n - k) 0))
     ∙ take_at (replicate k 0) (replicate (n - k) 0) k (length-replicate k 0)
 
-pub padding_is : (n : ℕ) → take (zeros n + 9) (sets (128 ∷ replicate 71 0) (zeros n + 1) (to_le 8 (n % 2 ^ 61 * 8))) ≡ padding n
+pub padding_is : (n : ℕ) → take (zeros n + 9) (sets (128 ∷ replicate 71 0) (zeros n + 1) (to_le 8 (n * 8 % 2 ^ 64))) ≡ padding n
 unfolding padding zeros
 padding_is n = let z : ℕ = zeros n in
-    let bits : ℕ = n % 2 ^ 61 * 8 in
+    let bits : ℕ = n * 8 % 2 ^ 64 in
     let front : List ℕ = 128 ∷ replicate z 0 in
     let head : take (z + 1) (128 ∷ replicate 71 0) ≡ front = rw add-one (ap (λ (l : List ℕ). 128 ∷ l) (take-zeros z 71 (omega arith))) in
     let stored = sets-eq (to_le 8 bits) (128 ∷ replicate 71 0) (z + 1) (omega (arith, length-to_le 8 bits, length-replicate {A = ℕ} 71 0)) in

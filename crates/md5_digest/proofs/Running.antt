@@ -7,7 +7,7 @@
 --   run_digest     the end of any run of pushes: the digest of the parts, joined
 --   push_short, push_long   a push, as the code works it out: all the bytes wait, or the tail is filled and whole blocks follow
 -- Assumes nothing.
-use Rattle.std.proofs.Common.{◌≡◌, ℕ, ◌+◌, ◌-◌, ◌*◌, ◌/◌, ◌%◌, ◌^◌, ◌<◌, ◌≤◌, List, [], ◌∷◌, ◌++◌, length, take, drop, replicate, sym, ap, ◌∙◌, ap₂, append_assoc, append-nil, arith, length-append, take-append-drop, length-take-le}
+use Rattle.std.proofs.Common.{◌≡◌, ℕ, ◌+◌, ◌-◌, ◌*◌, ◌/◌, ◌%◌, ◌^◌, ◌<◌, List, [], ◌∷◌, ◌++◌, length, take, drop, replicate, sym, ap, ◌∙◌, ap₂, append_assoc, append-nil, arith, length-append, length-take-le}
 use mathlib.Core.List.{flatten}
 use lib.Seq.{paste}
 use Rattle.md5_blocks.specs.declared.rounds.Words.{Words}
@@ -72,23 +72,20 @@ module _ (h : Md5) (bs : List ℕ) (tailed : length h.tail ≡ 64) {clean : List
       let left : tail ≡ tail_of (rest m) = kept ∙ ap tail_of (sym (rest_short m small)) in
       cc (words, left, counted)
 
-  pub push_long : {first tail : List ℕ} {words : Words} (more last : List ℕ) → 64 - h.total % 64 ≤ length bs
-      → first ≡ paste clean (h.total % 64) (take (64 - h.total % 64) bs) (length (take (64 - h.total % 64) bs))
-      → more ≡ drop (64 - h.total % 64) bs → last ≡ drop (length more / 64 * 64) more → tail ≡ paste (replicate 64 0) 0 last (length last)
-      → words ≡ all_blocks (all_blocks h.words first) more → record { words = words; tail = tail; total = n } ≡ pushed h bs
+  pub push_long : {first tail : List ℕ} {words : Words} (part more last : List ℕ) → length part ≡ 64 - h.total % 64 → bs ≡ part ++ more
+      → first ≡ paste clean (h.total % 64) part (length part) → last ≡ drop (length more - length more % 64) more
+      → tail ≡ paste (replicate 64 0) 0 last (length last) → words ≡ all_blocks (all_blocks h.words first) more
+      → record { words = words; tail = tail; total = n } ≡ pushed h bs
   unfolding pushed
-  push_long {first} {tail} {words} more last many filled cut ended kept after = let m : List ℕ = waiting h ++ bs in
-      let k : ℕ = 64 - h.total % 64 in
-      let block : List ℕ = waiting h ++ take k bs in
-      let full : length block ≡ 64 = omega (arith, length-append (waiting h) (take k bs), length-waiting, length-take-le k bs many) in
-      let first_is : first ≡ block = tail_fill (waiting h) (take k bs) length-waiting (tail_first (waiting h) cleaned) filled ∙ tail_full block full in
-      let whole : m ≡ block ++ more =
-      ap (λ (l : List ℕ). waiting h ++ l) (sym (take-append-drop k bs)) ∙ sym (append_assoc (waiting h) (take k bs) (drop k bs))
-      ∙ ap (λ (l : List ℕ). block ++ l) (sym cut) in
+  push_long {first} {tail} {words} part more last size cut filled ended kept after = let m : List ℕ = waiting h ++ bs in
+      let block : List ℕ = waiting h ++ part in
+      let full : length block ≡ 64 = omega (arith, length-append (waiting h) part, length-waiting) in
+      let first_is : first ≡ block = tail_fill (waiting h) part length-waiting (tail_first (waiting h) cleaned) filled ∙ tail_full block full in
+      let whole : m ≡ block ++ more = ap (λ (l : List ℕ). waiting h ++ l) cut ∙ sym (append_assoc (waiting h) part more) in
       let words_is : words ≡ all_blocks h.words m =
       after ∙ ap (λ (b : List ℕ). all_blocks (all_blocks h.words b) more) first_is ∙ ap (λ (w : Words). all_blocks w more) (all_one h.words block full)
       ∙ sym (all_cons h.words block more full) ∙ ap (all_blocks h.words) (sym whole) in
-      let size : length more / 64 * 64 ≡ 64 * (length more / 64) = omega arith in
-      let left : last ≡ rest m = ended ∙ ap (λ (j : ℕ). drop j more) size ∙ sym (rest_cons block more full) ∙ ap rest (sym whole) in
+      let blocks : length more - length more % 64 ≡ 64 * (length more / 64) = omega arith in
+      let left : last ≡ rest m = ended ∙ ap (λ (j : ℕ). drop j more) blocks ∙ sym (rest_cons block more full) ∙ ap rest (sym whole) in
       let tail_is : tail ≡ tail_of (rest m) = tail_first last kept ∙ ap tail_of left in
       cc (words_is, tail_is, counted)

@@ -1,12 +1,11 @@
 // MD5 (RFC 1321) of any bytes: at once, into lent bytes, or by a running hash that takes the message in parts.
 #![tactic(auto)]
 
-ghost use Rattle.std.specs.Prelude.{◌≡◌, ◌+◌, ◌≤◌, [], ◌++◌, length, take};
+ghost use Rattle.std.specs.Prelude.{◌≡◌, ◌+◌, ◌≤◌, [], ◌++◌, length};
 ghost use Rattle.std.proofs.Math.Seq.{paste};
-ghost use Rattle.std.proofs.lemmas.List.Edits.{sets};
 ghost use Rattle.md5_blocks.specs.Blocks.{all_blocks};
 ghost use Rattle.md5_digest.specs.Padding.{padding};
-ghost use Rattle.md5_digest.specs.Digest.{output, md5, digest_into};
+ghost use Rattle.md5_digest.specs.Digest.{md5, digest_into};
 ghost use Rattle.md5_digest.specs.Running.{state_of, pushed, waiting, finished};
 
 use md5_blocks::Words;
@@ -48,7 +47,7 @@ impl Md5 {
                 c: 0x98badcfe,
                 d: 0x10325476,
             },
-            tail: [0u8; 64],
+            tail: [0; 64],
             total: 0,
         }
     }
@@ -57,30 +56,23 @@ impl Md5 {
     pub fn push(self, bytes: &[u8]) -> Self
         ensures { result ≡ pushed self bytes.now }
     {
-        let w = self.words;
-        let t = self.tail;
-        let total = self.total;
-        let n = bytes.len();
-        let sum = std::num::wrapping_add_u64(total, n as u64);
-        let at = (total % 64) as usize;
-        let waiting = fill([0u8; 64], 0, &t[..at]);
-        let k = 64 - at;
-        if n < k {
+        let total = self.total.wrapping_add(bytes.len() as u64);
+        let at = (self.total % 64) as usize;
+        let waiting = fill([0; 64], 0, &self.tail[..at]);
+        if bytes.len() < 64 - at {
             let tail = fill(waiting, at, bytes);
             return Md5 {
-                words: w,
+                words: self.words,
                 tail,
-                total: sum,
+                total,
             };
         }
-        let first = fill(waiting, at, &bytes[..k]);
-        let more = &bytes[k..];
-        let m = more.len() / 64 * 64;
-        let tail = fill([0u8; 64], 0, &more[m..]);
+        let (first, more) = bytes.split_at(64 - at);
+        let last = more.chunks_exact(64).remainder();
         Md5 {
-            words: md5_blocks::after_blocks(w, &first, more),
-            tail,
-            total: sum,
+            words: md5_blocks::after_blocks(self.words, &fill(waiting, at, first), more),
+            tail: fill([0; 64], 0, last),
+            total,
         }
     }
 
@@ -88,64 +80,32 @@ impl Md5 {
     pub fn finish(self) -> [u8; 16]
         ensures { result ≡ finished self }
     {
-        let mut out = [0u8; 16];
-        put_words(&mut out, self.end());
+        let words = self.end();
+        let mut out = [0; 16];
+        little_endian::write32(&mut out, 0, words.a);
+        little_endian::write32(&mut out, 4, words.b);
+        little_endian::write32(&mut out, 8, words.c);
+        little_endian::write32(&mut out, 12, words.d);
         out
     }
 
-    // The words after the padding.
+    // The words after the padding: a byte 128, zeros, and how many bits there were.
     fn end(self) -> Words
         ensures { result ≡ all_blocks self.words (waiting self ++ padding self.total) }
     {
-        let p = padding_of(self.total);
-        let b = p.bytes;
-        let n = p.len;
-        let h = self.push(&b[..n]);
-        h.words
+        let zeros = ((119 - self.total % 64) % 64) as usize;
+        let mut padding = [0; 72];
+        padding[0] = 128;
+        little_endian::write64(&mut padding, zeros + 1, self.total.wrapping_mul(8));
+        self.push(&padding[..zeros + 9]).words
     }
 }
 
-// The padding of a message: the first `len` of the bytes.
-#[derive(Clone, Copy)]
-struct Padding {
-    bytes: [u8; 72],
-    len: usize,
-}
-
-// The padding of a message of `total` bytes.
-fn padding_of(total: u64) -> Padding
-    ensures { (result.len ≤ 72) × (take result.len result.bytes ≡ padding total) }
+// The block with the bytes over those from `at` on.
+fn fill(mut block: [u8; 64], at: usize, bytes: &[u8]) -> [u8; 64]
+    requires { at + length bytes.now ≤ 64 }
+    ensures { result ≡ paste block at bytes.now (length bytes.now) }
 {
-    let z = ((119 - total % 64) % 64) as usize;
-    let mut p = [0u8; 72];
-    p[0] = 128;
-    little_endian::write64(&mut p, z + 1, total % 0x2000_0000_0000_0000 * 8);
-    Padding {
-        bytes: p,
-        len: z + 9,
-    }
-}
-
-// The bytes t with s over those from `at` on.
-fn fill(t: [u8; 64], at: usize, s: &[u8]) -> [u8; 64]
-    requires { at + length s.now ≤ 64 }
-    ensures { result ≡ paste t at s.now (length s.now) }
-{
-    let mut d = t;
-    let mut i: usize = 0;
-    while i < s.len() {
-        d[at + i] = s[i];
-        i += 1;
-    }
-    d
-}
-
-// The digest that the words are, over the first bytes of `out`.
-fn put_words(out: &mut [u8], w: Words)
-    ensures { out.new ≡ sets out.old 0 (output w) }
-{
-    little_endian::write32(out, 0, w.a);
-    little_endian::write32(out, 4, w.b);
-    little_endian::write32(out, 8, w.c);
-    little_endian::write32(out, 12, w.d);
+    block[at..at + bytes.len()].copy_from_slice(bytes);
+    block
 }
