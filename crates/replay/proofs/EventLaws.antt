@@ -4,9 +4,10 @@
 --   event_short, event_long     a line of fewer than three characters is no event
 --   part_body               the part of a log that is a line without its byte 10
 --   opening_long, opening-none, opening_shape, opening_opens     the cases of the first line
+--   opened_as, taken_as     what an opening and a change give, by their outcomes
 --   next_end, next_unended, next_shape, next-taken     the cases of an event
 -- Assumes nothing.
-use mathlib.Core.Path.{◌≡◌, refl, sym, ap, ◌∙◌}
+use mathlib.Core.Path.{◌≡◌, refl, sym, ap, ◌∙◌, subst}
 use mathlib.Core.Logic.{◌≢◌}
 use mathlib.Core.Bool.{Bool, true, false, cond, ◌&&◌, and-false, false≢true}
 use mathlib.Core.List.{List, [], ◌∷◌}
@@ -16,11 +17,14 @@ use native.Mathlib.Decide.{dec_lt}
 use lib.Dec.{eqb}
 use lib.ListN.{length, get_or, take, drop}
 use lib.Seq.{length-take-le}
-use borrow.Author.Tests.{le-leb, lt-leb, ne_eqb, eq-eqb}
+use borrow.Author.Tests.{le-leb, lt-leb, ne_eqb, eq-eqb, eqb-true}
 use Rattle.lent_bytes.proofs.PartLaws.{part_take}
 use Rattle.codes.specs.declared.Code.TheVariants.{Powers}
-use Rattle.inventory.specs.Model.{remove_volume}
-use Rattle.inventory.specs.Steps.{open_step, change_step}
+use Rattle.std.specs.Prelude.{Result, Ok, Err, MatchResult}
+use Rattle.inventory.specs.Model.{Change, remove_volume}
+use Rattle.inventory.specs.Outcome.{Outcome}
+use Rattle.inventory.proofs.Outcomes.{returned}
+use Rattle.inventory.specs.Steps.{outcome, open_step, change_step, after_change}
 use Rattle.inventory.specs.declared.Inventory.{Inventory}
 use Rattle.text.specs.Decimal.{is_decimal}
 use Rattle.text.specs.TextLines.{line_length}
@@ -48,6 +52,36 @@ event_long l e =
       | yes h ↦ absurd (false≢true (sym (event_short l h) ∙ e))
       | no q ↦ omega arith
     ]
+
+-- ---- what is handed back
+
+pub opened_as : (o : Outcome) (from : ℕ) {e : Event} {q : Result Inventory ℕ} → q ≡ returned o
+    → MatchResult q (λ s. e ≡ taken from (outcome s 0)) (λ k. e ≡ ended k) → e ≡ opened_by from o
+unfolding opened_by
+opened_as o from {e} is h =
+    go (eqb o.number 0) refl (subst (λ (q : Result Inventory ℕ). MatchResult q (λ s. e ≡ taken from (outcome s 0)) (λ k. e ≡ ended k)) is h)
+  where
+    go : (b : Bool) → eqb o.number 0 ≡ b
+        → MatchResult (cond b (Ok o.next) (Err o.number)) (λ s. e ≡ taken from (outcome s 0)) (λ k. e ≡ ended k)
+        → e ≡ cond b (taken from o) (ended o.number)
+    go true z h = h ∙ ap (λ (k : ℕ). taken from (outcome o.next k)) (sym (eqb-true o.number 0 z))
+    go false z h = h
+
+pub taken_as : (c : Change) (s : Inventory) (k from : ℕ) {e : Event} {q : Result Inventory ℕ} → q ≡ returned (change_step c s k)
+    → MatchResult q (λ t. e ≡ taken from (outcome t 0)) (λ n. e ≡ taken from (outcome s n)) → e ≡ taken from (change_step c s k)
+unfolding change_step
+taken_as c s k from {e} is h =
+    go (eqb (change_step c s k).number 0) refl
+    (subst (λ (q : Result Inventory ℕ). MatchResult q (λ t. e ≡ taken from (outcome t 0)) (λ n. e ≡ taken from (outcome s n))) is h)
+  where
+    n : ℕ
+    n = (change_step c s k).number
+
+    go : (b : Bool) → eqb n 0 ≡ b
+        → MatchResult (cond b (Ok (cond b (after_change c s k) s)) (Err n)) (λ t. e ≡ taken from (outcome t 0)) (λ n. e ≡ taken from (outcome s n))
+        → e ≡ taken from (outcome (cond b (after_change c s k) s) n)
+    go true z h = h ∙ ap (λ (m : ℕ). taken from (outcome (after_change c s k) m)) (sym (eqb-true n 0 z))
+    go false z h = h
 
 -- ---- a line of a log
 

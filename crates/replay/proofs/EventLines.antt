@@ -2,22 +2,25 @@
 --
 --   line_refused, line_end      that of a refusal, and of the end of the log
 --   line_none, line_files       that of an inventory which no calls give, and of any other
---   set-none, set_files         the same by what `recoverable_files` gives
+--   set-none, set_files         the same by the set that `recoverable_files` promises
+--   set_denied, set_kept        and by what it returns
 --   line_there                  so each event has one
 -- Assumes nothing.
 use mathlib.Core.Path.{◌≡◌, refl, sym, ap, ◌∙◌, subst}
 use mathlib.Core.Logic.{◌≢◌}
-use mathlib.Core.Bool.{Bool, true, false, true≢false, false≢true}
+use mathlib.Core.Bool.{Bool, true, false, cond, true≢false, false≢true}
 use mathlib.Core.List.{List, []}
 use Prim.Native.Nat.{ℕ}
 use native.Mathlib.Omega.{arith}
 use native.Mathlib.Decide.{ℕ_discrete}
+use lib.Dec.{eqb}
+use borrow.Author.Tests.{eqb-true, eq-eqb}
+use Rattle.std.specs.Prelude.{Ok, Err}
 use Rattle.number_sets.specs.Sets.{member}
 use Rattle.parity.specs.Coefficient.{rule_of}
 use Rattle.parity.proofs.Coefficients.{rule_byte}
-use Rattle.inventory.specs.Steps.{is_inventory}
-use Rattle.inventory.specs.RecoverableFiles.{RecoverableSet}
-use Rattle.inventory.specs.declared.recoverable.RecoverableFiles.{RecoverableFiles}
+use Rattle.inventory.specs.Steps.{is_inventory, or_refusal}
+use Rattle.inventory.specs.RecoverableFiles.{RecoverableFiles, RecoverableSet}
 use Rattle.inventory.proofs.RecoverableSets.{set_there}
 use Rattle.inventory.proofs.RecoverableAnswers.{one_set}
 use Rattle.replay.specs.Lines.{refused_line, files_of, numbers_line}
@@ -65,6 +68,25 @@ module _ (e : Event) (z : e.number ≡ 0) (o : e.over ≡ false) (r : Recoverabl
       go : (b : Bool) → is_inventory e.inventory ≡ b → EventLine rule_of e (numbers_line (files_of e.inventory.n (member r.files)))
       go true v = files z o v r R
       go false v = absurd (let k : r.number ≡ 10 = ap (λ (x : RecoverableFiles). x.number) (R.first v) in omega arith)
+
+-- what the call for the set hands back
+module _ (e : Event) (z : e.number ≡ 0) (o : e.over ≡ false) where
+  pub set_kept : {ws : List ℕ} → (r : RecoverableFiles) × RecoverableSet rule_of e.inventory r × (Ok ws ≡ or_refusal r.files r.number)
+      → EventLine rule_of e (numbers_line (files_of e.inventory.n (member ws)))
+  set_kept {ws} (r, R, is) = go (eqb r.number 0) refl is
+    where
+      go : (b : Bool) → eqb r.number 0 ≡ b → Ok ws ≡ cond b (Ok r.files) (Err r.number)
+          → EventLine rule_of e (numbers_line (files_of e.inventory.n (member ws)))
+      go true n is = let same : ws ≡ r.files = cc in rw same (set_files e z o r R (eqb-true r.number 0 n))
+      go false n is = absurd (cc)
+
+  pub set_denied : {k : ℕ} → (r : RecoverableFiles) × RecoverableSet rule_of e.inventory r × (Err k ≡ or_refusal r.files r.number)
+      → EventLine rule_of e (refused_line k)
+  set_denied {k} (r, R, is) = go (eqb r.number 0) refl is
+    where
+      go : (b : Bool) → eqb r.number 0 ≡ b → Err k ≡ cond b (Ok r.files) (Err r.number) → EventLine rule_of e (refused_line k)
+      go true n is = absurd (cc)
+      go false n is = let same : k ≡ r.number = cc in rw same (set-none e z o r R (λ m. true≢false (sym (eq-eqb r.number 0 m) ∙ n)))
 
 pub line_there : (e : Event) → (line : List ℕ) × EventLine rule_of e line
 line_there e =

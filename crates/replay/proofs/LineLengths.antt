@@ -18,7 +18,7 @@ use Rattle.recovery.specs.Recoverable.{State}
 use Rattle.inventory.specs.Model.{Change}
 use Rattle.inventory.specs.Steps.{is_inventory, if_inventory, in_range, of_other_code, while_quarantined, already, change_number, change_step, open_step}
 use Rattle.inventory.specs.declared.Inventory.{Inventory}
-use Rattle.inventory.specs.declared.Outcome.{Outcome}
+use Rattle.inventory.specs.Outcome.{Outcome}
 use Rattle.inventory.proofs.ValidInventories.{few_files}
 use Rattle.text.specs.TextLines.{line_length}
 use Rattle.replay.specs.Log.{body_of, is_first_line, numbers_of, change_of, is_event_line, number_in}

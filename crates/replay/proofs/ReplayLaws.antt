@@ -29,10 +29,9 @@ use Rattle.recovery.specs.Recoverable.{State, RecoverableNow}
 use Rattle.inventory.specs.Model.{Change, change, numbered, opened, number_of, next, Gives}
 use Rattle.inventory.specs.Steps.{is_inventory, open_step, change_step}
 use Rattle.inventory.specs.Claim.{Step, size_in}
-use Rattle.inventory.specs.RecoverableFiles.{RecoverableSet}
+use Rattle.inventory.specs.RecoverableFiles.{RecoverableFiles, RecoverableSet}
 use Rattle.inventory.specs.declared.Inventory.{Inventory}
-use Rattle.inventory.specs.declared.Outcome.{Outcome}
-use Rattle.inventory.specs.declared.recoverable.RecoverableFiles.{RecoverableFiles}
+use Rattle.inventory.specs.Outcome.{Outcome}
 use Rattle.inventory.proofs.ValidInventories.{few_files}
 use Rattle.inventory.proofs.Representation.{Represents, meets}
 use Rattle.inventory.proofs.Openings.{opened_represents}

@@ -15,10 +15,9 @@ use Rattle.number_sets.specs.Sets.{member}
 use Rattle.codes.specs.declared.Code.{Code}
 use Rattle.codes.specs.declared.Code.TheVariants.{Powers}
 use Rattle.inventory.specs.Steps.{is_inventory, zeros, open_step, change_step}
-use Rattle.inventory.specs.RecoverableFiles.{RecoverableSet}
+use Rattle.inventory.specs.RecoverableFiles.{RecoverableFiles, RecoverableSet}
 use Rattle.inventory.specs.declared.Inventory.{Inventory}
-use Rattle.inventory.specs.declared.Outcome.{Outcome}
-use Rattle.inventory.specs.declared.recoverable.RecoverableFiles.{RecoverableFiles}
+use Rattle.inventory.specs.Outcome.{Outcome}
 use Rattle.text.specs.TextLines.{line_length}
 use Rattle.replay.specs.Log.{body_of, is_first_line, numbers_of, change_of, is_event_line, number_in}
 use Rattle.replay.specs.Lines.{refused_line, files_of, numbers_line}

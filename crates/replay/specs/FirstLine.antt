@@ -6,7 +6,7 @@
 -- Assumes nothing.
 use Rattle.std.specs.Prelude.{ℕ, ◌<◌, min, ◌≡◌, true, List, length, get_or, drop}
 use Rattle.codes.specs.declared.Code.TheVariants.{Powers}
-use Rattle.inventory.specs.Steps.{open_step}
+use Rattle.inventory.specs.Steps.{open_step, or_refusal}
 use Rattle.text.specs.Buffer.{usize_max}
 use Rattle.replay.specs.Log.{is_first_line, numbers_of}
 use Rattle.replay.specs.declared.first_line.Numbers.{Numbers}
@@ -20,4 +20,5 @@ pub record NumbersRead (line : List ℕ) (r : Numbers) : Type 0 where
 
 pub record LineOpened (line : List ℕ) (r : LineOpening) : Type 0 where
   pub shape : r.shaped ≡ is_first_line line
-  pub opens : r.shaped ≡ true → r.outcome ≡ open_step Powers (get_or (numbers_of line) 0 0) (drop 1 (numbers_of line))
+  pub opens : r.shaped ≡ true
+      → let o = open_step Powers (get_or (numbers_of line) 0 0) (drop 1 (numbers_of line)) in r.outcome ≡ or_refusal o.next o.number

@@ -1,12 +1,12 @@
 // A log event by event: the first line opens an inventory, each further line changes it.
-ghost use Rattle.std.specs.Prelude.{◌≡◌, true, get_or};
-ghost use Rattle.inventory.specs.Steps.{change_step};
+ghost use Rattle.std.specs.Prelude.{◌≡◌, true, get_or, MatchResult};
+ghost use Rattle.inventory.specs.Steps.{change_step, outcome, or_refusal};
 ghost use Rattle.replay.specs.Log.{change_of, is_letter, is_event_line, number_in};
 ghost use Rattle.replay.specs.Events.{ended, opened_by, opening, last, taken, next_event};
 
 use crate::first_line::open_line;
 use codes::Code;
-use inventory::{Inventory, Outcome};
+use inventory::Inventory;
 use refusals::{EVENT, MAX_LISTED_LENGTH, SIZE};
 use text::{is_decimal, line_length, value_of};
 
@@ -36,8 +36,7 @@ pub fn open(log: &[u8]) -> Event
     if !opened.shaped {
         return ended(EVENT);
     }
-    let outcome = opened.outcome;
-    opened_by(length, outcome)
+    opened_by(length, opened.outcome)
 }
 
 // The event of the line at `from`: over with 28 for another shape, and with 0 at the end of the log.
@@ -56,7 +55,7 @@ pub fn next(log: &[u8], from: usize, inventory: Inventory) -> Event
     if !is_event_line(line) {
         return last(EVENT, from, inventory);
     }
-    taken(from + length, changed(inventory, line))
+    taken(from + length, inventory, changed(inventory, line))
 }
 
 // The refusal of a first line.
@@ -68,13 +67,13 @@ fn ended(number: u32) -> Event
 }
 
 // What an opening gives, after a first line of this length.
-fn opened_by(from: usize, outcome: Outcome) -> Event
-    ensures { result ≡ opened_by from outcome }
+fn opened_by(from: usize, opened: Result<Inventory, u32>) -> Event
+    ensures { MatchResult opened (λ s. result ≡ taken from (outcome s 0)) (λ k. result ≡ ended k) }
 {
-    if outcome.number != 0 {
-        return ended(outcome.number);
+    match opened {
+        Ok(inventory) => taken(from, inventory, opened),
+        Err(number) => ended(number),
     }
-    taken(from, outcome)
 }
 
 // No event more: the refusal of a line, or 0 at the end of the log.
@@ -89,13 +88,16 @@ fn last(number: u32, from: usize, inventory: Inventory) -> Event
     }
 }
 
-// What an event gives, the next line of which starts at `from`.
-fn taken(from: usize, outcome: Outcome) -> Event
-    ensures { result ≡ taken from outcome }
+// What an event gives, the next line of which starts at `from`: a refusal leaves what was present before it.
+fn taken(from: usize, before: Inventory, changed: Result<Inventory, u32>) -> Event
+    ensures { MatchResult changed (λ s. result ≡ taken from (outcome s 0)) (λ k. result ≡ taken from (outcome before k)) }
 {
-    let inventory = outcome.next;
+    let (inventory, number) = match changed {
+        Ok(next) => (next, 0),
+        Err(number) => (before, number),
+    };
     Event {
-        number: outcome.number,
+        number,
         over: false,
         from,
         inventory,
@@ -126,16 +128,16 @@ fn is_letter(letter: u8) -> bool
 }
 
 // What the event of a line makes of an inventory.
-fn changed(inventory: Inventory, line: &[u8]) -> Outcome
+fn changed(inventory: Inventory, line: &[u8]) -> Result<Inventory, u32>
     requires { is_event_line line.now ≡ true }
-    ensures { result ≡ change_step (change_of (get_or line.now 0 0)) inventory (number_in line.now) }
+    ensures { let o = change_step (change_of (get_or line.now 0 0)) inventory (number_in line.now) in result ≡ or_refusal o.next o.number }
 {
     changed_by(inventory, line[0], value_of(&line[2..]))
 }
 
 // What the change of a letter makes of an inventory.
-fn changed_by(inventory: Inventory, letter: u8, number: u64) -> Outcome
-    ensures { result ≡ change_step (change_of letter) inventory number }
+fn changed_by(inventory: Inventory, letter: u8, number: u64) -> Result<Inventory, u32>
+    ensures { let o = change_step (change_of letter) inventory number in result ≡ or_refusal o.next o.number }
 {
     match letter {
         b'F' => inventory.add_file(number),

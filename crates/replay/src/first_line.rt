@@ -2,7 +2,7 @@
 ghost use Rattle.replay.specs.FirstLine.{LineOpened, NumbersRead};
 
 use codes::Code;
-use inventory::{Inventory, Outcome};
+use inventory::Inventory;
 use refusals::{EVENT, MAX_FILES, OUT_OF_RANGE};
 use text::{is_decimal, value_of, word_length};
 
@@ -13,7 +13,7 @@ const MOST: usize = MAX_FILES as usize + 1;
 #[derive(Clone, Copy)]
 pub struct LineOpening {
     pub shaped: bool,
-    pub outcome: Outcome,
+    pub outcome: Result<Inventory, u32>,
 }
 
 // What opening by a first line gives.
@@ -24,14 +24,14 @@ pub fn open_line(line: &[u8]) -> LineOpening
     if !numbers.shaped {
         return LineOpening {
             shaped: false,
-            outcome: inventory::refused_opening(EVENT),
+            outcome: Err(EVENT),
         };
     }
     let count = numbers.count;
     if MOST < count {
         return LineOpening {
             shaped: true,
-            outcome: inventory::refused_opening(OUT_OF_RANGE),
+            outcome: Err(OUT_OF_RANGE),
         };
     }
     let values = numbers.values;

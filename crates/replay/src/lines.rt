@@ -24,12 +24,10 @@ pub fn put_line(out: &mut [u8], at: usize, event: Event) -> usize
         return at;
     }
     let inventory = event.inventory;
-    let recoverable = inventory.recoverable_files();
-    if recoverable.number != 0 {
-        return put_refused(out, at, recoverable.number);
+    match inventory.recoverable_files() {
+        Ok(files) => put_files(out, at, inventory.n, files),
+        Err(number) => put_refused(out, at, number),
     }
-    let files = recoverable.files;
-    put_files(out, at, inventory.n, files)
 }
 
 // The line of a refusal.

@@ -7,12 +7,12 @@ use lib.ListN.{length, get_or, take, drop, length-drop}
 use mathlib.Core.Logic.{◌≢◌}
 use mathlib.Core.List.{List}
 use Rattle.inventory.specs.Steps.{change_step}
-use Rattle.inventory.specs.declared.Outcome.{Outcome}
+use Rattle.inventory.specs.Outcome.{Outcome}
 use Rattle.text.specs.TextLines.{line_length}
 use Rattle.text.proofs.ScanLaws.{line_most}
 use Rattle.replay.specs.Log.{body_of, change_of, is_event_line, number_in}
 use Rattle.replay.specs.Events.{taken}
-use Rattle.replay.proofs.EventLaws.{part_body, next_end, next_unended, next_shape, next-taken}
+use Rattle.replay.proofs.EventLaws.{part_body, next_end, next_unended, next_shape, next-taken, taken_as}
 use Rattle.replay.proofs.events.next.Goals as goal
 
 -- the line at hand, which is ended
@@ -52,8 +52,8 @@ pub changed-requires : goal.changed-requires
 changed-requires c = let shape = c.is_event_line in sym shape.ensures ∙ c.if-not-is_event_line.false
 
 pub returns : goal.returns
-returns c = let a = c.args in let shape = c.is_event_line in let n = c.line_length-length.ensures in c.taken.ensures
+returns c = let a = c.args in let shape = c.is_event_line in let n = c.line_length-length.ensures in taken_as _ _ _ _ c.changed.ensures c.taken.ensures
     ∙ ap₂ (λ (k : ℕ) (o : Outcome). taken (a.from + k) o) n
-    (c.changed.ensures ∙ ap (λ (w : List ℕ). change_step (change_of (get_or w 0 0)) a.inventory (number_in w)) (body c.args.log.now c.args.from c.line_length-length.result c.line_length-length.ensures c.if-length-eq0.false c.if-log-from.false))
+    (ap (λ (w : List ℕ). change_step (change_of (get_or w 0 0)) a.inventory (number_in w)) (body c.args.log.now c.args.from c.line_length-length.result c.line_length-length.ensures c.if-length-eq0.false c.if-log-from.false))
     ∙ next-taken a.log.now a.from a.inventory c.if-log-from.false (unended c.args.log.now c.args.from c.line_length-length.result c.line_length-length.ensures c.if-length-eq0.false)
     (sym (ap is_event_line (body c.args.log.now c.args.from c.line_length-length.result c.line_length-length.ensures c.if-length-eq0.false c.if-log-from.false)) ∙ sym shape.ensures ∙ c.if-not-is_event_line.false)

@@ -13,7 +13,7 @@ use Rattle.text.specs.TextLines.{line_length}
 use Rattle.text.proofs.ScanLaws.{line_most}
 use Rattle.replay.specs.Log.{body_of, is_first_line, numbers_of}
 use Rattle.replay.specs.Events.{opened_by}
-use Rattle.replay.proofs.EventLaws.{part_body, opening_long, opening-none, opening_shape, opening_opens}
+use Rattle.replay.proofs.EventLaws.{part_body, opening_long, opening-none, opening_shape, opening_opens, opened_as}
 use Rattle.replay.proofs.events.open.Goals as goal
 
 -- the first line, which is ended
@@ -44,6 +44,6 @@ returns-then-not-opened c = let log = c.args.log.now in let o = c.open_line-open
 
 pub returns : goal.returns
 returns c = let log = c.args.log.now in let o = c.open_line-opened in let ok = not-false c.open_line-opened.result.shaped c.if-not-opened.false in
-    c.opened_by.ensures
-    ∙ ap₂ opened_by c.line_length-length.ensures (o.ensures.opens ok ∙ ap (λ (w : List ℕ). open_step Powers (get_or (numbers_of w) 0 0) (drop 1 (numbers_of w))) (body c.args.log.now c.line_length-length.result c.line_length-length.ensures c.if-length-eq0.false))
+    opened_as _ _ (o.ensures.opens ok) c.opened_by.ensures
+    ∙ ap₂ opened_by c.line_length-length.ensures (ap (λ (w : List ℕ). open_step Powers (get_or (numbers_of w) 0 0) (drop 1 (numbers_of w))) (body c.args.log.now c.line_length-length.result c.line_length-length.ensures c.if-length-eq0.false))
     ∙ opening_opens log c.if-log-gt-MAX_LISTED_LENGTH.false (unended c.args.log.now c.line_length-length.result c.line_length-length.ensures c.if-length-eq0.false) (sym (ap is_first_line (body c.args.log.now c.line_length-length.result c.line_length-length.ensures c.if-length-eq0.false)) ∙ sym o.ensures.shape ∙ ok)

@@ -1,9 +1,10 @@
 -- `replay::first_line::open_line` meets its contract.
 -- Assumes nothing.
-use mathlib.Core.Path.{sym, ◌∙◌}
+use mathlib.Core.Path.{sym, ap, ◌∙◌}
 use native.Mathlib.Omega.{arith}
 use mathlib.Core.Bool.{false≢true}
 use borrow.Author.Tests.{not-true, not-false}
+use Rattle.inventory.proofs.Outcomes.{returned}
 use Rattle.replay.proofs.Openings.{some, many, opened}
 use Rattle.replay.proofs.first_line.open_line.Goals as goal
 
@@ -13,7 +14,7 @@ returns-then-not-numbers c = let n = c.read_numbers-numbers in record { shape = 
 pub returns-then-count-gt-MOST : goal.returns-then-count-gt-MOST
 returns-then-count-gt-MOST c = let n = c.read_numbers-numbers in let ok = (not-false c.read_numbers-numbers.result.shaped c.if-not-numbers.false) in record {
   shape = sym ok ∙ n.ensures.shape;
-  opens = λ _. c.refused_opening-then-count-gt-MOST.ensures ∙ many _ _ n.ensures ok c.if-count-gt-MOST.true;
+  opens = λ _. ap returned (many _ _ n.ensures ok c.if-count-gt-MOST.true);
 }
 
 pub slice_bounds-open-count : goal.slice_bounds-open-count
@@ -28,5 +29,5 @@ slice_bounds-open-end c = omega (arith, c.read_numbers-numbers.ensures.full, c.i
 pub returns : goal.returns
 returns c = let n = c.read_numbers-numbers in let ok = (not-false c.read_numbers-numbers.result.shaped c.if-not-numbers.false) in record {
   shape = sym ok ∙ n.ensures.shape;
-  opens = λ _. c.«open».ensures ∙ opened _ _ n.ensures ok c.if-count-gt-MOST.false;
+  opens = λ _. c.«open».ensures ∙ ap returned (opened _ _ n.ensures ok c.if-count-gt-MOST.false);
 }
