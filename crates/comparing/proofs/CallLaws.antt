@@ -1,29 +1,23 @@
--- The comparison, by what the two readings are, and where its text is empty.
+-- The comparison, by what the two readings are.
 --
 --   comparison_refused    the first file is refused
 --   comparison_refused_2  the second file alone is
 --   comparison_accepted   neither is
 --   data_part             the data of an accepted file, as code takes it
---   fit_none              a text that was measured as empty is written by writing nothing
 -- Assumes nothing.
 use Rattle.std.specs.Prelude.{Ok, Err}
 use mathlib.Core.Path.{◌≡◌, refl, sym, ap, ap₂, ◌∙◌}
-use mathlib.Core.List.{List, [], ◌∷◌, ◌++◌}
-use Prim.Native.Nat.{ℕ, ◌+◌, ◌<◌}
+use mathlib.Core.List.{List, ◌++◌}
+use Prim.Native.Nat.{ℕ, ◌+◌}
 use native.Mathlib.Omega.{arith}
 use lib.ListN.{length, take, drop, length-drop}
 use lib.Seq.{take_all}
-use Rattle.lent_bytes.specs.Writing.{written}
-use Rattle.lent_bytes.proofs.WritingLaws.{written_fits}
 use Rattle.refusals.specs.declared.Refusal.{Refusal}
 use Rattle.par1_rules.specs.Layout.{list_size_of, data_of}
 use Rattle.par1_read.specs.Reading.{entries_in, read_of}
 use Rattle.par1_read.specs.declared.reading.Parts.{Parts}
 use Rattle.par1_read.specs.Reading.{Reading}
 use Rattle.par1_read.proofs.ReadingLaws.{read_tells}
-use Rattle.text.specs.Buffer.{Buffer, buffer, usize_max, put}
-use Rattle.text.proofs.BufferLaws.{put_measure}
-use Rattle.text.proofs.FitLaws.{unwritten}
 use Rattle.comparing.specs.Lines.{text_of}
 use Rattle.comparing.specs.Differences.{head_lines, entry_lines}
 use Rattle.comparing.specs.Runs.{run_lines}
@@ -57,13 +51,3 @@ data_part f {p} e = let told = read_tells f p e in
     let start : p.data_start ≡ 96 + list_size_of f =
     ap (λ (p : Parts). p.data_start) told.parts_are ∙ told.tests.header.layout.data_start_lem in
     ap (λ (i : ℕ). take (length f) (drop i f)) start ∙ take_all (length f) (data_of f) (omega (arith, length-drop (96 + list_size_of f) f))
-
-empty : (t : List ℕ) → length t ≡ 0 → t ≡ []
-empty [] e = refl
-empty (b ∷ t) e = absurd (omega arith)
-
-pub fit_none : (t out : List ℕ) {l : List ℕ} {n : ℕ} → buffer l n ≡ put (buffer [] 0) t → length out < usize_max → n ≡ 0
-    → (Ok 0, l ++ out) ≡ written t out
-fit_none t out e h z = let none : length t ≡ 0 = omega (arith, ap (λ (b : Buffer). b.at) (e ∙ put_measure t)) in
-    written_fits t out (omega arith) (sym none)
-    (unwritten t out e h ∙ ap (λ (t : List ℕ). t ++ drop (length t) out) (sym (empty t none)))

@@ -2,8 +2,6 @@
 ghost use Rattle.std.specs.Prelude.{◌≡◌, false, not, ℕ, ◌+◌, ◌<◌, ◌≤◌, max, length, get_or};
 ghost use Rattle.comparing.specs.Runs.{differs, FirstFrom};
 
-use lent_bytes::{greater, lesser};
-
 // How many bytes are compared at a time where nothing differs: a loop over a block has no exit, so that the compiler takes 16 bytes at once.
 const BLOCK: usize = 256;
 
@@ -11,7 +9,7 @@ const BLOCK: usize = 256;
 pub(crate) fn difference_from(a: &[u8], b: &[u8], from: usize) -> usize
     ensures { FirstFrom (differs a.now b.now) (max (length a.now) (length b.now)) from result }
 {
-    let common = lesser(a.len(), b.len());
+    let common = a.len().min(b.len());
     let mut p = equal_blocks(a, b, from);
     while p < common {
         if a[p] != b[p] {
@@ -28,7 +26,7 @@ pub(crate) fn agreement_from(a: &[u8], b: &[u8], from: usize) -> usize
     ensures { (result ≤ max (length a.now) (length b.now))
         × FirstFrom (λ p. not (differs a.now b.now p)) (max (length a.now) (length b.now)) from result }
 {
-    let common = lesser(a.len(), b.len());
+    let common = a.len().min(b.len());
     let mut p = from;
     while p < common {
         if a[p] == b[p] {
@@ -36,14 +34,14 @@ pub(crate) fn agreement_from(a: &[u8], b: &[u8], from: usize) -> usize
         }
         p += 1;
     }
-    greater(a.len(), b.len())
+    a.len().max(b.len())
 }
 
 // A place from `from` on before which, from there, `a` and `b` agree: the start of the first block that differs, or of what is no whole block.
 fn equal_blocks(a: &[u8], b: &[u8], from: usize) -> usize
     ensures { (from ≤ result) × ((p : ℕ) → p < result → from ≤ p → differs a.now b.now p ≡ false) }
 {
-    let common = lesser(a.len(), b.len());
+    let common = a.len().min(b.len());
     let mut at = from;
     while at < common {
         if common - at < BLOCK {

@@ -25,7 +25,7 @@ line_placed r h k = simp (le-leb 16 r.number h, le-leb r.number 19 k, append_ass
 
 line_bare : (r : Refusal) → r.number < 16 → refused_line r ≡ ascii "refused " ++ (decimal r.number ++ ascii "\n")
 unfolding refused_line place_field is_placed flatten
-line_bare r h = simp (lt-leb 16 r.number h, append_assoc)
+line_bare r h = simp (lt-leb 16 r.number h)
 
 one_line : refused_line (bare 1) ≡ ascii "refused 1\n"
 unfolding refused_line place_field is_placed flatten decimal decimal_in

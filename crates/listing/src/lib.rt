@@ -3,7 +3,7 @@
 
 ghost use Rattle.std.specs.Prelude.{◌≡◌};
 ghost use Rattle.lent_bytes.specs.Writing.{written};
-ghost use Rattle.text.specs.Buffer.{buffer, put as put_of};
+ghost use Rattle.text.specs.Writer.{Puts};
 ghost use Rattle.listing.specs.Listing.{listing_by, listing_of, input_listing, ListIn};
 
 mod lines;
@@ -11,6 +11,7 @@ mod lines;
 use par1_read::Parts;
 use par1_rules::layout::HEADER_LENGTH;
 use refusals::{Refusal, bare};
+use text::Writer;
 
 // The listing of `file` over the first bytes of `out`, and its length; or 14, and nothing written, where it does not fit.
 pub fn list(file: &[u8], out: &mut [u8]) -> Result<usize, Refusal>
@@ -30,31 +31,30 @@ pub fn list_input(input: &[u8], out: &mut [u8]) -> Result<usize, Refusal>
 }
 
 // The listing of a file that reads as `reading`: measured, and written where it fits.
-fn list_as<'a, 'b>(
-    file: &'a [u8],
-    reading: Result<Parts, Refusal>,
-    out: &'b mut [u8],
-) -> Result<usize, Refusal>
+fn list_as(file: &[u8], reading: Result<Parts, Refusal>, out: &mut [u8]) -> Result<usize, Refusal>
     requires { ListIn reading file.now }
     ensures { (result, out.new) ≡ written (listing_by reading file.now) out.old }
 {
-    let length = put_listing(&mut out[..0], file, reading);
+    let mut measured = Writer::new(&mut out[..0]);
+    put_listing(&mut measured, file, reading);
+    let length = measured.position();
     if length <= out.len() {
-        put_listing(out, file, reading);
+        put_listing(&mut Writer::new(out), file, reading);
         return Ok(length);
     }
     Err(bare(refusals::NO_ROOM))
 }
 
-// The listing of a file that reads as `reading`, from position 0 on.
-fn put_listing<'a, 'b>(out: &'a mut [u8], file: &'b [u8], reading: Result<Parts, Refusal>) -> usize
+// The listing of a file that reads as `reading`.
+fn put_listing(writer: &mut Writer, file: &[u8], reading: Result<Parts, Refusal>)
     requires { ListIn reading file.now }
-    ensures { buffer out.new result ≡ put_of (buffer out.old 0) (listing_by reading file.now) }
+    ensures { Puts writer.old writer.new (listing_by reading file.now) }
 {
     let Ok(parts) = reading else {
-        return lines::put_refused(out, 0, par1_read::refusal_of(reading));
+        lines::put_refused(writer, par1_read::refusal_of(reading));
+        return;
     };
-    let at = lines::put_head(out, 0, parts.number, parts.entries, parts.saved);
+    lines::put_head(writer, parts.number, parts.entries, parts.saved);
     let end = HEADER_LENGTH + parts.list_size as usize;
-    lines::put_entries(out, at, &file[HEADER_LENGTH..end])
+    lines::put_entries(writer, &file[HEADER_LENGTH..end]);
 }

@@ -2,6 +2,7 @@
 #![tactic(auto)]
 
 use std::io::{self, Write};
+use text::Writer;
 
 fn main(rt: HostRuntime) -> io::Result<()> {
     let mut out = rt.stdout();
@@ -23,26 +24,16 @@ fn main(rt: HostRuntime) -> io::Result<()> {
 
 // Writes the message's line, which is cut at 160 bytes.
 fn show(out: &mut impl Write, message: &[u8]) -> io::Result<()> {
-    let digest = md5_digest::digest(message);
     let mut line = [0u8; 160];
-    let at = text::put_bytes(&mut line, 0, b"MD5 (\"");
-    let at = text::put_bytes(&mut line, at, message);
-    let at = text::put_bytes(&mut line, at, b"\") = ");
-    let at = put_digest(&mut line, at, digest);
-    let end = text::put(&mut line, at, b'\n');
+    let mut writer = Writer::new(&mut line);
+    writer.put_bytes(b"MD5 (\"");
+    writer.put_bytes(message);
+    writer.put_bytes(b"\") = ");
+    writer.put_hex_bytes(&md5_digest::digest(message));
+    writer.put(b'\n');
+    let end = writer.position();
     if end <= 160 {
         out.write_all(&line[..end])?;
     }
     Ok(())
-}
-
-// The digest in hexadecimal, from position `start` on.
-fn put_digest(out: &mut [u8], start: usize, digest: [u8; 16]) -> usize {
-    let mut at = start;
-    let mut i: usize = 0;
-    while i < 16 {
-        at = text::put_hex(out, at, digest[i]);
-        i += 1;
-    }
-    at
 }

@@ -13,6 +13,7 @@ mod sums;
 use par1_read::refusal_of;
 use par1_rules::layout;
 use refusals::{Refusal, bare};
+use text::Writer;
 
 // A line for each entry of `file`, over the first bytes of `out`, and the length of them all.
 pub fn export(file: &[u8], out: &mut [u8]) -> Result<usize, Refusal>
@@ -47,5 +48,7 @@ pub fn import(file: &[u8], text: &[u8], out: &mut [u8]) -> Result<usize, Refusal
     if (out.len() as u64) < parts.entries {
         return Err(bare(refusals::NO_ROOM));
     }
-    Ok(sums::put_answers(out, list, text, shapes.count))
+    let mut writer = Writer::new(out);
+    sums::put_answers(&mut writer, list, text, shapes.count);
+    Ok(writer.position())
 }

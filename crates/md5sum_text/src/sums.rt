@@ -2,7 +2,7 @@
 ghost use Rattle.std.specs.Prelude.{◌≡◌, [], ◌∷◌, map, ◌≤◌, length};
 ghost use Rattle.computed_tests.specs.Lists.{first_below};
 ghost use Rattle.entries.specs.Walk.{entries_of};
-ghost use Rattle.text.specs.Buffer.{buffer, put as put_of};
+ghost use Rattle.text.specs.Writer.{Puts};
 ghost use Rattle.lent_bytes.specs.Equal.{equal};
 ghost use Rattle.md5sum_text.specs.Lines.{lines_of};
 ghost use Rattle.md5sum_text.specs.Names.{sum_of};
@@ -14,6 +14,7 @@ use crate::{lines, names};
 use entries::length_at;
 use par1_rules::layout;
 use refusals::{Refusal, bare};
+use text::Writer;
 
 // The refusal of the earliest faulty line of `text`, with the number 0 where there is none.
 pub(crate) fn refusal(list: &[u8], text: &[u8], shapes: Shapes) -> Refusal
@@ -68,29 +69,18 @@ fn again_for(entry: &[u8], text: &[u8], count: u64) -> u64
     other.number
 }
 
-// A byte for each entry of `list`, from position 0 on.
-pub(crate) fn put_answers<'a, 'b, 'c>(
-    out: &'a mut [u8],
-    list: &'b [u8],
-    text: &'c [u8],
-    count: u64,
-) -> usize
+// A byte for each entry of `list`.
+pub(crate) fn put_answers(writer: &mut Writer, list: &[u8], text: &[u8], count: u64)
     requires { count ≡ length (lines_of text.now).pieces }
-    ensures { buffer out.new result
-        ≡ put_of (buffer out.old 0) (map (answer_for (lines_of text.now).pieces) (entries_of list.now).pieces) }
+    ensures { Puts writer.old writer.new (map (answer_for (lines_of text.now).pieces) (entries_of list.now).pieces) }
 {
-    let mut at: usize = 0;
     let mut from: usize = 0;
     loop {
         let length = length_at(list, from);
         if length == 0 {
-            return at;
+            return;
         }
-        at = text::put(
-            out,
-            at,
-            answer_for(layout::part(list, from, length), text, count),
-        );
+        writer.put(answer_for(layout::part(list, from, length), text, count));
         from += length;
     }
 }
@@ -120,6 +110,8 @@ fn is_sum(sum: &[u8], entry: &[u8]) -> bool
 {
     let mut digits = [0u8; lines::SUM_LENGTH];
     let hash = layout::part(entry, entries::MD5_AT, layout::HASH_LENGTH);
-    let length = text::put_hex_bytes(&mut digits, 0, hash);
+    let mut writer = Writer::new(&mut digits);
+    writer.put_hex_bytes(hash);
+    let length = writer.position();
     lent_bytes::same(sum, layout::part(&digits, 0, length))
 }

@@ -2,6 +2,7 @@
 #![tactic(auto)]
 
 use refusals::MAX_LISTED_LENGTH;
+use replay::Writer;
 use std::io::{self, Write};
 
 // Room for the longest line, of 254 numbers (crate replay, specs/Claim, `LinesFit`).
@@ -36,7 +37,9 @@ fn replay_log(log: &[u8], out: &mut impl Write) -> io::Result<()> {
 // Prints the line after an event.
 fn print(out: &mut impl Write, event: replay::Event) -> io::Result<()> {
     let mut line = [0u8; LINE_ROOM];
-    let end = replay::put_line(&mut line, 0, event);
+    let mut writer = Writer::new(&mut line);
+    replay::put_line(&mut writer, event);
+    let end = writer.position();
     if end <= LINE_ROOM {
         out.write_all(&line[..end])?;
     }

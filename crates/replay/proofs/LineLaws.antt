@@ -3,7 +3,8 @@
 --   files_more, files_same      the files of one number more
 --   is_any ks                    whether there is a number
 --   spaced_more                 numbers, and one more
---   puts_more                   the loop of `put_files`
+--   Listed test k w v any       the files among the first k are put
+--   listed_none, listed_more, listed_same     the loop of `put_files`
 --   line_any, line_none         its ends
 -- Assumes nothing.
 use mathlib.Core.Path.{◌≡◌, refl, sym, ap, ◌∙◌}
@@ -14,9 +15,11 @@ use native.Mathlib.Numerals.{add-one}
 use lib.ListN.{length}
 use Rattle.lent_bytes.proofs.PartsInRow.{flatten-append}
 use Rattle.text.specs.Ascii.{ascii}
-use Rattle.text.specs.Buffer.{Buffer, usize_max, put}
+use Rattle.text.specs.Buffer.{usize_max}
+use Rattle.text.specs.Writer.{Puts}
+use Rattle.text.specs.declared.writer.Writer.{Writer}
 use Rattle.text.specs.Decimal.{decimal, field}
-use Rattle.text.proofs.BufferLaws.{put_then}
+use Rattle.text.proofs.WriterLaws.{puts_nil, puts_then}
 use Rattle.replay.specs.Lines.{files_of, spaced, numbers_line}
 
 -- ---- the files
@@ -58,20 +61,25 @@ spaced_more (j ∷ ks) k =
     (ap (λ (l : List ℕ). flatten (map (field (ascii " ")) ks) ++ l) (sym (append-nil (field (ascii " ") k)))
     ∙ sym (ap flatten (map-append ks (k ∷ [])) ∙ flatten-append (map (field (ascii " ")) ks) (field (ascii " ") k ∷ [])))
 
-module _ (test : ℕ → Bool) (k : ℕ) (a b c : Buffer) (any : Bool) (room : length a.bytes ≤ usize_max)
-    (before : b ≡ put a (spaced (files_of k test))) (is : any ≡ is_any (files_of k test)) where
-  pub puts_more : test (k + 1) ≡ true → c ≡ put b (cond any (field (ascii " ") (k + 1)) (decimal (k + 1)))
-      → (true ≡ is_any (files_of (k + 1) test)) × (c ≡ put a (spaced (files_of (k + 1) test)))
-  puts_more t e = (
-    any_more (files_of k test) (k + 1) ∙ ap is_any (sym (files_more test k t)),
-    put_then a _ _ room before e
-        ∙ ap (put a)
-        (ap (λ (x : Bool). spaced (files_of k test) ++ cond x (field (ascii " ") (k + 1)) (decimal (k + 1))) is
-        ∙ spaced_more (files_of k test) (k + 1) ∙ ap spaced (sym (files_more test k t))),
-  )
+-- v is the writer w after the files among the first k, with spaces between, and any says whether there is one
+pub record Listed (test : ℕ → Bool) (k : ℕ) (w v : Writer) (any : Bool) : Type 0 where
+  pub is : any ≡ is_any (files_of k test)
+  pub puts : Puts w v (spaced (files_of k test))
 
-  pub puts_same : test (k + 1) ≡ false → (any ≡ is_any (files_of (k + 1) test)) × (b ≡ put a (spaced (files_of (k + 1) test)))
-  puts_same t = (is ∙ ap is_any (sym (files_same test k t)), before ∙ ap (λ (l : List ℕ). put a (spaced l)) (sym (files_same test k t)))
+pub listed_none : (test : ℕ → Bool) (w : Writer) → length w.out.now ≤ usize_max → Listed test 0 w w false
+unfolding files_of
+listed_none test w room = record { is = refl; puts = puts_nil w room }
+
+module _ (test : ℕ → Bool) (k : ℕ) {w v : Writer} {any : Bool} (before : Listed test k w v any) where
+  pub listed_more : {u : Writer} → test (k + 1) ≡ true → Puts v u (cond any (field (ascii " ") (k + 1)) (decimal (k + 1)))
+      → Listed test (k + 1) w u true
+  listed_more t p = record {
+    is = any_more (files_of k test) (k + 1) ∙ ap is_any (sym (files_more test k t));
+    puts = rw (files_more test k t, ← spaced_more (files_of k test) (k + 1), ← before.is) (puts_then before.puts p);
+  }
+
+  pub listed_same : test (k + 1) ≡ false → Listed test (k + 1) w v any
+  listed_same t = record { is = before.is ∙ ap is_any (sym (files_same test k t)); puts = rw (files_same test k t) before.puts }
 
 -- ---- the line
 

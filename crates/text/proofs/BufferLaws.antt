@@ -4,13 +4,9 @@
 --   put-length                   a put keeps the buffer's length
 --   put-within, put_beyond       a text that lies inside the buffer, and one that lies past its end
 --   put_measure, put_whole       from the start: on an empty buffer, and on one that the text fits into
---   put_rest, put_then           a text put by two calls
---   put-over, put_goes           a text put by a loop: nothing of it remains; a part of it is put, and the rest remains
---   Puts a ts c                  c is a after the texts ts, each put by a call of its own
---   puts                         calls in a row put their texts joined
 -- Assumes nothing.
 use mathlib.Core.Path.{◌≡◌, sym, ap, ap₂, ◌∙◌}
-use mathlib.Core.List.{List, [], ◌∷◌, ◌++◌, append-nil, flatten}
+use mathlib.Core.List.{List, [], ◌++◌}
 use Prim.Native.Nat.{ℕ, ◌+◌, ◌≤◌, min}
 use native.Mathlib.Nat.{zero-add}
 use native.Mathlib.Omega.{arith}
@@ -47,34 +43,10 @@ put_whole l t h k = put-within l 0 t (omega arith) k ∙ ap (λ (n : ℕ). buffe
 
 -- ---- puts in a row
 
-put-append : (b : Buffer) (s t : List ℕ) → length b.bytes ≤ usize_max → put (put b s) t ≡ put b (s ++ t)
+pub put-append : (b : Buffer) (s t : List ℕ) → length b.bytes ≤ usize_max → put (put b s) t ≡ put b (s ++ t)
 unfolding put
 put-append b s t h =
     ap₂ buffer
     (sets_past (sets b.bytes b.at s) (b.at + length s) usize_max t (omega (arith, length-sets b.bytes b.at s))
     ∙ sym (sets_append b.bytes b.at s t))
     (omega (arith, length-append s t))
-
-module _ (a : Buffer) {b : Buffer} (s t : List ℕ) (h : length a.bytes ≤ usize_max) (e : b ≡ put a s) where
-  pub put_rest : put b t ≡ put a (s ++ t)
-  put_rest = ap (λ (d : Buffer). put d t) e ∙ put-append a s t h
-
-  pub put_then : {c : Buffer} → c ≡ put b t → c ≡ put a (s ++ t)
-  put_then f = f ∙ put_rest
-
--- u is what remains, and q what putting all gives
-module _ (a : Buffer) {q : Buffer} (u : List ℕ) (all : put a u ≡ q) where
-  pub put-over : a.at ≤ usize_max → u ≡ [] → a ≡ q
-  put-over h none = sym (ap (put a) none ∙ put_nil a.bytes a.at h) ∙ all
-
-  pub put_goes : {b : Buffer} (s t : List ℕ) → length a.bytes ≤ usize_max → u ≡ s ++ t → b ≡ put a s → put b t ≡ q
-  put_goes s t h more e = put_rest a s t h e ∙ ap (put a) (sym more) ∙ all
-
-pub data Puts : Buffer → List (List ℕ) → Buffer → Type 0 where
-  last : {a b : Buffer} {t : List ℕ} → b ≡ put a t → Puts a (t ∷ []) b
-  then : {a b c : Buffer} {t : List ℕ} {ts : List (List ℕ)} → b ≡ put a t → Puts b ts c → Puts a (t ∷ ts) c
-
-pub puts : {a c : Buffer} {ts : List (List ℕ)} → Puts a ts c → length a.bytes ≤ usize_max → c ≡ put a (flatten ts)
-unfolding flatten
-puts (last {a} {b} {t} e) h = e ∙ ap (put a) (sym (append-nil t))
-puts (then {a} {b} {c} {t} {ts} e p) h = puts p (omega (arith, ap (λ (d : Buffer). length d.bytes) e, put-length a t)) ∙ put_rest a t (flatten ts) h e

@@ -1,6 +1,8 @@
 -- Reading of text, from a position on: lines, words, decimal numbers.
 --
---   to_here, to_later, to_end     the search for a byte, from a position on
+--   rest_from            the rest of a text from a position on, as `get` gives it, or nothing
+--   to_here              the search for a byte that stands here
+--   to_position          the same, as the iterator's `position` finds it
 --   to_most              it ends in the text
 --   to_skip              it may start anywhere before the byte
 --   to_found, to_joined  it ends at the byte, and at the first one
@@ -12,37 +14,44 @@
 --   word_most            a word lies in its text
 --   words_last, words_more     the words: the only one, or the first and those after its space
 --   decimal-none, decimal_zero, decimal_by_digits     whether a word is decimal, by its first character
---   value_more, value_none     the value of digits, cut to the greatest number of 64 bits on the way
+--   value_cut            the value of digits, cut to the greatest number of 64 bits on the way
 -- Assumes nothing.
 use mathlib.Core.Path.{◌≡◌, refl, sym, ap, ap₂, ◌∙◌}
 use mathlib.Core.Logic.{◌≢◌}
 use mathlib.Core.Bool.{Bool, true, false, not, cond, ◌&&◌, and-true}
 use mathlib.Core.List.{List, [], ◌∷◌, ◌++◌, foldl}
 use Prim.Native.Nat.{ℕ, zero, suc, ◌+◌, ◌-◌, ◌≤◌, ◌<◌, min}
-use native.Mathlib.Numerals.{add-one}
+use native.Mathlib.Numerals.{add-one, one-add}
 use native.Mathlib.Decide.{dec_lt}
 use native.Mathlib.Omega.{arith}
-use borrow.Author.Tests.{eq-eqb, ne_eqb, eqb-true, lt-ltb, le-ltb}
-use lib.Dec.{eqb}
+use borrow.Author.Tests.{eq-eqb, ne_eqb, eqb-true, ltb-false, lt-ltb, le-ltb}
+use lib.Dec.{eqb, ltb}
 use lib.ListN.{length, take, drop, get_or, drop_of_length-le, length-append, length-drop}
 use lib.Seq.{take-suc}
+use Rattle.std.proofs.lemmas.List.Recursion.{is_position_or_len}
+use Rattle.std.specs.List.{fold, position_or_len, slice_range}
+use denote.Ref.{Bor}
+use Rattle.std.specs.Option.{unwrap_or, MatchOption}
+use Rattle.std.specs.Prelude.{Option, Some, None, ◌⊎◌}
+use Rattle.std.proofs.lemmas.List.{take_all}
 use Rattle.lent_bytes.proofs.EachLaws.{drop_at}
 use Rattle.text.specs.Buffer.{usize_max}
 use Rattle.text.specs.Decimal.{is_digit, all_digits, is_decimal, with_digit}
 use Rattle.text.specs.TextLines.{length_to, line_length, word_length, with_byte, words_of}
 
+-- ---- the rest of a text
+
+pub rest_from : (s : List ℕ) (at : ℕ) (o : Option (Bor (List ℕ))) (d : Bor (List ℕ))
+    → MatchOption o ((length s < at) ⊎ (length s < length s)) (λ x. (at ≤ length s) × (length s ≤ length s) × (x.now ≡ slice_range s at (length s)) × (length x.now + at ≡ length s))
+    → d.now ≡ [] → (unwrap_or o d).now ≡ drop at s
+rest_from s at None d h e = e ∙ sym (drop_of_length-le s (omega (arith, h)))
+rest_from s at (Some x) d h e = h.2 ∙ take_all _ (drop at s) (omega (arith, length-drop at s))
+
 -- ---- the first byte of a kind
 
 module _ (b : ℕ) where
-  module _ (s : List ℕ) (i : ℕ) where
-    pub to_here : i < length s → get_or s i 0 ≡ b → length_to b (drop i s) ≡ 0
-    to_here h e = ap (length_to b) (drop_at s i h) ∙ simp (eq-eqb (get_or s i 0) b e)
-
-    pub to_later : i < length s → get_or s i 0 ≢ b → length_to b (drop i s) ≡ suc (length_to b (drop (i + 1) s))
-    to_later h f = ap (length_to b) (drop_at s i h) ∙ simp (ne_eqb (get_or s i 0) b f)
-
-    pub to_end : length s ≤ i → length_to b (drop i s) ≡ 0
-    to_end h = ap (length_to b) (drop_of_length-le s h)
+  to_here : (s : List ℕ) (i : ℕ) → i < length s → get_or s i 0 ≡ b → length_to b (drop i s) ≡ 0
+  to_here s i h e = ap (length_to b) (drop_at s i h) ∙ simp (eq-eqb (get_or s i 0) b e)
 
   pub to_most : (s : List ℕ) → length_to b s ≤ length s
   to_most [] = omega arith
@@ -74,6 +83,18 @@ module _ (b : ℕ) where
   to_joined : (l s : List ℕ) → ((i : ℕ) → i < length l → get_or l i 0 ≢ b) → length_to b (l ++ b ∷ s) ≡ length l
   to_joined [] s h = simp (eq-eqb b b refl)
   to_joined (c ∷ l) s h = simp (ne_eqb c b (h 0 (omega arith)), to_joined l s (λ i k. h (suc i) (omega arith)))
+
+  to_position : (s : List ℕ) → length_to b s ≡ position_or_len (λ c. eqb c b) s
+  to_position = is_position_or_len (length_to b) (λ c. eqb c b) refl (λ c s. ap (cond (eqb c b) 0) (sym (one-add (length_to b s))))
+
+  pub to_first : (s : List ℕ) {r : Option ℕ}
+      → r ≡ cond (ltb (position_or_len (λ c. eqb c b) s) (length s)) (Some (position_or_len (λ c. eqb c b) s)) None
+      → unwrap_or r (length s) ≡ length_to b s
+  to_first s {r} e = rw (e, ← to_position s) (by (ltb (length_to b s) (length s)) refl)
+    where
+      by : (t : Bool) → ltb (length_to b s) (length s) ≡ t → unwrap_or (cond t (Some (length_to b s)) None) (length s) ≡ length_to b s
+      by true e = refl
+      by false e = omega (arith, to_most s, ltb-false (length_to b s) (length s) e)
 
 -- ---- lines
 
@@ -166,16 +187,11 @@ decimal_by_digits (c ∷ d ∷ w) h f = ap (λ (b : Bool). not b && all_digits (
 
 -- ---- the value
 
-cut_on_the_way : (s : List ℕ) (v : ℕ) → min (foldl with_digit (min v usize_max) s) usize_max ≡ min (foldl with_digit v s) usize_max
-cut_on_the_way [] v = omega arith
-cut_on_the_way (c ∷ s) v = let e : min (with_digit (min v usize_max) c) usize_max ≡ min (with_digit v c) usize_max = omega arith in
-    sym (cut_on_the_way s (with_digit (min v usize_max) c)) ∙ ap (λ (x : ℕ). min (foldl with_digit x s) usize_max) e ∙ cut_on_the_way s (with_digit v c)
+-- the value so far is cut to the greatest number of 64 bits
+abbrev pub cut_digit : ℕ → ℕ → ℕ
+cut_digit v c = min (with_digit v c) usize_max
 
-pub value_more : (w : List ℕ) (v i r : ℕ) → i < length w → r ≡ min (with_digit v (get_or w i 0)) usize_max
-    → min (foldl with_digit r (drop (i + 1) w)) usize_max ≡ min (foldl with_digit v (drop i w)) usize_max
-value_more w v i r h e =
-    ap (λ (x : ℕ). min (foldl with_digit x (drop (i + 1) w)) usize_max) e ∙ cut_on_the_way (drop (i + 1) w) (with_digit v (get_or w i 0))
-    ∙ ap (λ (l : List ℕ). min (foldl with_digit v l) usize_max) (sym (drop_at w i h))
-
-pub value_none : (w : List ℕ) (v i : ℕ) → length w ≤ i → v ≤ usize_max → min (foldl with_digit v (drop i w)) usize_max ≡ v
-value_none w v i h l = ap (λ (l : List ℕ). min (foldl with_digit v l) usize_max) (drop_of_length-le w h) ∙ omega arith
+pub value_cut : (w : List ℕ) (v : ℕ) → fold cut_digit (min v usize_max) w ≡ min (foldl with_digit v w) usize_max
+value_cut [] v = refl
+value_cut (c ∷ w) v = let e : cut_digit (min v usize_max) c ≡ min (with_digit v c) usize_max = omega arith in
+    ap (λ (x : ℕ). fold cut_digit x w) e ∙ value_cut w (with_digit v c)

@@ -4,3 +4,4 @@ pub mod Claim
 pub mod Decimal
 pub mod Hex
 pub mod TextLines
+pub mod Writer

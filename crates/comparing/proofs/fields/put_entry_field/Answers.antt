@@ -2,12 +2,11 @@
 -- Assumes nothing.
 use mathlib.Core.Path.{sym, ◌∙◌}
 use native.Mathlib.Omega.{arith}
-use Rattle.text.proofs.BufferLaws.{put_nil}
+use Rattle.text.proofs.WriterLaws.{puts_nil}
 use Rattle.comparing.proofs.fields.put_entry_field.Goals as goal
 
-pub returns-then-same_part : goal.returns-then-same_part
-returns-then-same_part c = simp (sym c.same_part.ensures ∙ c.if-same_part.true) (sym (put_nil c.args.out.now c.args.at (omega (arith, c.ranges.at))))
+pub returns-then-not-same_part : goal.returns-then-not-same_part
+returns-then-not-same_part c = simp (sym c.same_part.ensures ∙ c.if-not-same_part.true) c.put_entry.ensures
 
-pub returns : goal.returns
-returns c =
-    simp (sym c.same_part.ensures ∙ c.if-same_part.false) c.put_entry.ensures
+pub returns-else-not-same_part : goal.returns-else-not-same_part
+returns-else-not-same_part c = simp (sym c.same_part.ensures ∙ c.if-not-same_part.false) (puts_nil _ (omega arith))

@@ -1,12 +1,10 @@
 -- `comparing::lines::put_entry` meets its contract.
 -- Assumes nothing.
-use native.Mathlib.Omega.{arith}
-use Rattle.text.proofs.BufferLaws.{last, then, puts}
+use mathlib.Core.List.{flatten}
+use Rattle.text.proofs.WriterLaws.{puts_then, puts_last}
 use Rattle.comparing.specs.Lines.{entry_text}
 use Rattle.comparing.proofs.lines.put_entry.Goals as goal
 
 pub returns : goal.returns
-unfolding entry_text
-returns c = puts
-    (then c.put_field-at.ensures (then c.put-at.ensures (then c.put_bytes-at.ensures (last c.put.ensures))))
-    (omega (arith, c.well_formed.0.0))
+unfolding entry_text flatten
+returns c = puts_then c.put_field.ensures (puts_then c.put.ensures (puts_then c.put_bytes.ensures (puts_last c.put-2.ensures)))

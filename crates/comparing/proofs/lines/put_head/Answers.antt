@@ -1,11 +1,10 @@
 -- `comparing::lines::put_head` meets its contract.
 -- Assumes nothing.
-use native.Mathlib.Omega.{arith}
-use Rattle.text.proofs.BufferLaws.{last, then, puts}
+use mathlib.Core.List.{flatten}
+use Rattle.text.proofs.WriterLaws.{puts_then, puts_last}
 use Rattle.comparing.specs.Lines.{head_text}
 use Rattle.comparing.proofs.lines.put_head.Goals as goal
 
 pub returns : goal.returns
-unfolding head_text
-returns c = puts (then c.put_bytes-at.ensures (then c.put_bytes-at-2.ensures (last c.put.ensures)))
-    (omega (arith, c.well_formed.0.0))
+unfolding head_text flatten
+returns c = puts_then c.put_bytes.ensures (puts_then c.put_bytes-2.ensures (puts_last c.put.ensures))

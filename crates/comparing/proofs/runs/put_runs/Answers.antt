@@ -1,45 +1,42 @@
--- `comparing::runs::put_runs` meets its contract. The loop's invariant: the lines on the runs from the position on, put after those so far, are all of
--- them.
+-- `comparing::runs::put_runs` meets its contract. The loop's invariant: the lines on the runs from the position on are to be put.
 -- Assumes nothing.
-use mathlib.Core.Path.{◌≡◌, refl, sym, ap, ◌∙◌}
-use Prim.Native.Nat.{ℕ, ◌<◌, ◌-◌, max}
+use mathlib.Core.Path.{◌≡◌, sym, ap}
+use Prim.Native.Nat.{ℕ, ◌≤◌, ◌<◌, ◌-◌, max}
 use native.Mathlib.Omega.{arith}
 use lib.ListN.{length}
-use Rattle.text.specs.Buffer.{buffer, put}
-use Rattle.text.proofs.BufferLaws.{put-over, put_goes}
+use Rattle.text.proofs.WriterLaws.{remains_all, remains_less, remains_none}
 use mathlib.Core.List.{List, ◌∷◌, map, flatten}
+use mathlib.Core.Bool.{not}
 use Rattle.comparing.specs.Lines.{text_of}
-use Rattle.comparing.specs.Runs.{Run, run_of, run_line, run_lines, runs_of, runs_from, differs}
+use Rattle.comparing.specs.Runs.{Run, run_of, run_line, run_lines, runs_of, runs_from, differs, FirstFrom}
 use Rattle.comparing.proofs.RunLaws.{runs_next, runs_none}
 use Rattle.comparing.proofs.runs.put_runs.Goals as goal
 
-pub loop-start-init : goal.loop-start-init
+-- the next run, by what the code's two scans find
+next : (a b : List ℕ) (n from : ℕ) {first end : ℕ} → n ≡ max (length a) (length b) → FirstFrom (differs a b) (max (length a) (length b)) from first → first < n
+    → (end ≤ max (length a) (length b)) × FirstFrom (λ p. not (differs a b p)) (max (length a) (length b)) first end
+    → (first < end) × (runs_from (differs a b) (n - from) from ≡ run_of first (end - 1) ∷ runs_from (differs a b) (n - end) end)
+next a b n from e f h g = runs_next (differs a b) n from (rw (sym e) at f) h (omega arith) (rw (sym e) at g.1)
+
+pub loop-n-init : goal.loop-n-init
 unfolding run_lines runs_of
-loop-start-init c = let a = c.args.a.now in let b = c.args.b.now in let all : c.greater-n.result - 0 ≡ max (length a) (length b) = omega (arith, c.greater-n.ensures) in (
-  c.greater-n.ensures,
-  refl,
-  omega arith,
-  ap (λ (k : ℕ). put (buffer c.args.out.now c.args.start) (text_of (map (λ r. run_line r) (runs_from (differs a b) k 0)))) all,
-)
+loop-n-init c = let a = c.args.a.now in let b = c.args.b.now in let all : c.max-n.result - 0 ≡ max (length a) (length b) = omega (arith, c.max-n.ensures) in
+    (c.max-n.ensures, rw all (remains_all _ _ (omega arith)))
 
 pub returns-then-n-first : goal.returns-then-n-first
 unfolding flatten
-returns-then-n-first c = let l = c.loop-start in let d = differs c.args.a.now c.args.b.now in
-    let n = c.greater-n.result in let none = runs_none d n l.from (rw (sym l.invariant.0) at c.difference_from-first.ensures) c.if-n-first.true in
-    put-over _ _ l.invariant.3 l.invariant.2 (ap (λ (rs : List Run). text_of (map (λ r. run_line r) rs)) none)
+returns-then-n-first c = let l = c.loop-n in let first = rw (sym l.invariant.0) at c.difference_from-first.ensures in
+    remains_none l.invariant.1 (ap (λ (rs : List Run). text_of (map (λ r. run_line r) rs)) (runs_none _ _ l.from first c.if-n-first.true))
 
 pub overflow_sub-end : goal.overflow_sub-end
-overflow_sub-end c = omega (arith, (let h : let d = differs c.args.a.now c.args.b.now in let n = c.greater-n.result in let first = c.difference_from-first.result in let end = c.agreement_from-end.result in (first < end) × (runs_from d (n - c.loop-start.from) c.loop-start.from ≡ run_of first (end - 1) ∷ runs_from d (n - end) end) = let most = c.loop-start.invariant.0 in runs_next _ _ _ (rw (sym most) at c.difference_from-first.ensures) c.if-n-first.false (omega (arith, c.agreement_from-end.ensures.0)) (rw (sym most) at c.agreement_from-end.ensures.1) in h).0)
+overflow_sub-end c = let i = next c.args.a.now c.args.b.now _ c.loop-n.from c.loop-n.invariant.0 c.difference_from-first.ensures c.if-n-first.false c.agreement_from-end.ensures in
+    omega (arith, i.0)
 
-pub loop-start-smaller : goal.loop-start-smaller
-loop-start-smaller c =
-    omega (arith, (let h : let d = differs c.args.a.now c.args.b.now in let n = c.greater-n.result in let first = c.difference_from-first.result in let end = c.agreement_from-end.result in (first < end) × (runs_from d (n - c.loop-start.from) c.loop-start.from ≡ run_of first (end - 1) ∷ runs_from d (n - end) end) = let most = c.loop-start.invariant.0 in runs_next _ _ _ (rw (sym most) at c.difference_from-first.ensures) c.if-n-first.false (omega (arith, c.agreement_from-end.ensures.0)) (rw (sym most) at c.agreement_from-end.ensures.1) in h).0, c.difference_from-first.ensures.low, c.agreement_from-end.ensures.0)
+pub loop-n-smaller : goal.loop-n-smaller
+loop-n-smaller c = let i = next c.args.a.now c.args.b.now _ c.loop-n.from c.loop-n.invariant.0 c.difference_from-first.ensures c.if-n-first.false c.agreement_from-end.ensures in
+    omega (arith, i.0, c.difference_from-first.ensures.low, c.agreement_from-end.ensures.0)
 
-pub loop-start-preserved : goal.loop-start-preserved
+pub loop-n-preserved : goal.loop-n-preserved
 unfolding flatten
-loop-start-preserved c = let l = c.loop-start in let line = c.put_run-at in (
-  l.invariant.0,
-  line.auto.out ∙ l.invariant.1,
-  omega arith,
-  put_goes _ _ l.invariant.3 _ _ (omega arith) (ap (λ (rs : List Run). text_of (map (λ r. run_line r) rs)) (let h : let d = differs c.args.a.now c.args.b.now in let n = c.greater-n.result in let first = c.difference_from-first.result in let end = c.agreement_from-end.result in (first < end) × (runs_from d (n - c.loop-start.from) c.loop-start.from ≡ run_of first (end - 1) ∷ runs_from d (n - end) end) = let most = c.loop-start.invariant.0 in runs_next _ _ _ (rw (sym most) at c.difference_from-first.ensures) c.if-n-first.false (omega (arith, c.agreement_from-end.ensures.0)) (rw (sym most) at c.agreement_from-end.ensures.1) in h).1) line.ensures,
-)
+loop-n-preserved c = let l = c.loop-n in let i = next c.args.a.now c.args.b.now _ l.from l.invariant.0 c.difference_from-first.ensures c.if-n-first.false c.agreement_from-end.ensures in
+    (l.invariant.0, remains_less l.invariant.1 (ap (λ (rs : List Run). text_of (map (λ r. run_line r) rs)) i.1) c.put_run.ensures)

@@ -13,15 +13,15 @@ pub loop-p-init : goal.loop-p-init
 loop-p-init c = c.equal_blocks-p.ensures
 
 pub returns-then-a-p : goal.returns-then-a-p
-returns-then-a-p c = let l = c.loop-p in let common = c.lesser-common.ensures in let other = other_byte c.args.a.now c.args.b.now l.p (omega arith) (omega arith) c.if-a-p.true in
+returns-then-a-p c = let l = c.loop-p in let common = c.min-common.ensures in let other = other_byte c.args.a.now c.args.b.now l.p (omega arith) (omega arith) c.if-a-p.true in
     record { low = l.invariant.0; none_before = l.invariant.1; found = λ h. other }
 
 pub loop-p-preserved : goal.loop-p-preserved
-loop-p-preserved c = let l = c.loop-p in let a = c.args.a.now in let b = c.args.b.now in let common = c.lesser-common.ensures in let same = same_byte a b l.p (omega arith) (omega arith) c.if-a-p.false in
+loop-p-preserved c = let l = c.loop-p in let a = c.args.a.now in let b = c.args.b.now in let common = c.min-common.ensures in let same = same_byte a b l.p (omega arith) (omega arith) c.if-a-p.false in
     (omega arith, below_more (λ q. c.args.from ≤ q → differs a b q ≡ false) l.p l.invariant.1 (λ low. same))
 
 pub returns : goal.returns
-returns c = let l = c.loop-p in let common = c.lesser-common.ensures in record {
+returns c = let l = c.loop-p in let common = c.min-common.ensures in record {
   low = l.invariant.0;
   none_before = l.invariant.1;
   found = λ h. one_side c.args.a.now c.args.b.now l.p (omega arith);

@@ -15,7 +15,7 @@ pub returns-then-block_differs-ne0 : goal.returns-then-block_differs-ne0
 returns-then-block_differs-ne0 c = c.loop-at.invariant
 
 pub loop-at-preserved : goal.loop-at-preserved
-loop-at-preserved c = let l = c.loop-at in let a = c.args.a.now in let b = c.args.b.now in let common = c.lesser-common.ensures in let block = c.block_differs.ensures (omega arith) in
+loop-at-preserved c = let l = c.loop-at in let a = c.args.a.now in let b = c.args.b.now in let common = c.min-common.ensures in let block = c.block_differs.ensures (omega arith) in
     (omega arith, λ p high low. ⊎_elim (λ h. l.invariant.1 p h low) (λ h. same_byte a b p (omega arith) (omega arith) (block p (omega arith) h)) (order p l.at))
 
 pub returns : goal.returns

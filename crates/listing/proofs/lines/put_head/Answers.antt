@@ -1,12 +1,10 @@
 -- `listing::lines::put_head` meets its contract.
 -- Assumes nothing.
-use native.Mathlib.Omega.{arith}
-use Rattle.text.proofs.BufferLaws.{last, then, puts}
+use mathlib.Core.List.{flatten}
+use Rattle.text.proofs.WriterLaws.{puts_then, puts_last}
 use Rattle.listing.specs.Lines.{head_line}
 use Rattle.listing.proofs.lines.put_head.Goals as goal
 
 pub returns : goal.returns
-unfolding head_line
-returns c = puts
-    (then c.put_field-at.ensures (then c.put_field-at-2.ensures (then c.put_field-at-3.ensures (last c.put.ensures))))
-    (omega (arith, c.well_formed.0.0))
+unfolding head_line flatten
+returns c = puts_then c.put_field.ensures (puts_then c.put_field-2.ensures (puts_then c.put_field-3.ensures (puts_last c.put.ensures)))

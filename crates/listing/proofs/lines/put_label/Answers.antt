@@ -8,6 +8,6 @@ pub returns-then-is_saved : goal.returns-then-is_saved
 unfolding label
 returns-then-is_saved c = simp (sym c.is_saved.ensures ∙ c.if-is_saved.true) c.put_decimal.ensures
 
-pub returns : goal.returns
+pub returns-else-is_saved : goal.returns-else-is_saved
 unfolding label
-returns c = simp (sym c.is_saved.ensures ∙ c.if-is_saved.false) c.put.ensures
+returns-else-is_saved c = simp (sym c.is_saved.ensures ∙ c.if-is_saved.false) c.put.ensures

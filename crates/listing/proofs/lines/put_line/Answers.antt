@@ -1,14 +1,12 @@
 -- `listing::lines::put_line` meets its contract.
 -- Assumes nothing.
-use native.Mathlib.Omega.{arith}
-use Rattle.text.proofs.BufferLaws.{last, then, puts}
+use mathlib.Core.List.{flatten}
+use Rattle.text.proofs.WriterLaws.{puts_then, puts_last}
 use Rattle.listing.specs.Lines.{line_of}
 use Rattle.listing.proofs.lines.put_line.Goals as goal
 
 pub returns : goal.returns
-unfolding line_of
-returns c = puts
-    (then c.put_label-at.ensures
-    (then c.put_field-at.ensures
-    (then c.put-at.ensures (then c.put_name-at.ensures (last c.put.ensures)))))
-    (omega (arith, c.well_formed.0.0))
+unfolding line_of flatten
+returns c =
+    puts_then c.put_label.ensures
+    (puts_then c.put_field.ensures (puts_then c.put.ensures (puts_then c.put_name.ensures (puts_last c.put-2.ensures))))

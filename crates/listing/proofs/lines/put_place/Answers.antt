@@ -2,7 +2,7 @@
 -- Assumes nothing.
 use mathlib.Core.Path.{sym, ◌∙◌}
 use native.Mathlib.Omega.{arith}
-use Rattle.text.proofs.BufferLaws.{put_nil}
+use Rattle.text.proofs.WriterLaws.{puts_nil}
 use Rattle.listing.specs.Lines.{place_field}
 use Rattle.listing.proofs.lines.put_place.Goals as goal
 
@@ -10,6 +10,6 @@ pub returns-then-is_placed : goal.returns-then-is_placed
 unfolding place_field
 returns-then-is_placed c = simp (sym c.is_placed.ensures ∙ c.if-is_placed.true) c.put_field.ensures
 
-pub returns : goal.returns
+pub returns-else-is_placed : goal.returns-else-is_placed
 unfolding place_field
-returns c = simp (sym c.is_placed.ensures ∙ c.if-is_placed.false) (sym (put_nil c.args.out.now c.args.at (omega (arith, c.ranges.at))))
+returns-else-is_placed c = simp (sym c.is_placed.ensures ∙ c.if-is_placed.false) (puts_nil _ (omega arith))

@@ -1,21 +1,14 @@
--- `text::scan::all_digits` meets its contract. The invariant: the characters that remain decide.
+-- `text::scan::all_digits` meets its contract.
 -- Assumes nothing.
-use mathlib.Core.Path.{ap}
-use mathlib.Core.Bool.{not}
-use native.Mathlib.Omega.{arith}
-use lib.ListN.{drop_of_length-le}
-use Rattle.lent_bytes.proofs.EachLaws.{drop_at, each_over, each_stops, each_goes}
+use mathlib.Core.Path.{sym, ◌∙◌}
+use Rattle.std.proofs.Common.{rules}
+use Rattle.std.proofs.lemmas.Iterator.{YieldsList-from_slice}
+use Rattle.std.proofs.lemmas.Iterator.Search.{all_from_yields_List}
 use Rattle.text.specs.Decimal.{is_digit, all_digits}
+use Rattle.text.proofs.AllLaws.{each_all}
 use Rattle.text.proofs.scan.all_digits.Goals as goal
-
-pub returns-then-not-is_digit : goal.returns-then-not-is_digit
-unfolding all_digits
-returns-then-not-is_digit c = each_stops is_digit c.loop-i.invariant.1 (drop_at c.args.s.now c.loop-i.i (omega arith)) c.is_digit.ensures (ap not c.if-not-is_digit.true)
-
-pub loop-i-preserved : goal.loop-i-preserved
-unfolding all_digits
-loop-i-preserved c = (omega arith, each_goes is_digit c.loop-i.invariant.1 (drop_at c.args.s.now c.loop-i.i (omega arith)) c.is_digit.ensures (ap not c.if-not-is_digit.false))
 
 pub returns : goal.returns
 unfolding all_digits
-returns c = each_over is_digit c.loop-i.invariant.1 (drop_of_length-le c.args.s.now c.loop-i-test.false)
+returns c = all_from_yields_List is_digit _ _ _ c.all.ensures.ran (YieldsList-from_slice c.args.s.now cc) (λ x b q k. search rules)
+    ∙ sym (each_all is_digit c.args.s.now)
