@@ -39,7 +39,13 @@ pub fn compare(one: &[u8], two: &[u8], out: &mut [u8]) -> Result<usize, Refusal>
 }
 
 // The lines on two files that read as `first` and `second`.
-fn put_comparison(writer: &mut Writer, one: &[u8], two: &[u8], first: Result<Parts, Refusal>, second: Result<Parts, Refusal>)
+fn put_comparison(
+    writer: &mut Writer,
+    one: &[u8],
+    two: &[u8],
+    first: Result<Parts, Refusal>,
+    second: Result<Parts, Refusal>,
+)
     requires { (first ≡ read_of one.now) × (second ≡ read_of two.now) }
     ensures { Puts writer.old writer.new (comparison_of one.now two.now) }
 {
