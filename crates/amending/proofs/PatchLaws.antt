@@ -146,10 +146,11 @@ module _ (rules : Code → ℕ → ℕ → ℕ) (n : ℕ) (c : Change) (d out : 
         rw is (unless_none s out refl told.none (written_short s out (omega (arith, total_is))) ∙ sym (amend_is rules n c d out h refl))
 
     -- what the writes need
-    pub plan_right : (plan.stretch_at ≤ plan.total) × (32 ≤ plan.total)
+    pub plan_right : (n ≤ plan.total) × (plan.stretch_at ≤ plan.total) × (32 ≤ plan.total)
     plan_right = let told = plan_tells rules c d (take n out) e in
         let at = told.at.place_inside in
-        (rw told.plan_is (omega arith), rw told.plan_is (omega arith))
+        let present : length (take n out) ≡ n = length-take-le n out h in
+        (rw told.plan_is (omega (arith, told.read.total)), rw told.plan_is (omega arith), rw told.plan_is (omega arith))
 
     pub amend_over : {t : List ℕ} → plan.total ≤ length out → t ≡ patched plan n c.old c.new d out
         → (Ok plan.total, t) ≡ amend_of rules n c d out

@@ -14,7 +14,7 @@ pub struct Span {
 pub(crate) fn entry_of(list: &[u8], file: u64) -> Span
     ensures { result ≡ span_in (entries_of list.now).pieces (file - 1) }
 {
-    let mut saved_before = before(file);
+    let mut saved_before = file.saturating_sub(1);
     let mut from: usize = 0;
     loop {
         let Some(entry) = entries::at(list, from) else {
@@ -30,14 +30,4 @@ pub(crate) fn entry_of(list: &[u8], file: u64) -> Span
         saved_before -= saved;
         from += entry.length;
     }
-}
-
-// How many saved files stand before file `file`.
-fn before(file: u64) -> u64
-    ensures { result ≡ file - 1 }
-{
-    if file == 0 {
-        return 0;
-    }
-    file - 1
 }

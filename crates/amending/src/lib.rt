@@ -9,6 +9,7 @@ mod finding;
 mod planning;
 mod writing;
 
+use planning::Change;
 use refusals::{Refusal, bare};
 
 // Amends the volume in the first `length` bytes of `volume`: in file `file` the bytes `old` at `place` became `new`, and its entry is now
@@ -30,14 +31,16 @@ pub fn amend(
         return Err(bare(refusals::NO_ROOM));
     }
     let length = length as usize;
-    match planning::plan_for(&volume[..length], file, place, old, new, entry) {
-        Ok(plan) => {
-            if volume.len() < plan.total {
-                return Err(bare(refusals::NO_ROOM));
-            }
-            writing::patch(volume, plan, length, old, new, entry);
-            Ok(plan.total)
-        }
-        Err(refusal) => Err(refusal),
+    let change = Change {
+        file,
+        place,
+        old,
+        new,
+    };
+    let plan = planning::plan_for(&volume[..length], &change, entry)?;
+    if volume.len() < plan.total {
+        return Err(bare(refusals::NO_ROOM));
     }
+    plan.patch(volume, length, &change, entry);
+    Ok(plan.total)
 }

@@ -1,66 +1,48 @@
 // The writes of an amendment, in place (document 02, 2026-05).
-ghost use Rattle.std.specs.Prelude.{◌≡◌, ◌≤◌, ◌-◌, length, replicate};
-ghost use Rattle.std.proofs.lemmas.List.Edits.{sets};
+ghost use Rattle.std.specs.Prelude.{◌≡◌, ◌≤◌, length};
 ghost use Rattle.amending.specs.Plan.{summed, hashed_set, controlled, patched};
 
-use crate::planning::Plan;
+use crate::planning::{Change, Plan};
 use par1_rules::{hashes, layout};
 
-// Writes what the plan changes of a volume in the first `present` bytes of `volume`, and leaves all else. The control hash is last.
-pub(crate) fn patch(
-    volume: &mut [u8],
-    plan: Plan,
-    present: usize,
-    old: &[u8],
-    new: &[u8],
-    entry: &[u8],
-)
-    requires { (plan.stretch_at ≤ plan.total) × (plan.total ≤ length volume.old) × (32 ≤ plan.total) }
-    ensures { volume.new ≡ patched plan present old.now new.now entry.now volume.old }
-{
-    clear(volume, present, plan.total);
-    add_stretch(volume, plan.stretch_at, plan.total, plan.weight, old, new);
-    lent_bytes::put(volume, plan.entry_at, entry);
-    little_endian::write64(volume, layout::DATA_SIZE_AT, plan.data_size);
-    put_set_hash(volume, plan.list_size);
-    put_control_hash(volume, plan.total);
-}
-
-// Zeros from `from` to `to`.
-fn clear(bytes: &mut [u8], from: usize, to: usize)
-    requires { to ≤ length bytes.old }
-    ensures { bytes.new ≡ sets bytes.old from (replicate (to - from) 0) }
-{
-    let mut at = from;
-    while at < to {
-        bytes[at] = 0;
-        at += 1;
+impl Plan {
+    // Writes what the plan changes of a volume in the first `present` bytes of `volume`, and leaves all else. The control hash is last.
+    pub(crate) fn patch(self, volume: &mut [u8], present: usize, change: &Change, entry: &[u8])
+        requires { (present ≤ self.total) × (self.stretch_at ≤ self.total) × (self.total ≤ length volume.old) × (32 ≤ self.total) }
+        ensures { volume.new ≡ patched self present change.now.old.now change.now.new.now entry.now volume.old }
+    {
+        volume[present..self.total].fill(0);
+        self.add_stretch(volume, change);
+        lent_bytes::put(volume, self.entry_at, entry);
+        little_endian::write64(volume, layout::DATA_SIZE_AT, self.data_size);
+        self.put_set_hash(volume);
+        self.put_control_hash(volume);
     }
-}
 
-// Adds weight times the old and the new bytes of a stretch at `from` to the data, which ends at `to`.
-fn add_stretch(volume: &mut [u8], from: usize, to: usize, weight: u8, old: &[u8], new: &[u8])
-    requires { (from ≤ to) × (to ≤ length volume.old) }
-    ensures { volume.new ≡ summed weight from to old.now new.now volume.old }
-{
-    let data = &mut volume[from..to];
-    mul_add::mul_add(weight, old, data);
-    mul_add::mul_add(weight, new, data);
-}
+    // Adds the coefficient times the old and the new bytes of the stretch to the data.
+    fn add_stretch(self, volume: &mut [u8], change: &Change)
+        requires { (self.stretch_at ≤ self.total) × (self.total ≤ length volume.old) }
+        ensures { volume.new ≡ summed self.weight self.stretch_at self.total change.now.old.now change.now.new.now volume.old }
+    {
+        let data = &mut volume[self.stretch_at..self.total];
+        mul_add::mul_add(self.weight, change.old, data);
+        mul_add::mul_add(self.weight, change.new, data);
+    }
 
-// Writes the set hash of the list.
-fn put_set_hash(volume: &mut [u8], list_size: usize)
-    ensures { volume.new ≡ hashed_set list_size volume.old }
-{
-    let set_hash = hashes::of_set(layout::part(volume, layout::HEADER_LENGTH, list_size));
-    lent_bytes::put(volume, layout::SET_HASH_AT, &set_hash);
-}
+    // Writes the set hash of the list.
+    fn put_set_hash(self, volume: &mut [u8])
+        ensures { volume.new ≡ hashed_set self.list_size volume.old }
+    {
+        let set_hash = hashes::of_set(layout::part(volume, layout::HEADER_LENGTH, self.list_size));
+        lent_bytes::put(volume, layout::SET_HASH_AT, &set_hash);
+    }
 
-// Writes the control hash of a volume of `total` bytes.
-fn put_control_hash(volume: &mut [u8], total: usize)
-    requires { (32 ≤ total) × (total ≤ length volume.old) }
-    ensures { volume.new ≡ controlled total volume.old }
-{
-    let control_hash = md5_digest::digest(&volume[layout::SET_HASH_AT..total]);
-    lent_bytes::put(volume, layout::CONTROL_HASH_AT, &control_hash);
+    // Writes the control hash.
+    fn put_control_hash(self, volume: &mut [u8])
+        requires { (32 ≤ self.total) × (self.total ≤ length volume.old) }
+        ensures { volume.new ≡ controlled self.total volume.old }
+    {
+        let control_hash = md5_digest::digest(&volume[layout::SET_HASH_AT..self.total]);
+        lent_bytes::put(volume, layout::CONTROL_HASH_AT, &control_hash);
+    }
 }

@@ -19,7 +19,7 @@ further : (n m : ℕ) (x : Span) → past (n + m) x ≡ past n (past m x)
 further n m x = let e : n + m + x.from ≡ n + (m + x.from) = omega arith in ap (λ (k : ℕ). record { from = k; length = x.length }) e
 
 pub loop-entry-init : goal.loop-entry-init
-loop-entry-init c = let s = c.args.list.now in (omega arith, nothing-before _ ∙ ap (span_in (entries_of s).pieces) c.before-saved_before.ensures)
+loop-entry-init c = let s = c.args.list.now in (omega arith, nothing-before _ ∙ ap (span_in (entries_of s).pieces) c.saturating_sub-saved_before.ensures)
 
 pub returns-in_default : goal.returns-in_default
 returns-in_default c = let l = c.loop-entry in let none = entries_none _ _ c.at.ensures c.in_default.not-Some in

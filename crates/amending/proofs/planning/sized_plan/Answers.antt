@@ -6,8 +6,8 @@ use Rattle.amending.proofs.PlanLaws.{sized_short, sized_over}
 use Rattle.amending.proofs.planning.sized_plan.Goals as goal
 
 pub returns-then-data_start-data_size : goal.returns-then-data_start-data_size
-returns-then-data_start-data_size c = let a = c.args in sized_short rule_of a.parts a.from a.file a.place a.size c.greater-data_size.ensures c.bare.ensures (omega arith)
+returns-then-data_start-data_size c = let a = c.args in sized_short rule_of a.parts a.from a.file a.place a.size c.max-data_size.ensures c.bare.ensures (omega arith)
 
 pub returns : goal.returns
-returns c = let a = c.args in sized_over rule_of a.parts a.from a.file a.place a.size c.greater-data_size.ensures
+returns c = let a = c.args in sized_over rule_of a.parts a.from a.file a.place a.size c.max-data_size.ensures
     c.coefficient_of.ensures (omega arith)
