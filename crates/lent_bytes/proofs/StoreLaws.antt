@@ -9,26 +9,18 @@
 -- Assumes nothing.
 use mathlib.Core.Path.{◌≡◌, refl, sym, ap, ap₂, ◌∙◌}
 use mathlib.Core.List.{List, [], ◌∷◌, ◌++◌, flatten}
-use Prim.Native.Nat.{ℕ, ◌+◌, ◌≤◌, ◌<◌}
-use native.Mathlib.Numerals.{add-one}
+use Prim.Native.Nat.{ℕ, ◌+◌, ◌≤◌}
 use native.Mathlib.Omega.{arith}
-use lib.ListN.{length, take, drop, get_or, set}
-use lib.Seq.{sets, sets-eq, take-suc, length-take-le}
+use lib.ListN.{length, drop}
+use lib.Seq.{sets, sets-eq}
 use Rattle.little_endian.proofs.Stores.{sets_append}
-pub use Rattle.little_endian.proofs.Stores.{sets_fitting}
+pub use Rattle.little_endian.proofs.Stores.{sets_fitting, sets_more}
 
 -- ---- at the front, and past the end
 
 pub sets_over : (s p : List ℕ) → length p ≤ length s → sets s 0 p ≡ p ++ drop (length p) s
 sets_over s p h = let n : 0 + length p ≡ length p = omega arith in
     sets-eq p s 0 (rw n h) ∙ ap (λ (k : ℕ). p ++ drop k s) n
-
-pub sets_more : (s b : List ℕ) (at i : ℕ) {t : List ℕ} → i < length b → t ≡ sets s at (take i b)
-    → set t (at + i) (get_or b i 0) ≡ sets s at (take (i + 1) b)
-sets_more s b at i {t} h e = let n : length (take i b) ≡ i = length-take-le i b (omega arith) in
-    ap₂ (λ (l : List ℕ) (j : ℕ). set l (at + j) (get_or b i 0)) e (sym n)
-    ∙ sym (sets_append s at (take i b) (get_or b i 0 ∷ []))
-    ∙ ap (sets s at) (sym (take-suc b i 0 h) ∙ ap (λ (k : ℕ). take k b) (sym (add-one i)))
 
 -- ---- one part after another
 

@@ -4,17 +4,17 @@
 --   sets_out          past the end nothing changes
 --   sets_past         places may stop at a last one past the end
 --   sets_fitting      a store of what has room is a store of all
---   sets_room         a store of what has room, over a part of the list
+--   sets_more         a store with one byte more
 --   part_sets         what was stored stands there
 -- Assumes nothing.
-use mathlib.Core.Path.{◌≡◌, refl, sym, ap, ◌∙◌}
-use Prim.Native.Nat.{ℕ, suc, ◌+◌, ◌-◌, ◌≤◌, min}
+use mathlib.Core.Path.{◌≡◌, refl, sym, ap, ap₂, ◌∙◌}
+use Prim.Native.Nat.{ℕ, suc, ◌+◌, ◌-◌, ◌≤◌, ◌<◌, min}
 use native.Mathlib.Nat.{add-zero, add-suc, suc-add}
+use native.Mathlib.Numerals.{add-one}
 use native.Mathlib.Omega.{arith}
 use mathlib.Core.List.{List, [], ◌∷◌, ◌++◌, append_assoc}
-use lib.ListN.{length, take, drop, set, length-drop, take-append-drop}
-use lib.Seq.{length-sets, drop-drop, sets, sets-eq, set_out, length-take-le, take-append_seam, drop_at}
-use borrow.Rule.Slice.PartMut.{put_mid}
+use lib.ListN.{length, take, drop, set, get_or, length-drop, take-append-drop}
+use lib.Seq.{length-sets, take-suc, sets, sets-eq, set_out, length-take-le, take-append_seam, drop_at}
 use Rattle.little_endian.proofs.Past.{at_min}
 
 module _ {A : Type 0} where
@@ -54,12 +54,9 @@ module _ {A : Type 0} where
           sets_out (sets s at (take n b)) (at + length (take n b)) (x ∷ v)
           (omega (arith, length-sets s at (take n b), ap length z, length-drop n b))
 
-  pub sets_room : (s b : List A) (at n : ℕ) {part : List A} → at ≤ length s → n ≡ min (length b) (length s - at) → part ≡ take n b
-      → put_mid at n s part ≡ sets s at b
-  sets_room s b at n {part} h e is = let size : length part ≡ n = ap length is ∙ length-take-le n b (omega arith) in
-      let rest : drop n (drop at s) ≡ drop (at + length part) s = drop-drop n at s ∙ ap (λ (k : ℕ). drop (at + k) s) (sym size) in
-      ap (λ (l : List A). take at s ++ (part ++ l)) rest
-      ∙ sym (append_assoc (take at s) part (drop (at + length part) s))
-      ∙ sym (sets-eq part s at (omega arith))
-      ∙ ap (sets s at) is
-      ∙ sets_fitting s b at n e
+pub sets_more : (s b : List ℕ) (at i : ℕ) {t : List ℕ} → i < length b → t ≡ sets s at (take i b)
+    → set t (at + i) (get_or b i 0) ≡ sets s at (take (i + 1) b)
+sets_more s b at i {t} h e = let n : length (take i b) ≡ i = length-take-le i b (omega arith) in
+    ap₂ (λ (l : List ℕ) (j : ℕ). set l (at + j) (get_or b i 0)) e (sym n)
+    ∙ sym (sets_append s at (take i b) (get_or b i 0 ∷ []))
+    ∙ ap (sets s at) (sym (take-suc b i 0 h) ∙ ap (λ (k : ℕ). take k b) (sym (add-one i)))

@@ -2,7 +2,7 @@
 // written there are dropped.
 #![tactic(auto)]
 
-ghost use Rattle.std.specs.Prelude.{◌≡◌, ℕ, ◌+◌, ◌<◌, slice_index, length};
+ghost use Rattle.std.specs.Prelude.{◌≡◌, ℕ, ◌+◌, ◌<◌, ◌≤◌, slice_index, length};
 ghost use Rattle.std.proofs.lemmas.List.Edits.{sets};
 ghost use Rattle.little_endian.specs.Bytes.{to_le, le_at, numbers as numbers_of, numbers_at};
 
@@ -73,18 +73,29 @@ pub fn write64(out: &mut [u8], at: usize, x: u64)
     put(out, at, &u64::to_le_bytes(x));
 }
 
-// Writes `bytes` from `at` on. There are two copies, and not one of the lesser length, since the compiler makes one store of a
-// number's bytes where it knows their length (7 times as quick for 32 bits).
+// Writes `bytes` from `at` on. Where all have room the loop is over all, whose number the compiler knows for a number's bytes: it
+// makes one store of them (4 times as quick as byte by byte, for 32 bits).
 pub fn put(out: &mut [u8], at: usize, bytes: &[u8])
     ensures { out.new ≡ sets out.old at bytes.now }
 {
     if at < out.len() {
         let room = out.len() - at;
         if bytes.len() <= room {
-            out[at..at + bytes.len()].copy_from_slice(bytes);
+            store(out, at, bytes);
         } else {
-            out[at..].copy_from_slice(&bytes[..room]);
+            store(out, at, &bytes[..room]);
         }
+    }
+}
+
+// Writes `bytes` from `at` on, where they have room. By a loop: with `copy_from_slice` a library that stands on this one wants
+// `memmove` of the C library, and the project's wants `memcpy` and `memset` at most.
+fn store(out: &mut [u8], at: usize, bytes: &[u8])
+    requires { at + length bytes.now ≤ length out.old }
+    ensures { out.new ≡ sets out.old at bytes.now }
+{
+    for (k, byte) in bytes.iter().enumerate() {
+        out[at + k] = *byte;
     }
 }
 
