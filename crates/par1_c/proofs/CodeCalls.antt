@@ -6,10 +6,9 @@
 --   other_code                what is the number of no code
 -- Assumes nothing.
 use mathlib.Core.Path.{◌≡◌, refl, sym, ap, ◌∙◌}
-use mathlib.Core.Bool.{Bool, true, false, not}
+use mathlib.Core.Bool.{true, false}
 use mathlib.Core.List.{List}
 use Prim.Native.Nat.{ℕ}
-use borrow.Author.Tests.{not-true, not-false}
 use Rattle.codes.specs.Codes.{is_code, code_of}
 use Rattle.codes.specs.declared.Code.{Code}
 use Rattle.codes.specs.declared.Code.TheVariants.{Powers, Cauchy}
@@ -26,11 +25,11 @@ module _ (k : ℕ) (call : Code → ℕ × List ℕ) (lent : List ℕ) where
   unfolding by_code
   unknown h = rw h
 
-  pub known_told : {t : Bool} → t ≡ is_code k → not t ≡ false → {c : Code} → c ≡ code_of k → {r : ℕ × List ℕ} → r ≡ call c → r ≡ by_code k call lent
-  known_told told h e s = s ∙ ap call e ∙ sym (known (sym told ∙ not-false _ h))
+  pub known_told : {j : ℕ} → j ≡ k → {c : Code} → (is_code j ≡ true) × (c ≡ code_of j) → {r : ℕ × List ℕ} → r ≡ call c → r ≡ by_code k call lent
+  known_told is (h, e) s = s ∙ ap call (e ∙ ap code_of is) ∙ sym (known (sym (ap is_code is) ∙ h))
 
-  pub unknown_told : {t : Bool} → t ≡ is_code k → not t ≡ true → (10, lent) ≡ by_code k call lent
-  unknown_told told h = sym (unknown (sym told ∙ not-true _ h))
+  pub unknown_told : {j : ℕ} → j ≡ k → is_code j ≡ false → (10, lent) ≡ by_code k call lent
+  unknown_told is h = sym (unknown (sym (ap is_code is) ∙ h))
 
 pub by_code_lem : ByCode
 by_code_lem Powers call lent = known 0 call lent refl

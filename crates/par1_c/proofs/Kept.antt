@@ -47,7 +47,7 @@ use Rattle.inventory.specs.Model.{add_volume, Reply, reply, queried, Gives, Give
 use Rattle.inventory.specs.Steps.{is_inventory, change_step, count_step, answer_number}
 use Rattle.inventory.specs.Query.{state_of}
 use Rattle.inventory.specs.declared.Inventory.{Inventory}
-use Rattle.inventory.specs.declared.Outcome.{Outcome}
+use Rattle.inventory.specs.Outcome.{Outcome}
 use Rattle.inventory.proofs.Determined.{some_size, some_matches}
 use Rattle.inventory_bytes.specs.Inventories.{inventory_of, inventory_bytes, opened_by, stored_by, counted_into}
 use Rattle.little_endian.specs.Bytes.{numbers}

@@ -23,7 +23,7 @@ use Rattle.inventory.specs.Model.{Change, add_file, remove_file, add_volume, rem
 use Rattle.inventory.specs.Query.{Queried}
 use Rattle.inventory.specs.Steps.{zeros, fresh, refused_opening, open_step, outcome, accepted, with_files, with_volumes, after_change, change_step}
 use Rattle.inventory.specs.declared.Inventory.{Inventory}
-use Rattle.inventory.specs.declared.Outcome.{Outcome}
+use Rattle.inventory.specs.Outcome.{Outcome}
 use Rattle.computed_tests.specs.Numbers.{all_below, one_to}
 use Rattle.computed_tests.proofs.Tests.{and_both}
 use Rattle.inventory.proofs.Outcomes.{open_out_of_range, open_miscounted}
@@ -38,7 +38,7 @@ use Rattle.refusals.specs.Tests.{bare}
 use Rattle.number_sets.proofs.Words.{words_none, words_inserted, words_removed}
 use Rattle.par1_c.specs.Claim.{OnBytes, OpenedOnBytes, ChangedOnBytes, AddedOnBytes, CountedOnBytes, QueriedOnBytes}
 use Rattle.par1_c.specs.Inventories.{changed_by}
-use Rattle.par1_c.proofs.CallLaws.{changed-same, counted_same}
+use Rattle.par1_c.proofs.CallLaws.{changed_by_outcome, counted_same}
 use Rattle.par1_c.proofs.CodeCalls.{by_code_lem}
 
 -- an accepted outcome is stored, and a refused one leaves the bytes
@@ -68,7 +68,7 @@ held_one n changed s hc hs = by (eqb n 0)
 on_bytes : (step : Inventory → ℕ → Outcome) (s : Inventory) (k n : ℕ) (changed : Inventory) → step s k ≡ accepted n changed s → Held changed → Held s
     → OnBytes step s k
 on_bytes step s k n changed e hc hs = let b : List ℕ = inventory_bytes s in
-    let same = changed-same b step k (sym (loaded_back s hs)) (sym e) (stored n changed s hc hs) in
+    let same = changed_by_outcome b step k (sym (loaded_back s hs)) (sym e) (stored n changed s hc hs) in
     record {
       gives = sym same ∙ ap (λ (o : Outcome). (o.number, inventory_bytes o.next)) (sym e);
       held = subst (λ (o : Outcome). Held o.next) (sym e) (held_one n changed s hc hs);

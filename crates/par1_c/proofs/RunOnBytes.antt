@@ -28,7 +28,7 @@ use Rattle.inventory.specs.Model.{Change, Call, change, Reply, reply, numbered, 
 use Rattle.inventory.specs.Steps.{open_step, refused_opening, change_step, count_step}
 use Rattle.inventory.specs.Claim.{Step, Run, Condition, TellsExactly, size_in}
 use Rattle.inventory.specs.declared.Inventory.{Inventory}
-use Rattle.inventory.specs.declared.Outcome.{Outcome}
+use Rattle.inventory.specs.Outcome.{Outcome}
 use Rattle.inventory.proofs.Representation.{Represents, meets}
 use Rattle.inventory.proofs.Openings.{opened_represents}
 use Rattle.inventory.proofs.Told.{after_told, retold}

@@ -60,7 +60,7 @@ use Rattle.inventory.specs.Query.{Queried}
 use Rattle.inventory.specs.Steps.{open_step, change_step, count_step, answer_number}
 use Rattle.recovery.specs.declared.Answer.{Answer}
 use Rattle.inventory.specs.declared.Inventory.{Inventory}
-use Rattle.inventory.specs.declared.Outcome.{Outcome}
+use Rattle.inventory.specs.Outcome.{Outcome}
 use Rattle.inventory_bytes.specs.Claim.{Held}
 use Rattle.inventory_bytes.specs.Inventories.{code_number_in, inventory_bytes, stored_by, counted_into}
 use Rattle.little_endian.specs.Bytes.{numbers, numbers_at}

@@ -13,7 +13,7 @@ use Rattle.inventory.specs.Steps.{change_step, count_step, answer_number}
 use Rattle.inventory.specs.Query.{Queried}
 use Rattle.recovery.specs.declared.Answer.{Answer}
 use Rattle.inventory.specs.declared.Inventory.{Inventory}
-use Rattle.inventory.specs.declared.Outcome.{Outcome}
+use Rattle.inventory.specs.Outcome.{Outcome}
 use Rattle.inventory_bytes.specs.Inventories.{inventory_of, opened_by, stored_by, counted_into}
 use Rattle.par1_c.specs.Codes.{by_code}
 

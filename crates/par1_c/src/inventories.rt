@@ -5,7 +5,7 @@ ghost use Rattle.inventory.specs.Model.{add_file, remove_file, remove_volume, qu
 ghost use Rattle.inventory.specs.Steps.{change_step};
 ghost use Rattle.par1_c.specs.Inventories.{open_into, changed_by, added_by, count_into, QueryInto};
 
-use codes::{code_of, is_code};
+use codes::Code;
 use inventory_bytes::{answer_number, loaded, opened, store, store_count};
 use refusals::OUT_OF_RANGE;
 
@@ -14,11 +14,10 @@ use refusals::OUT_OF_RANGE;
 pub extern "C" fn par1_open(code: u32, n: u64, sizes: &[u8], out: &mut [u8]) -> u32
     ensures { (result, out.new) ≡ open_into code n sizes.now out.old }
 {
-    let number = code as u64;
-    if !is_code(number) {
+    let Ok(code) = Code::try_from(u64::from(code)) else {
         return OUT_OF_RANGE;
-    }
-    store(opened(code_of(number), n, sizes), out)
+    };
+    store(opened(code, n, sizes), out)
 }
 
 // Adds a file to what is present.
@@ -42,14 +41,10 @@ pub extern "C" fn par1_remove_file(inventory: &mut [u8], file: u64) -> u32
 pub extern "C" fn par1_add_volume(inventory: &mut [u8], code: u32, volume: u64) -> u32
     ensures { (result, inventory.new) ≡ added_by code volume inventory.old }
 {
-    let number = code as u64;
-    if !is_code(number) {
+    let Ok(code) = Code::try_from(u64::from(code)) else {
         return OUT_OF_RANGE;
-    }
-    store(
-        loaded(inventory).add_volume(code_of(number), volume),
-        inventory,
-    )
+    };
+    store(loaded(inventory).add_volume(code, volume), inventory)
 }
 
 // Removes a volume from what is present or in quarantine.

@@ -27,7 +27,7 @@ mod replays;
 mod texts;
 
 use answer_bytes::{put_answer, put_entry, put_reading};
-use codes::{code_of, is_code};
+use codes::Code;
 use lent_bytes::refusal_of;
 use par1::Refusal;
 use refusals::OUT_OF_RANGE;
@@ -53,11 +53,10 @@ pub extern "C" fn par1_inverse(x: u8, out: &mut [u8]) -> u32
 pub extern "C" fn par1_coefficient(code: u32, file: u64, volume: u64, out: &mut [u8]) -> u32
     ensures { (result, out.new) ≡ coefficient_into code file volume out.old }
 {
-    let number = code as u64;
-    if !is_code(number) {
+    let Ok(code) = Code::try_from(u64::from(code)) else {
         return OUT_OF_RANGE;
-    }
-    put_answer(parity::coefficient(code_of(number), file, volume), out)
+    };
+    put_answer(parity::coefficient(code, file, volume), out)
 }
 
 // Adds weight times the fragment to the buffer, byte by byte, as far as both go.
@@ -104,11 +103,10 @@ pub extern "C" fn par1_write_volume(
 ) -> u64
     ensures { (result, out.new) ≡ volume_into code program number list.now «data».now out.old }
 {
-    let kind = code as u64;
-    if !is_code(kind) {
+    let Ok(code) = Code::try_from(u64::from(code)) else {
         return OUT_OF_RANGE as u64;
-    }
-    answer(refusal_of(par1::write_volume(code_of(kind), program, number, list, data, out)))
+    };
+    answer(refusal_of(par1::write_volume(code, program, number, list, data, out)))
 }
 
 // Amends the volume in the first `length` bytes of `volume`; the value of the answer is its new length.
