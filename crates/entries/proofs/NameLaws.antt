@@ -21,7 +21,7 @@ use Rattle.little_endian.proofs.Reading.{le_at-drop}
 use Rattle.lent_bytes.specs.Equal.{equal}
 use Rattle.entries.specs.Entry.{units_of, unit_allowed, units_allowed, only_dots, is_dots, name_allowed}
 
-units_short : (s : List ℕ) → length s < 2 → units_of s ≡ []
+pub units_short : (s : List ℕ) → length s < 2 → units_of s ≡ []
 unfolding units_of
 units_short [] h = refl
 units_short (a ∷ []) h = refl
@@ -32,6 +32,9 @@ unfolding units_of
 units_long [] h = absurd (omega arith)
 units_long (a ∷ []) h = absurd (omega arith)
 units_long (a ∷ b ∷ s) h = refl
+
+pub unit_first : (s : List ℕ) {rest : List ℕ} {u : ℕ} → 2 ≤ length s → u ≡ le_at 2 s 0 → rest ≡ drop 2 s → units_of s ≡ u ∷ units_of rest
+unit_first s long unit_is rest_is = cc (units_long s long)
 
 module _ (s : List ℕ) (at : ℕ) where
   pub units_none : length s < at + 2 → units_of (drop at s) ≡ []

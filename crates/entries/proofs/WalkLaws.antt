@@ -6,7 +6,7 @@
 --   EntryHere, entry_here, no_entry     an entry at a position of a list, and none, by the length that stands there
 --   walk_from t c   the totals t and those of the entries c, where nothing is left after them; or the refusal of what is left
 --   saved_most     an entry is one saved entry at most
---   walk_start     the walk from no entries at all
+--   walk_start, no_totals     the walk from no entries at all
 --   walk_more, walk_end, walk_fault    a step of the walk, by what is at the front
 --   Walks, walks   a step past an entry, as the loop over a list meets it
 --   stopped        what the walk gives where something is left
@@ -148,6 +148,10 @@ walk_from t c = walked_to (plus t (totals_of c.pieces)) c.rest
 pub walk_start : (s : List ℕ) → walk_from (totals 0 0 0) (entries_of s) ≡ walk_of s
 unfolding walk_from walk_of
 walk_start s = ap (λ (t : Totals). walked_to t (entries_of s).rest) (plus_none (totals_of (entries_of s).pieces))
+
+-- the totals that derived code begins with
+pub no_totals : (t : Totals) → (t.entries ≡ 0) × ((t.saved ≡ 0) × (t.greatest ≡ 0)) → t ≡ totals 0 0 0
+no_totals t z = same z.0 z.1.0 z.1.1
 
 pub walk_more : (t : Totals) {s : List ℕ} {n status size : ℕ} → IsEntry s n status size
     → walk_from (add_entry t status size) (entries_of (drop n s)) ≡ walk_from t (entries_of s)

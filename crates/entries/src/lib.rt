@@ -1,8 +1,8 @@
 // The entries of a Par 1.0 list (document 01, "Byte layout"): the first entry of a part of a list, and the walk over a whole one.
 #![tactic(auto)]
 
-ghost use Rattle.std.specs.Prelude.{◌≡◌, cond, ◌+◌, ◌%◌, ◌<◌, ◌≤◌, ◌^◌, max, length, drop, ℕ, List};
-ghost use Rattle.std.specs.Iterator.{YieldsFirstRef, item_count};
+ghost use Rattle.std.specs.Prelude.{◌≡◌, ◌+◌, ◌%◌, ◌<◌, ◌≤◌, ◌^◌, length, drop, ℕ, List};
+ghost use Rattle.std.specs.Iterator.{YieldsFirst, YieldsFirstRef, item_count};
 ghost use Rattle.entries.specs.Entry.{unit_allowed, is_dot, units_allowed, only_dots, is_dots, name_allowed, units_of};
 ghost use Rattle.entries.specs.Entry.{entry_size_allowed, is_saved, saved_count, is_counted, status_of, file_size_of, length_of};
 ghost use Rattle.entries.specs.Walk.{fault_number, refusal_at, entry_in, first_of, entries_of, add_entry, walk_of};
@@ -35,6 +35,29 @@ pub enum Fault {
     Name,
 }
 
+impl Fault {
+    // The number of the refusal for a fault.
+    pub fn number(self) -> u32
+        ensures { result ≡ fault_number self }
+    {
+        match self {
+            Fault::Size => refusals::ENTRY_SIZE,
+            Fault::FileSize => refusals::FILE_SIZE,
+            Fault::Name => refusals::NAME,
+        }
+    }
+
+    // The refusal for a fault of the entry at `place`.
+    pub fn at(self, place: u64) -> Refusal
+        ensures { result ≡ refusal_at self place }
+    {
+        Refusal {
+            number: self.number(),
+            place,
+        }
+    }
+}
+
 // An entry in numbers: its length, its status, and the size of its file.
 #[derive(Clone, Copy)]
 pub struct Entry {
@@ -44,11 +67,26 @@ pub struct Entry {
 }
 
 // Of the entries of a list: their number, that of the saved ones, and the greatest size of a file that counts for the data size.
-#[derive(Clone, Copy)]
+#[derive(Clone, Copy, Default)]
 pub struct Totals {
     pub entries: u64,
     pub saved: u64,
     pub greatest: u64,
+}
+
+impl Totals {
+    // Counts one entry more.
+    #[tactic(auto, unfolding(crate::specs::Walk::add_entry))]
+    pub fn add(&mut self, status: u64, size: u64)
+        requires { (self.old.entries + 1 < 2 ^ 64) × (self.old.saved + 1 < 2 ^ 64) }
+        ensures { self.new ≡ add_entry self.old status size }
+    {
+        self.entries += 1;
+        self.saved += saved_count(status);
+        if is_counted(status) {
+            self.greatest = self.greatest.max(size);
+        }
+    }
 }
 
 // The first entry of `list`, in numbers, `None` where the list is over, or the rule that the entry breaks. The list goes on after its `length`
@@ -155,20 +193,16 @@ pub fn of(list: &[u8]) -> Entries<'_>
 pub fn walk(list: &[u8]) -> Result<Totals, Refusal>
     ensures { result ≡ walk_of list.now }
 {
-    let mut totals = Totals {
-        entries: 0,
-        saved: 0,
-        greatest: 0,
-    };
+    let mut totals = Totals::default();
     let mut rest = list;
     loop {
         match first(rest) {
             Ok(Some(entry)) => {
-                totals = added(totals, entry.status, entry.size);
+                totals.add(entry.status, entry.size);
                 rest = &rest[entry.length..];
             }
             Ok(None) => return Ok(totals),
-            Err(fault) => return Err(refusal_at(fault, totals.entries + 1)),
+            Err(fault) => return Err(fault.at(totals.entries + 1)),
         }
     }
 }
@@ -187,23 +221,48 @@ pub fn file_size_of(entry: &[u8]) -> u64
     little_endian::read64(entry, FILE_SIZE_AT)
 }
 
+// The 16-bit units of a name, one after another; half a unit at its end is left out.
+#[derive(Drop)]
+pub struct Units<'a> {
+    rest: &'a [u8],
+}
+
+impl<'a> Model for Units<'a> {
+    ghost Value = { List ℕ };
+
+    ghost view = { λ s. units_of s.rest.now };
+}
+
+impl<'a> Iterator for Units<'a> {
+    type Item = u16;
+
+    ghost next_gives = { YieldsFirst (λ s. s) };
+
+    ghost remaining = { item_count (λ s. s) };
+
+    fn next(&mut self) -> Option<u16> {
+        if self.rest.len() < 2 {
+            return None;
+        }
+        let unit = little_endian::read16(self.rest, 0);
+        self.rest = &self.rest[2..];
+        Some(unit)
+    }
+}
+
+// The units of `name`.
+pub fn units_of(name: &[u8]) -> Units<'_>
+    ensures { result ≡ units_of name.now }
+{
+    Units { rest: name }
+}
+
 // Whether the bytes of a name are allowed: one unit or more, whole units, each of them allowed, and neither "." nor "..".
+#[tactic(auto, unfolding(crate::specs::Entry::name_allowed))]
 pub fn name_allowed(name: &[u8]) -> bool
     ensures { result ≡ name_allowed name.now }
 {
-    if name.len() < 2 {
-        return false;
-    }
-    if name.len() % 2 != 0 {
-        return false;
-    }
-    if !units_allowed(name) {
-        return false;
-    }
-    if is_dots(name) {
-        return false;
-    }
-    true
+    2 <= name.len() && name.len() % 2 == 0 && units_allowed(name) && !is_dots(name)
 }
 
 // Whether an entry with this status is saved in the parity.
@@ -217,85 +276,37 @@ pub fn is_saved(status: u64) -> bool
 pub fn saved_count(status: u64) -> u64
     ensures { result ≡ saved_count status }
 {
-    if is_saved(status) { 1 } else { 0 }
-}
-
-// The number of the refusal for a fault.
-pub fn fault_number(fault: Fault) -> u32
-    ensures { result ≡ fault_number fault }
-{
-    match fault {
-        Fault::Size => refusals::ENTRY_SIZE,
-        Fault::FileSize => refusals::FILE_SIZE,
-        Fault::Name => refusals::NAME,
-    }
-}
-
-// The refusal for a fault of the entry at `place`.
-pub fn refusal_at(fault: Fault, place: u64) -> Refusal
-    ensures { result ≡ refusal_at fault place }
-{
-    Refusal {
-        number: fault_number(fault),
-        place,
-    }
+    u64::from(is_saved(status))
 }
 
 // Whether an entry of `size` bytes may stand at the front of `room` bytes.
+#[tactic(auto, unfolding(crate::specs::Entry::entry_size_allowed))]
 pub fn entry_size_allowed(size: u64, room: usize) -> bool
     ensures { result ≡ entry_size_allowed size room }
 {
-    if size % 2 != 0 {
-        return false;
-    }
-    if size < MIN_ENTRY_SIZE {
-        return false;
-    }
-    size <= room as u64
+    size % 2 == 0 && MIN_ENTRY_SIZE <= size && size <= room as u64
 }
 
 // Whether each unit of a name is allowed.
 pub fn units_allowed(name: &[u8]) -> bool
     ensures { result ≡ units_allowed (units_of name.now) }
 {
-    let mut at: usize = 0;
-    while 2 <= name.len() - at {
-        if !unit_allowed(little_endian::read16(name, at)) {
-            return false;
-        }
-        at += 2;
-    }
-    true
+    units_of(name).all(|unit| unit_allowed(unit))
 }
 
 // Whether each unit of a name is a dot.
 pub fn only_dots(name: &[u8]) -> bool
     ensures { result ≡ only_dots (units_of name.now) }
 {
-    let mut at: usize = 0;
-    while 2 <= name.len() - at {
-        if !is_dot(little_endian::read16(name, at)) {
-            return false;
-        }
-        at += 2;
-    }
-    true
+    units_of(name).all(|unit| is_dot(unit))
 }
 
 // Whether a unit may stand in a name: any but 0, a slash, a colon and a backslash.
+#[tactic(auto, unfolding(crate::specs::Entry::unit_allowed))]
 pub fn unit_allowed(unit: u16) -> bool
     ensures { result ≡ unit_allowed unit }
 {
-    if unit == 0 {
-        return false;
-    }
-    if unit == 47 {
-        return false;
-    }
-    if unit == 58 {
-        return false;
-    }
-    unit != 92
+    !matches!(unit, 0 | 47 | 58 | 92)
 }
 
 // Whether a unit is a dot.
@@ -310,32 +321,7 @@ fn is_dots(name: &[u8]) -> bool
     requires { (2 ≤ length name.now) × (length name.now % 2 ≡ 0) }
     ensures { result ≡ is_dots (units_of name.now) }
 {
-    if MAX_DOTS < name.len() {
-        return false;
-    }
-    only_dots(name)
-}
-
-// The greatest size that counts, with one entry more.
-pub fn greatest_after(greatest: u64, status: u64, size: u64) -> u64
-    ensures { result ≡ cond (is_counted status) (max greatest size) greatest }
-{
-    if is_counted(status) {
-        return greater(greatest, size);
-    }
-    greatest
-}
-
-// The totals with one entry more.
-fn added(totals: Totals, status: u64, size: u64) -> Totals
-    requires { (totals.entries + 1 < 2 ^ 64) × (totals.saved + 1 < 2 ^ 64) }
-    ensures { result ≡ add_entry totals status size }
-{
-    Totals {
-        entries: totals.entries + 1,
-        saved: totals.saved + saved_count(status),
-        greatest: greatest_after(totals.greatest, status, size),
-    }
+    name.len() <= MAX_DOTS && only_dots(name)
 }
 
 // Whether an entry counts for the data size: a saved one does.
@@ -343,11 +329,4 @@ fn is_counted(status: u64) -> bool
     ensures { result ≡ is_counted status }
 {
     is_saved(status)
-}
-
-// The greater of two sizes.
-pub fn greater(a: u64, b: u64) -> u64
-    ensures { result ≡ max a b }
-{
-    if a < b { b } else { a }
 }

@@ -11,11 +11,11 @@ use Rattle.entries.specs.Walk.{first_of, add_entry}
 use Rattle.entries.specs.declared.Entry.{Entry}
 use Rattle.entries.specs.declared.Totals.{Totals}
 use Rattle.entries.proofs.EntryLaws.{is_end, is_entry, is_fault}
-use Rattle.entries.proofs.WalkLaws.{walk_start, walk_end, walk_fault, Walks, walks}
+use Rattle.entries.proofs.WalkLaws.{walk_start, no_totals, walk_end, walk_fault, Walks, walks}
 use Rattle.entries.proofs.walk.Goals as goal
 
 pub loop-entry-init : goal.loop-entry-init
-loop-entry-init c = (omega arith, omega arith, walk_start c.args.list.now)
+loop-entry-init c = rw (no_totals c.default-totals.result c.default-totals.ensures) (omega arith, omega arith, walk_start c.args.list.now)
 
 module _ (s : List ℕ) {t u : Totals} {e : Entry} (i : Ok (Some e) ≡ first_of s) (sum : u ≡ add_entry t e.status e.size) where
   step : Walks s (take (length s - e.length) (drop e.length s)) t u
@@ -28,11 +28,11 @@ pub slice_bounds-rest-start : goal.slice_bounds-rest-start
 slice_bounds-rest-start c = (is_entry (ap Ok (sym c.in-Ok-Some.field-0-is) ∙ c.in-Ok-Some.ensures)).high
 
 pub loop-entry-smaller : goal.loop-entry-smaller
-loop-entry-smaller c = omega (arith, (step _ (ap Ok (sym c.in-Ok-Some.field-0-is) ∙ c.in-Ok-Some.ensures) c.added-totals.ensures).length_is)
+loop-entry-smaller c = omega (arith, (step _ (ap Ok (sym c.in-Ok-Some.field-0-is) ∙ c.in-Ok-Some.ensures) c.add.ensures).length_is)
 
 pub loop-entry-preserved : goal.loop-entry-preserved
 loop-entry-preserved c = let l = c.loop-entry in
-    let w = step _ (ap Ok (sym c.in-Ok-Some.field-0-is) ∙ c.in-Ok-Some.ensures) c.added-totals.ensures in
+    let w = step _ (ap Ok (sym c.in-Ok-Some.field-0-is) ∙ c.in-Ok-Some.ensures) c.add.ensures in
     (omega (arith, w.length_is, w.added.entries_is), omega (arith, w.length_is, w.added.saved_most), w.walk_is ∙ l.invariant.2)
 
 pub returns-in-Ok-None : goal.returns-in-Ok-None
@@ -40,4 +40,4 @@ returns-in-Ok-None c = let l = c.loop-entry in sym (walk_end l.totals (is_end (a
 
 pub returns-in-Err : goal.returns-in-Err
 returns-in-Err c = let l = c.loop-entry in let refused = walk_fault l.totals (is_fault c.in-Err.ensures) in
-    ap Err c.refusal_at.ensures ∙ sym refused ∙ l.invariant.2
+    ap Err c.at.ensures ∙ sym refused ∙ l.invariant.2
