@@ -24,7 +24,7 @@ use Rattle.entries.specs.Numbering.{saved_of}
 use Rattle.entries.proofs.KeepLaws.{all_keep}
 use Rattle.inventory.specs.Steps.{fresh, outcome, refused_opening, open_step}
 use Rattle.inventory.specs.Claim.{size_in}
-use Rattle.inventory.specs.declared.Outcome.{Outcome}
+use Rattle.inventory.specs.Outcome.{Outcome}
 use Rattle.par1.specs.Checking.{check_of}
 use Rattle.par1_set.specs.Claim.{FileBack, FilesListed}
 use Rattle.par1_set.specs.Files.{File, no_file, saved_files, file_count, contents_of, entry_for, entries_for}
