@@ -1,7 +1,6 @@
 -- The lines of entries, one after another.
 --
---   lines_more    the first entry's line, and then those of the others
---   lines_none    no entries have none
+--   lines_more    the first entry's line, by its fields, and then those of the others
 --   lines_append  the lines of entries in a row
 --   line_numbered the line of an entry has its file number, as entries' `file_number` gives it
 -- Assumes nothing.
@@ -11,30 +10,20 @@ use mathlib.Core.Bool.{Bool, true, false, cond}
 use Prim.Native.Nat.{ℕ, ◌+◌}
 use native.Mathlib.Nat.{zero-add, add-zero}
 use native.Mathlib.Omega.{arith}
-use lib.ListN.{length, take, drop, get_or}
+use lib.ListN.{length, take, get_or}
 use lib.Seq.{get_or-append_seam, take-append_seam}
-use Rattle.cut_lists.specs.Pieces.{Cut}
 use Rattle.entries.specs.Entry.{status_of, file_size_of, name_of, units_of, is_saved, saved_count}
 use Rattle.entries.specs.Numbering.{saved_of, file_number}
-use Rattle.entries.specs.Walk.{entries_of}
-use Rattle.entries.proofs.EntryLaws.{IsEntry}
-use Rattle.entries.proofs.WalkLaws.{entries_more}
 use Rattle.text.specs.Ascii.{ascii}
 use Rattle.text.specs.Decimal.{decimal, field}
 use Rattle.listing.specs.Lines.{shown, label, line_of, entry_line, entry_lines}
 use Rattle.listing.specs.Claim.{LineNumbered}
 
-pub lines_more : (k : ℕ) {s : List ℕ} {n status size : ℕ} → IsEntry s n status size
-    → let number = k + saved_count status in
-    line_of status number size (name_of (take n s)) ++ entry_lines number (entries_of (drop n s)).pieces ≡ entry_lines k (entries_of s).pieces
+pub lines_more : (saved : ℕ) {es xs : List (List ℕ)} {e name : List ℕ} {status size more : ℕ} → es ≡ e ∷ xs → status ≡ status_of e
+    → size ≡ file_size_of e → name ≡ name_of e → more ≡ saved_count status
+    → entry_lines saved es ≡ line_of status (saved + more) size name ++ entry_lines (saved + more) xs
 unfolding entry_lines
-lines_more k {s} {n} i = let rest : ℕ → List ℕ = λ m. entry_lines m (entries_of (drop n s)).pieces in
-    ap₂ (λ (st sz : ℕ). line_of st (k + saved_count st) sz (name_of (take n s)) ++ rest (k + saved_count st)) i.status_is i.size_is
-    ∙ sym (ap (λ (c : Cut). entry_lines k c.pieces) (entries_more i))
-
-pub lines_none : (k : ℕ) {es : List (List ℕ)} → es ≡ [] → entry_lines k es ≡ []
-unfolding entry_lines
-lines_none k e = simp e
+lines_more saved is status size name more = rw (is, more, status, size, name) refl
 
 -- ---- numbers
 

@@ -33,15 +33,11 @@ pub fn put_entries(writer: &mut Writer, list: &[u8])
     ensures { Puts writer.old writer.new (entry_lines 0 (entries_of list.now).pieces) }
 {
     let mut saved: u64 = 0;
-    let mut from: usize = 0;
-    loop {
-        let Some(entry) = entries::at(list, from) else {
-            return;
-        };
-        let name = layout::name_of(layout::part(list, from, entry.length));
-        saved += entries::saved_count(entry.status);
-        put_line(writer, entry.status, saved, entry.size, name);
-        from += entry.length;
+    for entry in entries::of(list) {
+        let status = entries::status_of(entry);
+        let name = layout::name_of(entry);
+        saved += entries::saved_count(status);
+        put_line(writer, status, saved, entries::file_size_of(entry), name);
     }
 }
 
