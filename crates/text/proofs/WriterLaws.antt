@@ -4,6 +4,7 @@
 --   puts_nil       no text
 --   puts_then      one text after another
 --   puts_last      the last text of a row: `puts_then p (puts_then q (puts_last r))` puts the three, joined by flatten
+--   puts_back      a text put by a reborrow
 --   puts_whole     a text that fits, put from the start
 --   Remains w v r t     v is the writer w after a part of the text t, of which r remains: what a loop keeps
 --   remains_all    all of the text
@@ -11,7 +12,7 @@
 --   remains_last   all that remains is put
 --   remains_none   nothing remains
 -- Assumes nothing.
-use mathlib.Core.Path.{◌≡◌, refl, sym, ap, ◌∙◌, subst}
+use mathlib.Core.Path.{◌≡◌, refl, sym, ap, ap₂, ◌∙◌, subst}
 use mathlib.Core.List.{List, [], ◌∷◌, ◌++◌, append-nil}
 use Prim.Native.Nat.{ℕ, ◌+◌, ◌≤◌, ◌<◌, min}
 use native.Mathlib.Omega.{arith}
@@ -43,6 +44,15 @@ puts_then {w} {v} {u} {s} {t} p q = record {
 pub puts_last : {w v : Writer} {t : List ℕ} → Puts w v t → Puts w v (t ++ [])
 puts_last {w} {v} {t} p = subst (Puts w v) (sym (append-nil t)) p
 
+-- v is w after the text that the writer s, a reborrow of w, put until it was h
+pub puts_back : {w v s h : Writer} {t : List ℕ} → v.out.ghost_name ≡ w.out.ghost_name → v.out.now ≡ h.out.now → v.at ≡ h.at → buffer_of w ≡ buffer_of s
+    → Puts s h t → Puts w v t
+puts_back {t = t} same bytes at starts p = record {
+  same_reference = same;
+  room = rw (ap (λ (b : Buffer). b.bytes) starts) p.room;
+  puts = ap₂ (λ (l : List ℕ) (n : ℕ). buffer l (min n usize_max)) bytes at ∙ p.puts ∙ ap (λ (b : Buffer). put b t) (sym starts);
+}
+
 -- a text that fits, put from the start of the buffer l
 pub puts_whole : (l : List ℕ) {w v : Writer} {t : List ℕ} → buffer_of w ≡ buffer l 0 → Puts w v t → length t ≤ length l → length l ≤ usize_max
     → buffer_of v ≡ buffer (t ++ drop (length t) l) (length t)
@@ -51,7 +61,7 @@ puts_whole l {w} {v} {t} start p h k = p.puts ∙ ap (λ (b : Buffer). put b t) 
 -- ---- a text put by a loop
 
 pub record Remains (w v : Writer) (r t : List ℕ) : Type 0 where
-  same_reference : v.out.ghost_name ≡ w.out.ghost_name
+  pub same_reference : v.out.ghost_name ≡ w.out.ghost_name
   room : length w.out.now ≤ usize_max
   same_length : length v.out.now ≡ length w.out.now
   rest : put (buffer_of v) r ≡ put (buffer_of w) t

@@ -36,17 +36,25 @@ impl<'a> Writer<'a> {
         let at = self.at;
         if at < self.out.len() {
             self.out[at] = byte;
+            self.at = at + 1;
+        } else {
+            self.at = at.saturating_add(1);
         }
-        self.at = at.saturating_add(1);
     }
 
-    // The bytes of `text`.
+    // The bytes of `text`. A loop goes through a writer of its own, whose position stays in a register: behind `self` each byte that is stored
+    // might be a byte of the position.
     pub fn put_bytes(&mut self, text: &[u8])
         ensures { Puts self.old self.new text.now }
     {
+        let mut here = Writer {
+            out: self.out,
+            at: self.at,
+        };
         for byte in text {
-            self.put(*byte);
+            here.put(*byte);
         }
+        self.at = here.at;
     }
 
     // The decimal digits of `n`.
@@ -79,9 +87,14 @@ impl<'a> Writer<'a> {
     pub fn put_hex_bytes(&mut self, bytes: &[u8])
         ensures { Puts self.old self.new (hex_bytes bytes.now) }
     {
+        let mut here = Writer {
+            out: self.out,
+            at: self.at,
+        };
         for byte in bytes {
-            self.put_hex(*byte);
+            here.put_hex(*byte);
         }
+        self.at = here.at;
     }
 }
 

@@ -6,4 +6,4 @@ use Rattle.text.proofs.WriterLaws.{Remains}
 use Rattle.text.proofs.writer.Writer.put_hex_bytes.Given as goal
 
 abbrev pub invariant-loop-byte : goal.invariant-loop-byte
-invariant-loop-byte l = Remains l.initial.self l.self (hex_bytes (drop l.byte-index l.bytes)) (hex_bytes l.bytes)
+invariant-loop-byte l = Remains l.initial.here l.here (hex_bytes (drop l.byte-index l.bytes)) (hex_bytes l.bytes)
