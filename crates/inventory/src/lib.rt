@@ -54,6 +54,7 @@ impl Inventory {
                 return Err(SIZE);
             }
             if *size > 0 {
+                // through a name of its own: the borrow checker lays no call's result straight in a variable that is an array
                 let more = insert(nonempty, k as u64 + 1);
                 nonempty = more;
             }

@@ -105,6 +105,7 @@ impl Holdings {
         for i in 0..self.n {
             let file = u64::from(i) + 1;
             if !has(self.files, file) && !has(self.nonempty, file) {
+                // through a name of its own: the borrow checker lays no call's result straight in a variable that is an array
                 let more = insert(set, file);
                 set = more;
             }
