@@ -5,7 +5,7 @@ ghost use Rattle.std.specs.Prelude.{◌≡◌};
 ghost use Rattle.answer_bytes.specs.Results.{byte_into, parts_bytes, read_into, entry_numbers, entry_into};
 ghost use Rattle.lent_bytes.specs.Writing.{written, with_number};
 
-use entries::{Entry, Fault, fault_number};
+use entries::{Entry, Fault};
 use lent_bytes::write;
 use little_endian::write_numbers;
 use par1_read::Parts;
@@ -55,7 +55,7 @@ pub fn put_entry(item: Result<Option<Entry>, Fault>, out: &mut [u8]) -> u32
     match item {
         Ok(Some(entry)) => put_numbers(entry.length as u64, entry.status, entry.size, out),
         Ok(None) => put_numbers(0, 0, 0, out),
-        Err(fault) => fault_number(fault),
+        Err(fault) => fault.number(),
     }
 }
 

@@ -82,7 +82,7 @@ pub fn found(scan: Scan) -> Result<Totals, Refusal>
     let head = scan.head;
     let fault = fault_at(&head, scan.at);
     let place = std::num::wrapping_add_u64(totals.entries, 1);
-    Err(entries::refusal_at(fault, place))
+    Err(fault.at(place))
 }
 
 // The set hash of the entries that came.

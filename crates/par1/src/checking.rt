@@ -35,7 +35,7 @@ pub fn lone_refusal(entry: &[u8]) -> u32
 {
     let fills = little_endian::read64(entry, 0) == entry.len() as u64;
     let number = item_number(entries::first(entry));
-    test(entries::fault_number(Fault::Size), fills, number)
+    test(Fault::Size.number(), fills, number)
 }
 
 // The number of the refusal of bytes that begin with `item`, 0 where it is an entry.
@@ -44,7 +44,7 @@ fn item_number(item: Result<Option<Entry>, Fault>) -> u32
 {
     match item {
         Ok(Some(_)) => 0,
-        Ok(None) => entries::fault_number(Fault::Size),
-        Err(fault) => entries::fault_number(fault),
+        Ok(None) => Fault::Size.number(),
+        Err(fault) => fault.number(),
     }
 }

@@ -7,6 +7,7 @@
 --   refusal_of f, parts_of f           the refusal of the file f, with the number 0 where there is none; what it gives where there is none
 --   header_refused, read_as          a file that its header refuses; any other, from its list, its digests and the walk
 --   from_refused, from_accepted      what reading gives, from the refusal
+--   from_header, from_control, list_refused, list_accepted      the same, test after test
 --   read_refused, read_accepted      the same of a file
 --   Passed, passed_none, ReadAccepted, read_tells  the tests that an accepted file passed
 --   list_joined, data_length         an accepted file's list is its entries, joined, and its data has the data size
@@ -15,7 +16,7 @@
 -- A test of document 01 is passed where it does not hold.
 -- Assumes nothing.
 use Rattle.std.specs.Prelude.{Ok, Err}
-use mathlib.Core.Path.{◌≡◌, refl, sym, ap, ◌∙◌}
+use mathlib.Core.Path.{◌≡◌, refl, sym, ap, ap₂, ◌∙◌}
 use mathlib.Core.Bool.{true}
 use mathlib.Core.List.{List, [], ◌∷◌, ◌++◌, append-nil, flatten}
 use Prim.Native.Nat.{ℕ, zero, suc, ◌+◌}
@@ -25,9 +26,9 @@ use lib.ListN.{length, take, drop, length-drop}
 use borrow.Author.Tests.{eqb-true, eq-eqb}
 use Rattle.lent_bytes.specs.Equal.{equal}
 use Rattle.lent_bytes.proofs.EqualLaws.{equal_true, equal-same}
-use Rattle.refusals.specs.Tests.{bare}
+use Rattle.refusals.specs.Tests.{told, or_else}
 use Rattle.refusals.specs.declared.Refusal.{Refusal}
-use Rattle.refusals.proofs.TestLaws.{test_passed, or_else_lem, or-none}
+use Rattle.refusals.proofs.TestLaws.{told_ok, told_err, test_passed, or_else_lem, or-none}
 use Rattle.entries.specs.Numbering.{saved_of}
 use Rattle.entries.specs.Entry.{length_of}
 use Rattle.entries.specs.Walk.{entries_of, totals_of, walked_to, walk_of}
@@ -122,6 +123,29 @@ module _ (head : List ℕ) (n : ℕ) (digest set : List ℕ) (w : Walked) where
   unfolding read_from
   from_accepted e saved parts = simp (e, parts, saved)
 
+  pub from_header : {r : Refusal} → Err r ≡ told (header_refusal head n) → read_from head n digest set w ≡ Err r
+  unfolding refusal_from
+  from_header e = let t = told_err (header_refusal head n) e in
+      from_refused (t.0 ∙ sym (or_else_lem _ _ t.1)) (λ z. t.1 (sym (ap (λ (r : Refusal). r.number) t.0) ∙ z))
+
+  module _ (header : Ok tt ≡ told (header_refusal head n)) where
+    pub from_control : {r : Refusal} → Err r ≡ told (control_refusal head digest) → read_from head n digest set w ≡ Err r
+    unfolding refusal_from
+    from_control e = let t = told_err (control_refusal head digest) e in
+        let rest : Refusal = or_else (control_refusal head digest) (list_refusal head set w) in
+        from_refused (t.0 ∙ sym (ap (λ (k : ℕ). or_else k rest) (told_ok _ header) ∙ or_else_lem _ _ t.1)) (λ z. t.1 (sym (ap (λ (r : Refusal). r.number) t.0) ∙ z))
+
+    module _ (control : Ok tt ≡ told (control_refusal head digest)) where
+      from_list : refusal_from head n digest set w ≡ list_refusal head set w
+      unfolding refusal_from
+      from_list = ap₂ (λ (k j : ℕ). or_else k (or_else j (list_refusal head set w))) (told_ok _ header) (told_ok _ control)
+
+      pub list_refused : {r : Refusal} → r ≡ list_refusal head set w → (r.number ≡ 0 → ⊥) → read_from head n digest set w ≡ Err r
+      list_refused e h = from_refused (e ∙ sym from_list) h
+
+      pub list_accepted : {p : Parts} → (list_refusal head set w).number ≡ 0 → p ≡ parts_from head (saved_in w) → read_from head n digest set w ≡ Ok p
+      list_accepted e parts = from_accepted (ap (λ (r : Refusal). r.number) from_list ∙ e) refl parts
+
 unfoldable pub refusal_of : List ℕ → Refusal
 refusal_of f = refusal_from f (length f) (control_hash f) (set_hash (entries_in f)) (walk_of (list_of f))
 
@@ -132,9 +156,9 @@ pub read_refused : (f : List ℕ) {r : Refusal} → r ≡ refusal_of f → (r.nu
 unfolding read_of refusal_of
 read_refused f e h = from_refused f (length f) (control_hash f) (set_hash (entries_in f)) (walk_of (list_of f)) e h
 
-pub header_refused : (f : List ℕ) {n : ℕ} → n ≡ header_refusal f (length f) → (n ≡ 0 → ⊥) → read_of f ≡ Err (bare n)
-unfolding refusal_of refusal_from
-header_refused f {n} e h = read_refused f (ap bare e ∙ sym (or_else_lem (header_refusal f (length f)) _ (λ z. h (e ∙ z)))) h
+pub header_refused : (f : List ℕ) {r : Refusal} → Err r ≡ told (header_refusal f (length f)) → read_of f ≡ Err r
+unfolding read_of
+header_refused f e = from_header f (length f) (control_hash f) (set_hash (entries_in f)) (walk_of (list_of f)) e
 
 pub read_as : (f : List ℕ) {list digest set : List ℕ} {w : Walked} → list ≡ list_of f → digest ≡ control_hash f
     → set ≡ set_hash (entries_of list).pieces → w ≡ walk_of list → read_from f (length f) digest set w ≡ read_of f

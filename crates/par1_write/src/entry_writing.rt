@@ -33,11 +33,11 @@ fn entry_refusal(size: usize, status: u64, name: &[u8]) -> u32
     ensures { result ≡ entry_refusal size status name.now }
 {
     let named = entries::name_allowed(name);
-    let from_name = test(entries::fault_number(Fault::Name), named, 0);
+    let from_name = test(Fault::Name.number(), named, 0);
     let stated = status <= MAX_STATUS;
-    let from_status = test(entries::fault_number(Fault::FileSize), stated, from_name);
+    let from_status = test(Fault::FileSize.number(), stated, from_name);
     let short = size as u64 <= refusals::MAX_FILE_SIZE;
-    test(entries::fault_number(Fault::FileSize), short, from_status)
+    test(Fault::FileSize.number(), short, from_status)
 }
 
 // Writes the entry's fields in their order.

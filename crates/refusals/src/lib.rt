@@ -2,7 +2,7 @@
 // document 02 from 16 on), a refusal with its place, and tests one after another.
 #![tactic(auto)]
 
-ghost use Rattle.std.specs.Prelude.{◌≡◌};
+ghost use Rattle.std.specs.Prelude.{◌≡◌, true, false, MatchResult};
 ghost use Rattle.refusals.specs.Tests.{bare, test, or_else};
 
 // The greatest size of a listed file, in bytes.
@@ -127,6 +127,13 @@ pub fn test(number: u32, ok: bool, later: u32) -> u32
     ensures { result ≡ test number ok later }
 {
     if ok { later } else { number }
+}
+
+// Whether a test passed: `Ok` where `ok` holds, else the refusal `number`. With `?` the tests of a call stand line after line, in their order.
+pub fn refuse_unless(ok: bool, number: u32) -> Result<(), Refusal>
+    ensures { MatchResult result (λ _. ok ≡ true) (λ refusal. (ok ≡ false) × (refusal ≡ bare number)) }
+{
+    if ok { Ok(()) } else { Err(bare(number)) }
 }
 
 // The refusal `first`, which has no place, where it is one, else `second`.
