@@ -1,43 +1,43 @@
 // Writing of entries (document 01, "What comes back").
 ghost use Rattle.std.specs.Prelude.{◌≡◌, ◌+◌, ◌≤◌, length};
 ghost use Rattle.std.proofs.lemmas.List.Edits.{sets};
+ghost use Rattle.refusals.specs.Tests.{told};
 ghost use Rattle.par1_write.specs.EntryWriting.{entry_bytes, entry_refusal, write_entry_of};
 
 use entries::Fault;
 use par1_rules::hashes;
-use refusals::{Refusal, bare, test};
+use refusals::{Refusal, refuse_unless};
 
 // The greatest status that an entry is written with: 1, saved in the parity. The mark "checked", bit 1, is no longer written.
 const MAX_STATUS: u64 = 1;
 
 // Writes the entry of a file with these contents, status and name over the first bytes of `out`.
-pub fn write_entry(contents: &[u8], status: u64, name: &[u8], out: &mut [u8]) -> Result<usize, Refusal>
+pub fn write_entry(
+    contents: &[u8],
+    status: u64,
+    name: &[u8],
+    out: &mut [u8],
+) -> Result<usize, Refusal>
     ensures { (result, out.new) ≡ write_entry_of contents.now status name.now out.old }
 {
-    let number = entry_refusal(contents.len(), status, name);
-    if number != 0 {
-        return Err(bare(number));
-    }
-    if out.len() < entries::NAME_AT {
-        return Err(bare(refusals::NO_ROOM));
-    }
-    if out.len() - entries::NAME_AT < name.len() {
-        return Err(bare(refusals::NO_ROOM));
-    }
+    let length = entries::NAME_AT + name.len();
+    entry_tests(contents.len(), status, name)?;
+    refuse_unless(length <= out.len(), refusals::NO_ROOM)?;
     put_entry(out, contents, status, name);
-    Ok(entries::NAME_AT + name.len())
+    Ok(length)
 }
 
-// The number of the first test before 14 that holds, 0 where none does.
-fn entry_refusal(size: usize, status: u64, name: &[u8]) -> u32
-    ensures { result ≡ entry_refusal size status name.now }
+// The tests before 14.
+#[tactic(auto, unfolding(crate::specs::EntryWriting::entry_refusal))]
+fn entry_tests(size: usize, status: u64, name: &[u8]) -> Result<(), Refusal>
+    ensures { result ≡ told (entry_refusal size status name.now) }
 {
-    let named = entries::name_allowed(name);
-    let from_name = test(Fault::Name.number(), named, 0);
-    let stated = status <= MAX_STATUS;
-    let from_status = test(Fault::FileSize.number(), stated, from_name);
-    let short = size as u64 <= refusals::MAX_FILE_SIZE;
-    test(Fault::FileSize.number(), short, from_status)
+    refuse_unless(
+        size as u64 <= refusals::MAX_FILE_SIZE,
+        Fault::FileSize.number(),
+    )?;
+    refuse_unless(status <= MAX_STATUS, Fault::FileSize.number())?;
+    refuse_unless(entries::name_allowed(name), Fault::Name.number())
 }
 
 // Writes the entry's fields in their order.

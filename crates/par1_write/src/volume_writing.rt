@@ -2,12 +2,13 @@
 ghost use Rattle.std.specs.Prelude.{◌≡◌, ◌+◌, ◌-◌, ◌^◌, ◌<◌, ◌≤◌, length, take, drop};
 ghost use Rattle.std.proofs.lemmas.List.Edits.{sets};
 ghost use Rattle.par1_rules.specs.Rules.{length_allowed};
+ghost use Rattle.refusals.specs.Tests.{told};
 ghost use Rattle.par1_write.specs.VolumeWriting.{number_bytes, body_bytes, head_bytes, volume_refusal, write_volume_of};
 
 use codes::Code;
 use entries::Totals;
 use par1_rules::{hashes, layout, rules};
-use refusals::{Refusal, bare, test};
+use refusals::{Refusal, refuse_unless};
 
 // Writes volume `number` of a code, or the index where it is 0, over the first bytes of `out`.
 pub fn write_volume(
@@ -20,48 +21,43 @@ pub fn write_volume(
 ) -> Result<usize, Refusal>
     ensures { (result, out.new) ≡ write_volume_of code program number list.now «data».now out.old }
 {
-    match entries::walk(list) {
-        Ok(totals) => {
-            let refusal = volume_refusal(number, totals, list.len(), data.len());
-            if refusal != 0 {
-                return Err(bare(refusal));
-            }
-            let total = layout::HEADER_LENGTH + list.len() + data.len();
-            if out.len() < total {
-                return Err(bare(refusals::NO_ROOM));
-            }
-            put_body(out, number, totals.entries, list, data);
-            put_head(out, code, program, total);
-            Ok(total)
-        }
-        Err(refusal) => Err(refusal),
-    }
+    let totals = entries::walk(list)?;
+    volume_tests(number, totals, list.len(), data.len())?;
+    let total = layout::HEADER_LENGTH + list.len() + data.len();
+    refuse_unless(total <= out.len(), refusals::NO_ROOM)?;
+    put_body(out, number, totals.entries, list, data);
+    put_head(out, code, program, total);
+    Ok(total)
 }
 
-// The number of the first of tests 7, 9 and 1 that holds, 0 where none does.
-fn volume_refusal(number: u64, totals: Totals, list_len: usize, data_len: usize) -> u32
-    ensures { result ≡ volume_refusal number totals list_len data_len }
+// Tests 7, 9 and 1.
+#[tactic(auto, unfolding(crate::specs::VolumeWriting::volume_refusal))]
+fn volume_tests(
+    number: u64,
+    totals: Totals,
+    list_len: usize,
+    data_len: usize,
+) -> Result<(), Refusal>
+    ensures { result ≡ told (volume_refusal number totals list_len data_len) }
 {
-    let numbered = rules::number_allowed(number, totals.saved);
-    let sized = rules::data_allowed(number, totals.greatest, data_len as u64);
-    let short = total_allowed(list_len, data_len);
-    let from_1 = test(refusals::SIZE, short, 0);
-    let from_9 = test(refusals::DATA_SIZE, sized, from_1);
-    test(refusals::VOLUME_NUMBER, numbered, from_9)
+    refuse_unless(
+        rules::number_allowed(number, totals.saved),
+        refusals::VOLUME_NUMBER,
+    )?;
+    refuse_unless(
+        rules::data_allowed(number, totals.greatest, data_len as u64),
+        refusals::DATA_SIZE,
+    )?;
+    refuse_unless(total_allowed(list_len, data_len), refusals::SIZE)
 }
 
 // Whether a file may have `list_len` bytes of list and `data_len` bytes of data.
+#[tactic(auto, unfolding(par1_rules::specs::Rules::length_allowed))]
 fn total_allowed(list_len: usize, data_len: usize) -> bool
     ensures { result ≡ length_allowed (96 + list_len + data_len) }
 {
     let most = refusals::MAX_VOLUME_LENGTH - layout::HEADER_LENGTH;
-    if list_len > most {
-        return false;
-    }
-    if data_len > most - list_len {
-        return false;
-    }
-    true
+    list_len <= most && data_len <= most - list_len
 }
 
 // Writes what the control hash covers: the set hash, the numbers of the header, the list and the data.

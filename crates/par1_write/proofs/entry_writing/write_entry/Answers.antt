@@ -1,18 +1,21 @@
 -- `par1_write::write_entry` meets its contract: refused by the tests, refused for the room, and written.
 -- Assumes nothing.
+use Rattle.std.proofs.lemmas.Result.{err_from_is_err_and}
 use mathlib.Core.Path.{refl}
-use native.Mathlib.Omega.{arith}
+use borrow.Author.Tests.{leb-true, leb-false}
+use Rattle.refusals.proofs.TestLaws.{told_ok, told_err}
 use Rattle.par1_write.proofs.EntryWritingLaws.{entry-refused, entry_short, entry-over}
 use Rattle.par1_write.proofs.entry_writing.write_entry.Goals as goal
 
-pub returns-then-number-ne0 : goal.returns-then-number-ne0
-returns-then-number-ne0 c = entry-refused _ _ _ _ c.entry_refusal-number.ensures c.bare.ensures c.if-number-ne0.true refl
+pub returns-in_err-entry_tests : goal.returns-in_err-entry_tests
+returns-in_err-entry_tests c = let p = err_from_is_err_and c.from_residual.result c.from_residual.ensures.1 in
+    let t = told_err _ c.in_err-entry_tests.ensures in rw (p.1, p.2) (entry-refused _ _ _ _ refl t.0 t.1 refl)
 
-pub returns-then-out-lt-NAME_AT : goal.returns-then-out-lt-NAME_AT
-returns-then-out-lt-NAME_AT c = entry_short _ _ _ _ c.entry_refusal-number.ensures c.bare-then-out-lt-NAME_AT.ensures c.if-number-ne0.false (omega arith)
-
-pub returns-then-out-name : goal.returns-then-out-name
-returns-then-out-name c = entry_short _ _ _ _ c.entry_refusal-number.ensures c.bare-then-out-name.ensures c.if-number-ne0.false (omega arith)
+pub returns-in_err-refuse_unless : goal.returns-in_err-refuse_unless
+returns-in_err-refuse_unless c = let r = c.from_residual-in_err-refuse_unless in
+    let p = err_from_is_err_and r.result r.ensures.1 in
+    let t = c.in_err-refuse_unless.ensures in
+    rw (p.1, p.2) (entry_short _ _ _ _ refl t.1 (told_ok _ c.in_ok-entry_tests.ensures) (leb-false _ _ t.0))
 
 pub returns : goal.returns
-returns c = entry-over _ _ _ _ c.entry_refusal-number.ensures c.if-number-ne0.false (omega arith) c.put_entry.ensures
+returns c = entry-over _ _ _ _ refl (told_ok _ c.in_ok-entry_tests.ensures) (leb-true _ _ c.in_ok-refuse_unless.ensures) c.put_entry.ensures
