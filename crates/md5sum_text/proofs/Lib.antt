@@ -11,4 +11,3 @@ pub mod RangeLaws
 mod SaysLaws
 pub mod ShapeLaws
 mod SumLaws
-mod WalkLaws

@@ -8,7 +8,6 @@ ghost use Rattle.md5sum_text.specs.Names.{units_fit, is_fitting};
 ghost use Rattle.md5sum_text.specs.Export.{line_for, export_text, all_fitting};
 
 use crate::names::units_fit;
-use entries::length_at;
 use par1_rules::layout;
 use par1_rules::layout::name_of;
 use refusals::{Refusal, bare};
@@ -18,17 +17,7 @@ use text::Writer;
 pub(crate) fn all_fitting(list: &[u8]) -> bool
     ensures { result ≡ all_fitting (entries_of list.now).pieces }
 {
-    let mut from: usize = 0;
-    loop {
-        let length = length_at(list, from);
-        if length == 0 {
-            return true;
-        }
-        if !units_fit(name_of(layout::part(list, from, length))) {
-            return false;
-        }
-        from += length;
-    }
+    entries::of(list).all(|entry| units_fit(name_of(entry)))
 }
 
 // The lines of the entries of `list`, measured, and written where they fit.
@@ -51,14 +40,8 @@ fn put_lines(writer: &mut Writer, list: &[u8])
     requires { all_fitting (entries_of list.now).pieces ≡ true }
     ensures { Puts writer.old writer.new (export_text (entries_of list.now).pieces) }
 {
-    let mut from: usize = 0;
-    loop {
-        let length = length_at(list, from);
-        if length == 0 {
-            return;
-        }
-        put_line(writer, layout::part(list, from, length));
-        from += length;
+    for entry in entries::of(list) {
+        put_line(writer, entry);
     }
 }
 

@@ -11,7 +11,6 @@ ghost use Rattle.md5sum_text.specs.Walks.{shapes_of};
 
 use crate::lines::{Place, Shapes};
 use crate::{lines, names};
-use entries::length_at;
 use par1_rules::layout;
 use refusals::{Refusal, bare};
 use text::Writer;
@@ -43,15 +42,10 @@ fn again_in(list: &[u8], text: &[u8], count: u64) -> u64
     ensures { result ≡ again_in (entries_of list.now).pieces (lines_of text.now).pieces }
 {
     let mut first = count;
-    let mut from: usize = 0;
-    loop {
-        let length = length_at(list, from);
-        if length == 0 {
-            return first;
-        }
-        first = again_for(layout::part(list, from, length), text, first);
-        from += length;
+    for entry in entries::of(list) {
+        first = again_for(entry, text, first);
     }
+    first
 }
 
 // The first line before line `count` that names an entry again with another sum; `count` where there is none.
@@ -74,14 +68,8 @@ pub(crate) fn put_answers(writer: &mut Writer, list: &[u8], text: &[u8], count: 
     requires { count ≡ length (lines_of text.now).pieces }
     ensures { Puts writer.old writer.new (map (answer_for (lines_of text.now).pieces) (entries_of list.now).pieces) }
 {
-    let mut from: usize = 0;
-    loop {
-        let length = length_at(list, from);
-        if length == 0 {
-            return;
-        }
-        writer.put(answer_for(layout::part(list, from, length), text, count));
-        from += length;
+    for entry in entries::of(list) {
+        writer.put(answer_for(entry, text, count));
     }
 }
 
