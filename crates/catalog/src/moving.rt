@@ -1,5 +1,7 @@
-// Rows put between others and taken out, in place.
-ghost use Rattle.std.specs.Prelude.{◌≡◌, ◌+◌, ◌≤◌, length};
+// Rows put between others and taken out, in place. By loops: `copy_within` wants `memmove` of the C library, and the library wants `memcpy` and
+// `memset` only (include/par1.h).
+ghost use Rattle.std.specs.Prelude.{◌≡◌, ◌+◌, ◌-◌, ◌≤◌, length, take, drop};
+ghost use Rattle.std.proofs.lemmas.List.Edits.{sets};
 ghost use Rattle.catalog.specs.Plan.{spread, closed};
 
 use crate::ROW_LENGTH;
@@ -11,7 +13,7 @@ impl Place {
         requires { (self.at ≤ self.to) × (self.to + 28 ≤ length bytes.old) × (length row.now ≡ 28) }
         ensures { bytes.new ≡ spread self.at self.to row.now bytes.old }
     {
-        bytes.copy_within(self.at..self.to, self.at + ROW_LENGTH);
+        move_up(bytes, self.at, self.to);
         lent_bytes::put(bytes, self.at, row);
     }
 
@@ -20,6 +22,18 @@ impl Place {
         requires { (self.at + 28 ≤ self.to) × (self.to ≤ length bytes.old) }
         ensures { bytes.new ≡ closed self.at self.to bytes.old }
     {
-        bytes.copy_within(self.at + ROW_LENGTH..self.to, self.at);
+        for i in self.at..self.to - ROW_LENGTH {
+            bytes[i] = bytes[i + ROW_LENGTH];
+        }
+    }
+}
+
+// Moves the bytes from `at` to `to` up by a row.
+fn move_up(bytes: &mut [u8], at: usize, to: usize)
+    requires { (at ≤ to) × (to + 28 ≤ length bytes.old) }
+    ensures { bytes.new ≡ sets bytes.old (at + 28) (take (to - at) (drop at bytes.old)) }
+{
+    for i in (at..to).rev() {
+        bytes[i + ROW_LENGTH] = bytes[i];
     }
 }
