@@ -9,7 +9,7 @@ ghost use Rattle.amending.specs.Plan.{tests_refusal, PartsFit, sized_plan, plan_
 use crate::finding;
 use par1_read::Parts;
 use par1_rules::layout;
-use refusals::{Refusal, bare, or_else, test};
+use refusals::{Refusal, bare, number_of, or_else, test};
 
 // What an amendment changes: where the entry lies in the volume, the sizes of the list and of the new data, where the stretch lies, the
 // file's coefficient, and the new length.
@@ -100,7 +100,7 @@ impl Change<'_> {
         let out_of_range = test(refusals::OUT_OF_RANGE, numbered, 0);
         or_else(
             out_of_range,
-            or_else(par1::lone_refusal(entry), bare(changed)),
+            or_else(number_of(par1::check_lone(entry)), bare(changed)),
         )
     }
 

@@ -4,7 +4,7 @@
 
 mod checking;
 
-pub use checking::{check, lone_refusal};
+pub use checking::{check, check_lone};
 pub use codes::Code;
 pub use par1_read::{Parts, read};
 pub use par1_write::{write_entry, write_volume};

@@ -132,7 +132,7 @@ pub extern "C" fn par1_amend(
 pub extern "C" fn par1_check(entry: &[u8], contents: &[u8]) -> u32
     ensures { result ≡ (check_of entry.now contents.now).number }
 {
-    par1::check(entry, contents).number
+    refusals::number_of(par1::check(entry, contents))
 }
 
 // What a call that writes answers, as a number and its value: 0 and the length that it wrote, or its refusal and the place.

@@ -4,14 +4,14 @@
 --   test_of        what a test gives, where what it was given is known
 --   or_else_lem        a refusal that stands
 --   or-none        none of two refusals
---   told_ok, told_err      what tests told that end at the first which does not pass
+--   number_told, told_ok, told_err      what tests told that end at the first which does not pass
 -- Assumes nothing.
 use Rattle.std.specs.Prelude.{Ok, Err}
 use mathlib.Core.Path.{◌≡◌, refl}
 use mathlib.Core.Bool.{Bool, true, false}
 use Prim.Native.Nat.{ℕ, zero, suc, ◌<◌}
 use native.Mathlib.Omega.{arith}
-use Rattle.refusals.specs.Tests.{bare, test, told, or_else}
+use Rattle.refusals.specs.Tests.{bare, test, told, number_of, or_else}
 use Rattle.refusals.specs.declared.Refusal.{Refusal}
 
 pub test_passed : (n : ℕ) (ok : Bool) (m : ℕ) → 0 < n → test n ok m ≡ 0 → (ok ≡ true) × (m ≡ 0)
@@ -28,6 +28,10 @@ or_else_lem (suc n) r h = refl
 pub or-none : (n : ℕ) (r : Refusal) → (or_else n r).number ≡ 0 → (n ≡ 0) × (r.number ≡ 0)
 or-none zero r e = (refl, e)
 or-none (suc n) r e = absurd (omega arith)
+
+pub number_told : (k : ℕ) → number_of (told k) ≡ k
+number_told zero = refl
+number_told (suc n) = refl
 
 pub told_ok : (k : ℕ) → Ok tt ≡ told k → k ≡ 0
 told_ok zero e = refl

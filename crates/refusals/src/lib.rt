@@ -3,7 +3,7 @@
 #![tactic(auto)]
 
 ghost use Rattle.std.specs.Prelude.{◌≡◌, true, false, MatchResult};
-ghost use Rattle.refusals.specs.Tests.{bare, test, or_else};
+ghost use Rattle.refusals.specs.Tests.{bare, test, number_of, or_else};
 
 // The greatest size of a listed file, in bytes.
 pub const MAX_FILE_SIZE: u64 = 16777216;
@@ -134,6 +134,16 @@ pub fn refuse_unless(ok: bool, number: u32) -> Result<(), Refusal>
     ensures { MatchResult result (λ _. ok ≡ true) (λ refusal. (ok ≡ false) × (refusal ≡ bare number)) }
 {
     if ok { Ok(()) } else { Err(bare(number)) }
+}
+
+// The number of the refusal that tests gave, 0 where they passed.
+pub fn number_of(told: Result<(), Refusal>) -> u32
+    ensures { result ≡ number_of told }
+{
+    match told {
+        Ok(()) => 0,
+        Err(refusal) => refusal.number,
+    }
 }
 
 // The refusal `first`, which has no place, where it is one, else `second`.
