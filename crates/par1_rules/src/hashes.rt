@@ -15,18 +15,14 @@ const FIRST_BYTES: usize = 16384;
 pub fn matches(hash: &[u8], bytes: &[u8]) -> bool
     ensures { result ≡ equal hash.now (md5 bytes.now) }
 {
-    let found = md5_digest::digest(bytes);
-    lent_bytes::same(hash, &found)
+    lent_bytes::same(hash, &md5_digest::digest(bytes))
 }
 
 // The part of a file's contents that the second hash of its entry covers.
 pub fn first_part(contents: &[u8]) -> &[u8]
     ensures { result.now ≡ take 16384 contents.now }
 {
-    if contents.len() <= FIRST_BYTES {
-        return contents;
-    }
-    &contents[..FIRST_BYTES]
+    layout::part(contents, 0, FIRST_BYTES)
 }
 
 // The set hash of the entries of `list`.
@@ -45,7 +41,8 @@ pub fn with_entry(hash: Md5, status: u64, md5: &[u8]) -> Md5
     ensures { result ≡ hash_entry hash status md5.now }
 {
     if entries::is_saved(status) {
-        return hash.push(md5);
+        hash.push(md5)
+    } else {
+        hash
     }
-    hash
 }

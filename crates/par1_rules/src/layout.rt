@@ -42,14 +42,8 @@ pub const HASH_LENGTH: usize = 16;
 pub fn part(bytes: &[u8], at: usize, count: usize) -> &[u8]
     ensures { result.now ≡ take count (drop at bytes.now) }
 {
-    if bytes.len() < at {
-        return &bytes[..0];
-    }
-    let rest = &bytes[at..];
-    if rest.len() < count {
-        return rest;
-    }
-    &rest[..count]
+    let rest = &bytes[at.min(bytes.len())..];
+    &rest[..count.min(rest.len())]
 }
 
 // The MD5 of the whole file that an entry describes.

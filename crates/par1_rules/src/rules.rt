@@ -8,23 +8,19 @@ use codes::Code;
 use refusals::{MAX_FILES, MAX_VOLUME_LENGTH};
 
 // Whether a file may have `length` bytes.
+#[tactic(auto, unfolding(crate::specs::Rules::length_allowed))]
 pub fn length_allowed(length: usize) -> bool
     ensures { result ≡ length_allowed length }
 {
-    if length < layout::HEADER_LENGTH {
-        return false;
-    }
-    length <= MAX_VOLUME_LENGTH
+    layout::HEADER_LENGTH <= length && length <= MAX_VOLUME_LENGTH
 }
 
 // Whether files of this version are read.
+#[tactic(auto, unfolding(crate::specs::Rules::version_allowed))]
 pub fn version_allowed(version: u32) -> bool
     ensures { result ≡ version_allowed version }
 {
-    if version == layout::POWERS_VERSION {
-        return true;
-    }
-    version == layout::CAUCHY_VERSION
+    version == layout::POWERS_VERSION || version == layout::CAUCHY_VERSION
 }
 
 // The version of the files of a code.
@@ -38,64 +34,46 @@ pub fn version_of(code: Code) -> u32
 }
 
 // The code of the files of a version that is read.
+#[tactic(auto, unfolding(crate::specs::Rules::code_in))]
 pub fn code_in(version: u32) -> Code
     ensures { result ≡ code_in version }
 {
     if version == layout::POWERS_VERSION {
-        return Code::Powers;
+        Code::Powers
+    } else {
+        Code::Cauchy
     }
-    Code::Cauchy
 }
 
 // Whether list and data lie where they must in a file of `length` bytes that begins with `head`.
+#[tactic(auto, unfolding(crate::specs::Rules::layout_allowed))]
 pub fn layout_allowed(head: &[u8], length: usize) -> bool
     ensures { result ≡ layout_allowed head.now length }
 {
-    if little_endian::read64(head, layout::LIST_START_AT) != layout::LIST_START {
-        return false;
-    }
+    let list_size = little_endian::read64(head, layout::LIST_SIZE_AT);
     let data_start = little_endian::read64(head, layout::DATA_START_AT);
-    if data_start < layout::LIST_START {
-        return false;
-    }
-    if data_start - layout::LIST_START != little_endian::read64(head, layout::LIST_SIZE_AT) {
-        return false;
-    }
-    let length = length as u64;
-    if length < data_start {
-        return false;
-    }
-    if length - data_start != little_endian::read64(head, layout::DATA_SIZE_AT) {
-        return false;
-    }
-    true
+    let data_size = little_endian::read64(head, layout::DATA_SIZE_AT);
+    little_endian::read64(head, layout::LIST_START_AT) == layout::LIST_START
+        && layout::LIST_START.checked_add(list_size) == Some(data_start)
+        && data_start.checked_add(data_size) == Some(length as u64)
 }
 
 // Whether volume `number` may have `saved` saved files; 0 is the index.
+#[tactic(auto, unfolding(crate::specs::Rules::number_allowed))]
 pub fn number_allowed(number: u64, saved: u64) -> bool
     ensures { result ≡ number_allowed number saved }
 {
-    if saved > MAX_FILES {
-        return false;
-    }
-    if number == 0 {
-        return true;
-    }
-    if saved == 0 {
-        return false;
-    }
-    if number > 255 - saved {
-        return false;
-    }
-    true
+    saved <= MAX_FILES && (number == 0 || (saved != 0 && number <= 255 - saved))
 }
 
 // Whether volume `number` may have `size` bytes of data, where `greatest` is the greatest size of a saved file; 0 is the index.
+#[tactic(auto, unfolding(crate::specs::Rules::data_allowed))]
 pub fn data_allowed(number: u64, greatest: u64, size: u64) -> bool
     ensures { result ≡ data_allowed number greatest size }
 {
     if number == 0 {
-        return size % 2 == 0;
+        size % 2 == 0
+    } else {
+        size == greatest
     }
-    size == greatest
 }
