@@ -3,7 +3,7 @@
 --   change_other            the change of any other letter
 --   event_short, event_long     a line of fewer than three characters is no event
 --   part_body               the part of a log that is a line without its byte 10
---   opening_long, opening-none, opening_shape, opening_opens     the cases of the first line
+--   opening_long, opening-none, opening_shape, opening_opens, opening_of     the cases of the first line
 --   opened_as, taken_as     what an opening and a change give, by their outcomes
 --   next_end, next_unended, next_shape, next-taken     the cases of an event
 -- Assumes nothing.
@@ -31,6 +31,7 @@ use Rattle.text.specs.TextLines.{line_length}
 use Rattle.text.proofs.ScanLaws.{line_most}
 use Rattle.replay.specs.Log.{body_of, is_first_line, numbers_of, is_letter, change_of, is_event_line, number_in}
 use Rattle.replay.specs.Events.{ended, opened_by, opening, last, taken, next_event}
+use Rattle.replay.specs.FirstLine.{opened_line}
 use Rattle.replay.specs.declared.events.Event.{Event}
 
 -- ---- the line of an event
@@ -125,6 +126,20 @@ module _ (log : List ℕ) where
 
       pub opening_opens : is_first_line first ≡ true → first_opens ≡ opening log
       opening_opens e = sym (ended_line ∙ ap (λ (b : Bool). cond b first_opens (ended 28)) e)
+
+      pub opening_of : (n : ℕ) {e : Event} {q : Result Inventory ℕ} → n ≡ line_length log → q ≡ opened_line first
+          → MatchResult q (λ s. e ≡ taken n (outcome s 0)) (λ k. e ≡ ended k) → e ≡ opening log
+      unfolding opened_line
+      opening_of n {e} z is m =
+          go (is_first_line first) refl (subst (λ (q : Result Inventory ℕ). MatchResult q (λ s. e ≡ taken n (outcome s 0)) (λ k. e ≡ ended k)) is m)
+        where
+          o : Outcome
+          o = open_step Powers (get_or (numbers_of first) 0 0) (drop 1 (numbers_of first))
+
+          go : (b : Bool) → is_first_line first ≡ b
+              → MatchResult (cond b (returned o) (Err 28)) (λ s. e ≡ taken n (outcome s 0)) (λ k. e ≡ ended k) → e ≡ opening log
+          go true f m = opened_as o n refl m ∙ ap (λ (k : ℕ). opened_by k o) z ∙ opening_opens f
+          go false f m = m ∙ opening_shape f
 
 -- ---- an event
 

@@ -22,7 +22,7 @@ use Rattle.text.specs.TextLines.{with_byte, words_of}
 use Rattle.text.proofs.DecimalLaws.{decimal_spells, decimal_only}
 use Rattle.replay.specs.Log.{all_decimal, is_first_line, is_letter, change_of, is_event_line}
 use Rattle.replay.specs.Lines.{spaced}
-use Rattle.replay.proofs.Openings.{some_words}
+use Rattle.replay.proofs.FirstLineLaws.{some_words}
 use Rattle.replay.specs.Claim.{Arrival, file_added, volume_added, file_removed, volume_removed, letter_of, change_by, FirstShaped, EventShaped}
 
 -- ---- bytes that are not in a text

@@ -32,11 +32,7 @@ pub fn open(log: &[u8]) -> Event
         return ended(EVENT);
     }
     let end = length - 1;
-    let opened = open_line(&log[..end]);
-    if !opened.shaped {
-        return ended(EVENT);
-    }
-    opened_by(length, opened.outcome)
+    opened_by(length, open_line(&log[..end]))
 }
 
 // The event of the line at `from`: over with 28 for another shape, and with 0 at the end of the log.

@@ -1,19 +1,16 @@
 -- `replay::events::open` meets its contract.
 -- Assumes nothing.
-use mathlib.Core.Path.{◌≡◌, sym, ap, ap₂, ◌∙◌}
+use mathlib.Core.Path.{◌≡◌, sym, ap, ◌∙◌}
 use Prim.Native.Nat.{ℕ, ◌≤◌, ◌-◌, ◌+◌}
 use native.Mathlib.Omega.{arith}
-use lib.ListN.{length, get_or, take, drop, length-take}
+use lib.ListN.{length, take, length-take}
 use mathlib.Core.Logic.{◌≢◌}
 use mathlib.Core.List.{List}
-use borrow.Author.Tests.{not-true, not-false}
-use Rattle.codes.specs.declared.Code.TheVariants.{Powers}
-use Rattle.inventory.specs.Steps.{open_step}
 use Rattle.text.specs.TextLines.{line_length}
 use Rattle.text.proofs.ScanLaws.{line_most}
-use Rattle.replay.specs.Log.{body_of, is_first_line, numbers_of}
-use Rattle.replay.specs.Events.{opened_by}
-use Rattle.replay.proofs.EventLaws.{part_body, opening_long, opening-none, opening_shape, opening_opens, opened_as}
+use Rattle.replay.specs.Log.{body_of}
+use Rattle.replay.specs.FirstLine.{opened_line}
+use Rattle.replay.proofs.EventLaws.{part_body, opening_long, opening-none, opening_of}
 use Rattle.replay.proofs.events.open.Goals as goal
 
 -- the first line, which is ended
@@ -37,13 +34,7 @@ returns-then-length-eq0 c = let log = c.args.log.now in c.ended-then-length-eq0.
 pub slice_bounds-open_line-end : goal.slice_bounds-open_line-end
 slice_bounds-open_line-end c = simp length-take (omega (arith, inside c.args.log.now c.line_length-length.result c.line_length-length.ensures))
 
-pub returns-then-not-opened : goal.returns-then-not-opened
-returns-then-not-opened c = let log = c.args.log.now in let o = c.open_line-opened in c.ended-then-not-opened.ensures
-    ∙ opening_shape log c.if-log-gt-MAX_LISTED_LENGTH.false (unended c.args.log.now c.line_length-length.result c.line_length-length.ensures c.if-length-eq0.false)
-    (sym (ap is_first_line (body c.args.log.now c.line_length-length.result c.line_length-length.ensures c.if-length-eq0.false)) ∙ sym o.ensures.shape ∙ not-true c.open_line-opened.result.shaped c.if-not-opened.true)
-
 pub returns : goal.returns
-returns c = let log = c.args.log.now in let o = c.open_line-opened in let ok = not-false c.open_line-opened.result.shaped c.if-not-opened.false in
-    opened_as _ _ (o.ensures.opens ok) c.opened_by.ensures
-    ∙ ap₂ opened_by c.line_length-length.ensures (ap (λ (w : List ℕ). open_step Powers (get_or (numbers_of w) 0 0) (drop 1 (numbers_of w))) (body c.args.log.now c.line_length-length.result c.line_length-length.ensures c.if-length-eq0.false))
-    ∙ opening_opens log c.if-log-gt-MAX_LISTED_LENGTH.false (unended c.args.log.now c.line_length-length.result c.line_length-length.ensures c.if-length-eq0.false) (sym (ap is_first_line (body c.args.log.now c.line_length-length.result c.line_length-length.ensures c.if-length-eq0.false)) ∙ sym o.ensures.shape ∙ ok)
+returns c = let log = c.args.log.now in
+    opening_of log c.if-log-gt-MAX_LISTED_LENGTH.false (unended c.args.log.now c.line_length-length.result c.line_length-length.ensures c.if-length-eq0.false)
+    _ c.line_length-length.ensures (c.open_line.ensures ∙ ap opened_line (body c.args.log.now c.line_length-length.result c.line_length-length.ensures c.if-length-eq0.false)) c.opened_by.ensures

@@ -1,33 +1,22 @@
 -- `replay::first_line::open_line` meets its contract.
 -- Assumes nothing.
-use mathlib.Core.Path.{sym, ap, ◌∙◌}
+use mathlib.Core.Path.{ap, ◌∙◌}
 use native.Mathlib.Omega.{arith}
-use mathlib.Core.Bool.{false≢true}
-use borrow.Author.Tests.{not-true, not-false}
 use Rattle.inventory.proofs.Outcomes.{returned}
-use Rattle.replay.proofs.Openings.{some, many, opened}
+use Rattle.replay.proofs.Openings.{some, many, opened, line_opened, line_other}
 use Rattle.replay.proofs.first_line.open_line.Goals as goal
 
-pub returns-then-not-numbers : goal.returns-then-not-numbers
-returns-then-not-numbers c = let n = c.read_numbers-numbers in record { shape = sym (not-true c.read_numbers-numbers.result.shaped c.if-not-numbers.true) ∙ n.ensures.shape; opens = λ t. absurd (false≢true t) }
-
 pub returns-then-count-gt-MOST : goal.returns-then-count-gt-MOST
-returns-then-count-gt-MOST c = let n = c.read_numbers-numbers in let ok = (not-false c.read_numbers-numbers.result.shaped c.if-not-numbers.false) in record {
-  shape = sym ok ∙ n.ensures.shape;
-  opens = λ _. ap returned (many _ _ n.ensures ok c.if-count-gt-MOST.true);
-}
+returns-then-count-gt-MOST c = let n = c.in-Some.ensures in ap returned (many _ _ n c.if-count-gt-MOST.true) ∙ line_opened _ n.shape
+
+pub returns-in_default : goal.returns-in_default
+returns-in_default c = line_other _ c.in_default.ensures
 
 pub slice_bounds-open-count : goal.slice_bounds-open-count
-slice_bounds-open-count c = omega (arith, some _ _ c.read_numbers-numbers.ensures (not-false c.read_numbers-numbers.result.shaped c.if-not-numbers.false))
+slice_bounds-open-count c = omega (arith, some _ _ c.in-Some.ensures)
 
 pub slice_bounds-open-start : goal.slice_bounds-open-start
-slice_bounds-open-start c = omega (arith, some _ _ c.read_numbers-numbers.ensures (not-false c.read_numbers-numbers.result.shaped c.if-not-numbers.false))
-
-pub slice_bounds-open-end : goal.slice_bounds-open-end
-slice_bounds-open-end c = omega (arith, c.read_numbers-numbers.ensures.full, c.if-count-gt-MOST.false)
+slice_bounds-open-start c = omega (arith, some _ _ c.in-Some.ensures)
 
 pub returns : goal.returns
-returns c = let n = c.read_numbers-numbers in let ok = (not-false c.read_numbers-numbers.result.shaped c.if-not-numbers.false) in record {
-  shape = sym ok ∙ n.ensures.shape;
-  opens = λ _. c.«open».ensures ∙ ap returned (opened _ _ n.ensures ok c.if-count-gt-MOST.false);
-}
+returns c = let n = c.in-Some.ensures in c.«open».ensures ∙ ap returned (opened _ _ n c.if-count-gt-MOST.false) ∙ line_opened _ n.shape
