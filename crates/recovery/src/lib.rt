@@ -83,8 +83,7 @@ impl Holdings {
         if !has(nonempty, u64::from(column) + 1) {
             return Some([0u8; 256]);
         }
-        let solution = volume_weights::solve(code, nonempty, files, volumes, 255 - n, column);
-        solution.found.then_some(solution.weights)
+        volume_weights::solve(code, nonempty, files, volumes, 255 - n, column)
     }
 
     // Writes the weights of the files, then those of the volumes.

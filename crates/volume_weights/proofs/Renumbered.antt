@@ -8,27 +8,33 @@
 --   columns_filled              the end of the loop of `columns`
 --   columns_byte                they are fewer than 256
 --   place_inside                each stands before their number
---   placed, unplaced            the place of a column among them, and of none
+--   placed                      what a search for a column among them finds
 --   renumbered_solved           what is solved of it is solved of the set that it comes from
 -- Assumes nothing.
 use mathlib.Core.Path.{◌≡◌, refl, sym, ap, ap₂, ◌∙◌, subst}
 use mathlib.Core.Bool.{Bool, true, false, not, cond, ◌&&◌, ◌||◌, and-true, true≢false}
 use mathlib.Core.List.{List}
-use Prim.Native.Nat.{ℕ, zero, suc, ◌<◌, ◌≤◌, ◌-◌}
+use Prim.Native.Nat.{ℕ, zero, suc, ◌+◌, ◌<◌, ◌≤◌, ◌-◌}
 use native.Mathlib.Nat.{suc_inj, suc-sub-suc, sub-zero}
 use native.Mathlib.Omega.{arith}
 use native.Mathlib.Decide.{ℕ_discrete, dec_lt}
 use lib.Dec.{eqb, leb, ltb}
-use lib.ListN.{length, get_or, replicate, length-replicate}
+use lib.ListN.{length, get_or, take, replicate, length-replicate}
+use lib.Seq.{get_or-take, length-take-le}
+use native.Mathlib.Numerals.{add-one}
+use Rattle.std.specs.Prelude.{Option, Some, None, MatchOption}
+use Rattle.std.specs.List.{position, position_or_len}
+use Rattle.std.proofs.lemmas.List.Quantifiers.{position-Some}
+use Rattle.std.proofs.lemmas.List.Sums.{fails_before_first}
 use borrow.Author.Tests.{eq-eqb, ne_eqb, eqb-true, le-leb, lt-leb, leb-true, lt-ltb, le-ltb}
-use Rattle.computed_tests.specs.Lists.{first_below}
 use Rattle.computed_tests.proofs.Tests.{test_fails, and_both}
-use Rattle.computed_tests.proofs.Lists.{first_is, list_below_at, list_below_is}
+use Rattle.computed_tests.proofs.Lists.{list_below_at, list_below_is}
 use Rattle.elimination.specs.ByteField.{Byte, byte_field, to_byte}
 use Rattle.elimination.proofs.ByteField.{to_byte_of_value}
 use Rattle.number_sets.specs.Sets.{member}
 use Rattle.number_sets.proofs.Words.{member-none, member-inserted, length_inserted}
 use Rattle.volume_weights.specs.Weights.{column_in, columns_below, IsColumns, renumbered, numbers_to, row_of, table_of, Solved, solved, unsolved}
+use Rattle.volume_weights.proofs.CoefficientRows.{Front}
 use Rattle.volume_weights.proofs.SideBySide.{Filled, before_le, before_lt, before_other, before_onto, packed_solution, packed_kernel, outside_kernel}
 
 -- ---- the numbers
@@ -75,17 +81,16 @@ module _ (rule : ℕ → ℕ → ℕ) (files : List ℕ) where
       → cond (column_in (numbers_to width) (replicate 4 0) (suc p)) (renumbered rule files (suc p) v) 0 ≡ cond (ltb p width) (rule (get_or files p 0) v) 0
   renumbered-entry width v p l = ap₂ (λ (b : Bool) (x : ℕ). cond b x 0) (numbers-column width p l) (renumbered_at p v)
 
-  pub packed_row : (width v : ℕ) (row : List ℕ) → width < 256 → length row ≡ 256
-      → ((p : ℕ) → p < width → get_or row p 0 ≡ rule (get_or files p 0) v) → ((p : ℕ) → width ≤ p → p < 256 → get_or row p 0 ≡ 0)
+  pub packed_row : (width v : ℕ) (row : List ℕ) → width < 256 → Front (λ p. rule (get_or files p 0) v) width row
       → row ≡ row_of (renumbered rule files) (numbers_to width) (replicate 4 0) v
   unfolding row_of
-  packed_row width v row l e h z =
-      list_below_is 256 _ row e
+  packed_row width v row l F =
+      list_below_is 256 _ row F.long
       (λ p b.
       elim (dec_lt p width) [
-        | yes i ↦ h p i ∙ sym (renumbered-entry width v p l ∙ ap (λ (t : Bool). cond t (rule (get_or files p 0) v) 0) (lt-ltb p width i))
+        | yes i ↦ F.below p i ∙ sym (renumbered-entry width v p l ∙ ap (λ (t : Bool). cond t (rule (get_or files p 0) v) 0) (lt-ltb p width i))
         | no q ↦
-            z p (omega arith) b
+            F.past p (omega arith) b
             ∙ sym (renumbered-entry width v p l ∙ ap (λ (t : Bool). cond t (rule (get_or files p 0) v) 0) (le-ltb p width (omega arith)))
       ])
 
@@ -149,21 +154,35 @@ module _ (nonempty present files : List ℕ) (width : ℕ) (C : IsColumns nonemp
 
   -- ---- the place of a column
 
-  module _ (c at : ℕ) (h : at ≡ first_below width (λ p. eqb (get_or files p 0) (suc c))) where
-    pub placed : at < width → (column c ≡ true) × (columns_below nonempty present c ≡ at)
-    placed l = let F = first_is width (λ p. eqb (get_or files p 0) (suc c)) in
-        let e : get_or files at 0 ≡ suc c = eqb-true _ _ (subst (λ (k : ℕ). eqb (get_or files k 0) (suc c) ≡ true) (sym h) (F.found (subst (λ (k : ℕ). k < width) h l))) in
-        of_column e (before_onto column 255 at (subst (λ (n : ℕ). at < n) C.counted l))
-      where
-        of_column : get_or files at 0 ≡ suc c → (i : ℕ) × (i < 255) × (column i ≡ true) × (columns_below nonempty present i ≡ at)
-            → (column c ≡ true) × (columns_below nonempty present c ≡ at)
-        of_column e (i, l, t, z) = let same : i ≡ c = suc_inj (sym (C.each i t) ∙ ap (λ (k : ℕ). get_or files k 0) z ∙ e) in
-            (ap column (sym same) ∙ t, ap (columns_below nonempty present) (sym same) ∙ z)
+  -- a file of those that stand there
+  found_column : (c at i : ℕ) → get_or files at 0 ≡ suc c → column i ≡ true → columns_below nonempty present i ≡ at
+      → (column c ≡ true) × (columns_below nonempty present c ≡ at)
+  found_column c at i e t z = let same : i ≡ c = suc_inj (sym (C.each i t) ∙ ap (λ (k : ℕ). get_or files k 0) z ∙ e) in
+      (ap column (sym same) ∙ t, ap (columns_below nonempty present) (sym same) ∙ z)
 
-    pub unplaced : width ≤ at → column c ≡ false
-    unplaced l = let F = first_is width (λ p. eqb (get_or files p 0) (suc c)) in
-        test_fails (column c) (λ e. let b = place_inside c e in
-        true≢false (sym (eq-eqb _ _ (C.each c e)) ∙ F.before (columns_below nonempty present c) (omega (arith, h))))
+  pub placed : length files ≡ 256 → (c : ℕ) (r : Option ℕ) → r ≡ position (λ f. eqb f (c + 1)) (take width files)
+      → MatchOption r (column c ≡ false) (λ at. (at < width) × (column c ≡ true) × (columns_below nonempty present c ≡ at))
+  placed full c r e = go r e
+    where
+      long : length (take width files) ≡ width
+      long = length-take-le width files (omega (arith, full, columns_byte))
+
+      last : None ≡ position (λ f. eqb f (c + 1)) (take width files) → width ≤ position_or_len (λ f. eqb f (c + 1)) (take width files)
+      last e = elim (dec_lt (position_or_len (λ f. eqb f (c + 1)) (take width files)) (length (take width files))) [
+        | yes l ↦ let z = e ∙ ap (λ (b : Bool). cond b (Some (position_or_len (λ f. eqb f (c + 1)) (take width files))) None) (lt-ltb _ _ l) in cc
+        | no q ↦ omega (arith, q, long)
+      ]
+
+      go : (r : Option ℕ) → r ≡ position (λ f. eqb f (c + 1)) (take width files)
+          → MatchOption r (column c ≡ false) (λ at. (at < width) × (column c ≡ true) × (columns_below nonempty present c ≡ at))
+      go None e = test_fails (column c) (λ t. let b = place_inside c t in
+          true≢false (sym (ap (λ (f : ℕ). eqb f (c + 1)) (get_or-take width files _ 0 b ∙ C.each c t ∙ sym (add-one c)) ∙ eq-eqb _ _ refl)
+          ∙ fails_before_first (λ f. eqb f (c + 1)) (take width files) (columns_below nonempty present c) 0 (omega (arith, last e))))
+      go (Some at) e = let (l, t, n) = position-Some (λ f. eqb f (c + 1)) (take width files) at 0 (sym e) in
+          let here : at < width = omega (arith, l, long) in
+          let (i, b, u, z) = before_onto column 255 at (subst (λ (n : ℕ). at < n) C.counted here) in
+          let both = found_column c at i (sym (get_or-take width files at 0 here) ∙ eqb-true _ _ t ∙ add-one c) u z in
+          (here, both.0, both.1)
 
   -- ---- the answers
 

@@ -3,8 +3,7 @@
 --   volumes_more                the rows of one volume more
 --   volumes_reduced             the elimination after the rows of the volumes present
 --   solved_by, unsolved_by      what it answers
---   volume_taken, volume_left   a volume, of the columns side by side within their width
---   Added .. v start s, added_none, added_more, packed_start     the loop of `add_volumes`
+--   Added .. v start s, added_start, added_taken, added_left     the loop of `eliminate`
 --   column_solved, column_unsolved     what the elimination of the columns side by side answers
 --   weight_below                the weight of a volume
 --   Weighted rule present ws m sums   the sums are the weights of the files by the first m volumes
@@ -31,7 +30,7 @@ use Rattle.elimination.proofs.Reductions.{entries, owner_of, ReducedBytes, Reduc
 use Rattle.elimination.proofs.Reductions.{weight_value, weight_late, weight_none, solvable_solution, unsolvable_kernel}
 use Rattle.elimination.specs.Claim.{KeepsTo}
 use Rattle.elimination.proofs.Within.{start-apart, added_within, added_apart}
-use Rattle.elimination.proofs.Elimination.{row_weight}
+use Rattle.elimination.proofs.ByColumns.{row_weight}
 use Rattle.elimination.specs.ByteField.{Byte, byte_field}
 use Rattle.number_sets.specs.Sets.{member}
 use Rattle.volume_weights.specs.Weights.{table_of, row_of, volume_added, volumes_added, weight_at, Solved, solved, unsolved, file_weight}
@@ -107,14 +106,46 @@ module _ (rule : ℕ → ℕ → ℕ) (small : (f v : ℕ) → f < 256 → rule 
 
 -- ---- the columns side by side
 
-module _ (rule : ℕ → ℕ → ℕ) (files volumes : List ℕ) (width : ℕ) (small : width < 256) where
+-- of 256 columns or more nothing is left out
+identity_apart : (w : ℕ) → Apart w (with_diagonal 256 (replicate 65536 0))
+identity_apart w = elim (dec_lt 256 w) [
+  | yes l ↦ record { right = λ i j a b h. absurd (omega arith); below = λ i j a h b. absurd (omega arith) }
+  | no q ↦ start-apart w (omega (arith, q))
+]
+
+module _ (rule : ℕ → ℕ → ℕ) (files volumes : List ℕ) (width : ℕ) where
   abbrev packed_row : ℕ → List ℕ
   packed_row v = row_of (renumbered rule files) (numbers_to width) (replicate 4 0) v
 
   abbrev packed_added : ℕ → List ℕ × List ℕ → List ℕ × List ℕ
   packed_added v s = volume_added (renumbered rule files) (numbers_to width) (replicate 4 0) volumes v s
 
-  keeps : (v : ℕ) → KeepsTo (in_blocks width) (packed_row v)
+  -- the elimination s after the rows of the first v volumes, from `start` on
+  pub record Added (v : ℕ) (start s : List ℕ × List ℕ) : Type 0 where
+    pub rows : s ≡ volumes_added (renumbered rule files) (numbers_to width) (replicate 4 0) volumes v start
+    pub apart : Apart (in_blocks width) s.0
+
+  -- a volume that is absent
+  pub added_left : (v : ℕ) (start : List ℕ × List ℕ) (m owners : List ℕ) → Added v start (m, owners) → member volumes (v + 1) ≡ false
+      → Added (v + 1) start (m, owners)
+  unfolding volume_added
+  added_left v start m owners H t = record {
+    rows = volumes_more (renumbered rule files) (numbers_to width) (replicate 4 0) volumes v start (m, owners) (m, owners) H.rows (simp t);
+    apart = H.apart;
+  }
+
+  -- no volume is added to the identity
+  pub added_start : (m owners m' owners' : List ℕ) → m ≡ replicate 65536 0 → owners ≡ replicate 256 0 → m' ≡ with_diagonal 256 m → owners' ≡ owners
+      → Added 0 (with_diagonal 256 (replicate 65536 0), replicate 256 0) (m', owners')
+  unfolding volumes_added
+  added_start m owners m' owners' zeros none d o = let identity = d ∙ ap (with_diagonal 256) zeros in
+      record {
+        rows = ap₂ (λ (m owners : List ℕ). (m, owners)) identity (o ∙ none);
+        apart = subst (Apart (in_blocks width)) (sym identity) (identity_apart (in_blocks width));
+      }
+
+module _ (rule : ℕ → ℕ → ℕ) (files volumes : List ℕ) (width : ℕ) (small : width < 256) where
+  keeps : (v : ℕ) → KeepsTo (in_blocks width) (packed_row rule files volumes width v)
   unfolding in_blocks
   keeps v i l b = row_past rule files width v i small (omega arith) b
 
@@ -122,41 +153,21 @@ module _ (rule : ℕ → ℕ → ℕ) (files volumes : List ℕ) (width : ℕ) (
   unfolding in_blocks
   blocks = omega arith
 
-  -- a volume whose row was added within the width, and one that is absent
-  pub volume_taken : (v : ℕ) (row m owners : List ℕ) (s' : List ℕ × List ℕ) → Apart (in_blocks width) m → row ≡ packed_row v
-      → s' ≡ row_added_within (in_blocks width) row v m owners → member volumes v ≡ true → s' ≡ packed_added v (m, owners)
+  -- a volume whose row was added within the width
+  pub added_taken : (v : ℕ) (start : List ℕ × List ℕ) (row m owners m' owners' : List ℕ) → Added rule files volumes width v start (m, owners)
+      → row ≡ packed_row rule files volumes width (v + 1) → (m', owners') ≡ row_added_within (in_blocks width) row (v + 1) m owners
+      → member volumes (v + 1) ≡ true → Added rule files volumes width (v + 1) start (m', owners')
   unfolding volume_added
-  volume_taken v row m owners s' A r e t = simp (e, r, added_within (in_blocks width) blocks (packed_row v) m A (keeps v) owners v, t)
-
-  pub volume_left : (v : ℕ) (m owners : List ℕ) → member volumes v ≡ false → (m, owners) ≡ packed_added v (m, owners)
-  unfolding volume_added
-  volume_left v m owners t = sym (ap (λ (b : Bool). cond b (row_added (packed_row v) v m owners) (m, owners)) t)
-
-  -- the elimination s after the rows of the first v volumes, from `start` on
-  pub record Added (v : ℕ) (start s : List ℕ × List ℕ) : Type 0 where
-    pub rows : s ≡ volumes_added (renumbered rule files) (numbers_to width) (replicate 4 0) volumes v start
-    pub apart : Apart (in_blocks width) s.0
-
-  pub added_none : (s : List ℕ × List ℕ) → Apart (in_blocks width) s.0 → Added 0 s s
-  unfolding volumes_added
-  added_none s A = record { rows = refl; apart = A }
-
-  pub added_more : (v : ℕ) (start s s' : List ℕ × List ℕ) → Added v start s → s' ≡ packed_added (v + 1) s → Added (v + 1) start s'
-  unfolding volume_added
-  added_more v start s s' H e = record {
-    rows = volumes_more (renumbered rule files) (numbers_to width) (replicate 4 0) volumes v start s s' H.rows e;
-    apart = subst (λ (s : List ℕ × List ℕ). Apart (in_blocks width) s.0) (sym e) (after (member volumes (v + 1)));
+  added_taken v start row m owners m' owners' H r e t = record {
+    rows = volumes_more (renumbered rule files) (numbers_to width) (replicate 4 0) volumes v start (m, owners) (m', owners') H.rows (simp (here, t));
+    apart =
+        subst (λ (s : List ℕ × List ℕ). Apart (in_blocks width) s.0) (sym here)
+        (added_apart (in_blocks width) blocks (packed_row rule files volumes width (v + 1)) m H.apart (keeps (v + 1)) owners (v + 1));
   }
     where
-      after : (b : Bool) → Apart (in_blocks width) (cond b (row_added (packed_row (v + 1)) (v + 1) s.0 s.1) s).0
-      after true = added_apart (in_blocks width) blocks (packed_row (v + 1)) s.0 H.apart (keeps (v + 1)) s.1 (v + 1)
-      after false = H.apart
-
-pub packed_start : (nonempty present files : List ℕ) (width : ℕ) → IsColumns nonempty present files width
-    → (identity : List ℕ) → identity ≡ with_diagonal 256 (replicate 65536 0) → Apart (in_blocks width) identity
-unfolding in_blocks
-packed_start nonempty present files width C identity e = let b = columns_byte nonempty present files width C in
-    subst (Apart (in_blocks width)) (sym e) (start-apart (in_blocks width) (omega arith))
+      here : (m', owners') ≡ row_added (packed_row rule files volumes width (v + 1)) (v + 1) m owners
+      here = e ∙ ap (λ (u : List ℕ). row_added_within (in_blocks width) u (v + 1) m owners) r
+          ∙ added_within (in_blocks width) blocks (packed_row rule files volumes width (v + 1)) m H.apart (keeps (v + 1)) owners (v + 1)
 
 -- what the elimination of the columns side by side answers for a column that stands there
 module _ (rule : ℕ → ℕ → ℕ) (small : (f v : ℕ) → f < 256 → rule f v < 256) (nonempty present volumes files : List ℕ) (width : ℕ)

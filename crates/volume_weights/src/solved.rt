@@ -5,8 +5,9 @@ ghost use Rattle.elimination.specs.Reduction.{is_solvable};
 ghost use Rattle.number_sets.specs.Sets.{gathered};
 ghost use Rattle.volume_weights.specs.Weights.{SolvedColumns};
 
-use crate::{add_volumes, columns, index};
+use crate::Columns;
 use codes::Code;
+use elimination::Elimination;
 use number_sets::insert;
 
 // The files of the columns for which `solve` finds weights, of `rows` volumes: each file k for which it does in column k - 1.
@@ -20,35 +21,28 @@ pub fn solved_columns(
 ) -> [u64; 4]
     ensures { SolvedColumns (rule_of code) nonempty present volumes rows result }
 {
-    let columns = columns(nonempty, present);
-    let files = columns.files;
-    let width = columns.width;
-    let mut matrix = [0u8; 65536];
-    let mut owners = [0u8; 256];
-    elimination::set_diagonal(&mut matrix);
-    add_volumes(code, &files, width, volumes, rows, &mut matrix, &mut owners);
-    gathered(&files, width, &matrix, &owners)
+    let columns = Columns::new(nonempty, present);
+    let mut elimination = Elimination {
+        matrix: [0u8; 65536],
+        owners: [0u8; 256],
+    };
+    columns.eliminate(code, volumes, rows, &mut elimination);
+    gathered(&columns, &elimination)
 }
 
 // The files of the columns that the elimination solves.
-fn gathered(files: &[u8; 256], width: u8, matrix: &[u8; 65536], owners: &[u8; 256]) -> [u64; 4]
-    ensures { result ≡ gathered (replicate 4 0) (λ p. get_or files.now p 0) (is_solvable matrix.now owners.now) width }
+fn gathered(columns: &Columns, elimination: &Elimination) -> [u64; 4]
+    ensures { result
+        ≡ gathered (replicate 4 0) (λ p. get_or columns.now.files p 0)
+        (is_solvable elimination.now.matrix elimination.now.owners) columns.now.width }
 {
     let mut set = [0u64; 4];
-    let mut p: u8 = 0;
-    while p < width {
-        if elimination::solvable(matrix, owners, p) {
-            let more = insert(set, wide(files[index(p)]));
+    for (p, file) in columns.files().iter().enumerate() {
+        if elimination.solvable(p as u8) {
+            // by a name of its own: a call's result may not go at once into an array that the call takes
+            let more = insert(set, u64::from(*file));
             set = more;
         }
-        p += 1;
     }
     set
-}
-
-// A byte as a number of 64 bits.
-fn wide(x: u8) -> u64
-    ensures { result ≡ x }
-{
-    x as u64
 }
