@@ -3,8 +3,9 @@ ghost use Rattle.std.specs.Prelude.{◌≡◌, ◌+◌, ◌*◌, ◌^◌, ◌<�
 ghost use mathlib.Core.List.{flatten};
 ghost use Rattle.std.proofs.lemmas.List.Edits.{sets};
 ghost use Rattle.lent_bytes.specs.Equal.{equal};
+ghost use Rattle.entries.specs.Entry.{status_of};
 ghost use Rattle.entries.specs.Walk.{entries_of};
-ghost use Rattle.catalog.specs.Rows.{row, file_number_after, rows_for};
+ghost use Rattle.catalog.specs.Rows.{row, file_number_after, entry_row, rows_for};
 
 use crate::{HEAD_LENGTH, ROW_LENGTH};
 use par1_rules::layout;
@@ -16,17 +17,11 @@ pub(crate) fn put_rows(out: &mut [u8], list: &[u8])
 {
     let mut at = HEAD_LENGTH;
     let mut saved: u64 = 0;
-    let mut from: usize = 0;
-    loop {
-        let Some(entry) = entries::at(list, from) else {
-            return;
-        };
-        let hash = layout::part(list, from + entries::MD5_AT, layout::HASH_LENGTH);
-        let row = row_of(file_number(saved, entry.status), entry.size, hash);
+    for entry in entries::of(list) {
+        let row = entry_row(saved, entry);
         lent_bytes::put(out, at, &row);
-        saved += entries::saved_count(entry.status);
+        saved += entries::saved_count(entries::status_of(entry));
         at += ROW_LENGTH;
-        from += entry.length;
     }
 }
 
@@ -34,22 +29,26 @@ pub(crate) fn put_rows(out: &mut [u8], list: &[u8])
 pub(crate) fn gives_rows(list: &[u8], rows: &[u8]) -> bool
     ensures { result ≡ equal (flatten (rows_for (entries_of list.now).pieces)) rows.now }
 {
-    let mut at: usize = 0;
+    let mut rest = rows;
     let mut saved: u64 = 0;
-    let mut from: usize = 0;
-    loop {
-        let Some(entry) = entries::at(list, from) else {
-            return at == rows.len();
-        };
-        let hash = layout::part(list, from + entries::MD5_AT, layout::HASH_LENGTH);
-        let row = row_of(file_number(saved, entry.status), entry.size, hash);
-        if !lent_bytes::same(&row, layout::part(rows, at, ROW_LENGTH)) {
+    for entry in entries::of(list) {
+        let row = entry_row(saved, entry);
+        let Some(after) = rest.strip_prefix(&row) else {
             return false;
-        }
-        saved += entries::saved_count(entry.status);
-        at += ROW_LENGTH;
-        from += entry.length;
+        };
+        saved += entries::saved_count(entries::status_of(entry));
+        rest = after;
     }
+    rest.is_empty()
+}
+
+// The row of an entry, where `saved` saved ones stand before it.
+fn entry_row(saved: u64, entry: &[u8]) -> [u8; ROW_LENGTH]
+    requires { (saved + 1 < 2 ^ 64) × (58 ≤ length entry.now) }
+    ensures { result ≡ entry_row (file_number_after saved (status_of entry.now)) entry.now }
+{
+    let number = file_number(saved, entries::status_of(entry));
+    row_of(number, entries::file_size_of(entry), layout::md5_of(entry))
 }
 
 // The bytes of a row: the lowest 4 of a number, a size, a hash.

@@ -1,18 +1,15 @@
--- `catalog::entry_rows::put_rows` meets its contract.
+-- `catalog::entry_rows::put_rows` meets its contract. The loop's invariant: the rows of the entries that remain are still to be stored.
 -- Assumes nothing.
 use mathlib.Core.Path.{◌≡◌}
-use Prim.Native.Nat.{◌≤◌, ◌-◌, ◌+◌, ◌*◌}
-use lib.ListN.{length, drop}
+use Prim.Native.Nat.{◌≤◌, ◌+◌, ◌*◌}
+use lib.ListN.{length}
 use mathlib.Core.List.{flatten}
 use lib.Seq.{sets}
 use Rattle.entries.specs.Walk.{entries_of}
-use Rattle.catalog.specs.Rows.{rows_for}
-use Rattle.catalog.proofs.ListLaws.{rest_rows}
+use Rattle.catalog.specs.Rows.{rows_after, rows_for}
+use Rattle.catalog.proofs.ListLaws.{Left}
 use Rattle.catalog.proofs.entry_rows.put_rows.Given as goal
 
-abbrev pub invariant-loop-at : goal.invariant-loop-at
-invariant-loop-at l = (l.from ≤ length l.list) × (length l.out ≡ length l.initial.out) × (l.saved ≤ l.from) × (l.at + 28 * length (entries_of (drop l.from l.list)).pieces ≤ length l.initial.out)
-    × (sets l.out l.at (flatten (rest_rows l.saved l.list l.from)) ≡ sets l.initial.out 16 (flatten (rows_for (entries_of l.list).pieces)))
-
-abbrev pub decreases-loop-at : goal.decreases-loop-at
-decreases-loop-at l = length l.list - l.from
+abbrev pub invariant-loop-entry : goal.invariant-loop-entry
+invariant-loop-entry l = Left (length l.list) l.saved l.entry-iterator × (l.at + 28 * length l.entry-iterator ≤ length l.out)
+    × (sets l.out l.at (flatten (rows_after l.saved l.entry-iterator)) ≡ sets l.initial.out 16 (flatten (rows_for (entries_of l.list).pieces)))
