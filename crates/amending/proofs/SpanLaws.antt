@@ -9,12 +9,8 @@ use mathlib.Core.Bool.{Bool, true, false, cond}
 use mathlib.Core.List.{List, [], ◌∷◌, flatten}
 use Prim.Native.Nat.{ℕ, zero, suc, ◌+◌, ◌-◌, ◌≤◌, ◌<◌}
 use native.Mathlib.Omega.{arith}
-use lib.ListN.{length, take, drop, get_or, length-append}
-use lib.Seq.{length-take-le}
-use Rattle.entries.specs.Entry.{is_saved, saved_count}
-use Rattle.entries.specs.Walk.{entries_of}
-use Rattle.entries.proofs.EntryLaws.{IsEntry}
-use Rattle.entries.proofs.WalkLaws.{entries_more}
+use lib.ListN.{length, take, get_or, length-append}
+use Rattle.entries.specs.Entry.{status_of, is_saved, saved_count}
 use Rattle.amending.specs.Amending.{saved_place, statuses_of}
 use Rattle.amending.specs.Plan.{span_in}
 use Rattle.amending.specs.declared.finding.Span.{Span}
@@ -57,27 +53,16 @@ span from length = record { from = from; length = length }
 abbrev span_at : List (List ℕ) → ℕ → Span
 span_at es k = span (length (flatten (take k es))) (length (get_or es k []))
 
-module _ {s : List ℕ} {n status size : ℕ} (i : IsEntry s n status size) (j : ℕ) where
-  -- by the entry at the front
-  fronted : let es : List (List ℕ) = (entries_of (drop n s)).pieces in
-      span_in (entries_of s).pieces j ≡ span_at (take n s ∷ es) (saved_place (status ∷ statuses_of es) j)
-  fronted = let es : List (List ℕ) = (entries_of (drop n s)).pieces in
-      ap (λ c. span_in c.pieces j) (entries_more i)
-      ∙ ap (λ (t : ℕ). span_at (take n s ∷ es) (saved_place (t ∷ statuses_of es) j)) (sym i.status_is)
-
-  pub span_here : j < saved_count status → span_in (entries_of s).pieces j ≡ span 0 n
+module _ (e : List ℕ) (es : List (List ℕ)) (j : ℕ) where
+  pub span_here : j < saved_count (status_of e) → span_in (e ∷ es) j ≡ span 0 (length e)
   unfolding flatten
-  span_here h = let es : List (List ℕ) = (entries_of (drop n s)).pieces in
-      fronted ∙ ap (span_at (take n s ∷ es)) (place_here status (statuses_of es) j h) ∙ ap (span 0) (length-take-le n s i.high)
+  span_here h = ap (span_at (e ∷ es)) (place_here (status_of e) (statuses_of es) j h)
 
-  pub span_more : saved_count status ≤ j
-      → span_in (entries_of s).pieces j ≡ past n (span_in (entries_of (drop n s)).pieces (j - saved_count status))
+  pub span_more : saved_count (status_of e) ≤ j → span_in (e ∷ es) j ≡ past (length e) (span_in es (j - saved_count (status_of e)))
   unfolding flatten
-  span_more h = let es : List (List ℕ) = (entries_of (drop n s)).pieces in
-      let k : ℕ = saved_place (statuses_of es) (j - saved_count status) in
-      let size : length (flatten (take (suc k) (take n s ∷ es))) ≡ n + length (flatten (take k es)) =
-      length-append (take n s) (flatten (take k es)) ∙ ap (λ (m : ℕ). m + length (flatten (take k es))) (length-take-le n s i.high) in
-      fronted ∙ ap (span_at (take n s ∷ es)) (place-next status (statuses_of es) j h) ∙ ap (λ (m : ℕ). span m (length (get_or es k []))) size
+  span_more h = let k : ℕ = saved_place (statuses_of es) (j - saved_count (status_of e)) in
+      let size : length (flatten (take (suc k) (e ∷ es))) ≡ length e + length (flatten (take k es)) = length-append e (flatten (take k es)) in
+      ap (span_at (e ∷ es)) (place-next (status_of e) (statuses_of es) j h) ∙ ap (λ (m : ℕ). span m (length (get_or es k []))) size
 
 pub span_none : {es : List (List ℕ)} (j : ℕ) → es ≡ [] → span_in es j ≡ span 0 0
 unfolding flatten

@@ -16,18 +16,16 @@ pub(crate) fn entry_of(list: &[u8], file: u64) -> Span
 {
     let mut saved_before = file.saturating_sub(1);
     let mut from: usize = 0;
-    loop {
-        let Some(entry) = entries::at(list, from) else {
-            return Span { from, length: 0 };
-        };
-        let saved = entries::saved_count(entry.status);
+    for entry in entries::of(list) {
+        let saved = entries::saved_count(entries::status_of(entry));
         if saved_before < saved {
             return Span {
                 from,
-                length: entry.length,
+                length: entry.len(),
             };
         }
         saved_before -= saved;
-        from += entry.length;
+        from += entry.len();
     }
+    Span { from, length: 0 }
 }

@@ -1,12 +1,13 @@
--- `amending::finding::entry_of` meets its contract. The loop's invariant: the entry lies where it lies in what remains, after the bytes so far.
+-- `amending::finding::entry_of` meets its contract.
 -- Assumes nothing.
-use mathlib.Core.Path.{◌≡◌, sym, ap, ap₂, ◌∙◌}
-use Prim.Native.Nat.{ℕ, ◌+◌, ◌-◌}
+use mathlib.Core.Path.{◌≡◌, sym, ap, ◌∙◌}
+use Prim.Native.Nat.{ℕ, ◌+◌}
 use native.Mathlib.Omega.{arith}
-use mathlib.Core.List.{List}
+use mathlib.Core.List.{List, flatten}
+use lib.ListN.{length, length-append}
+use Rattle.cut_lists.proofs.CutLaws.{cut-length}
+use Rattle.entries.specs.Entry.{status_of, saved_count, length_of}
 use Rattle.entries.specs.Walk.{entries_of}
-use Rattle.entries.proofs.EntryLaws.{EntryAt, entry_at}
-use Rattle.entries.proofs.WalkLaws.{entries_none}
 use Rattle.amending.specs.Plan.{span_in}
 use Rattle.amending.specs.declared.finding.Span.{Span}
 use Rattle.amending.proofs.SpanLaws.{past, span_here, span_more, span_none}
@@ -18,30 +19,30 @@ nothing-before x = let e : 0 + x.from ≡ x.from = omega arith in ap (λ (k : �
 further : (n m : ℕ) (x : Span) → past (n + m) x ≡ past n (past m x)
 further n m x = let e : n + m + x.from ≡ n + (m + x.from) = omega arith in ap (λ (k : ℕ). record { from = k; length = x.length }) e
 
-pub loop-entry-init : goal.loop-entry-init
-loop-entry-init c = let s = c.args.list.now in (omega arith, nothing-before _ ∙ ap (span_in (entries_of s).pieces) c.saturating_sub-saved_before.ensures)
+just : (n m : ℕ) → ◌≡◌ {A = Span} (record { from = n; length = m }) (past n (record { from = 0; length = m }))
+just n m = let e : n ≡ n + 0 = omega arith in ap (λ (k : ℕ). record { from = k; length = m }) e
 
-pub returns-in_default : goal.returns-in_default
-returns-in_default c = let l = c.loop-entry in let none = entries_none _ _ c.at.ensures c.in_default.not-Some in
-    let at : l.from ≡ l.from + 0 = omega arith in
-    ap (λ (n : ℕ). record { from = n; length = 0 }) at ∙ ap (past l.from) (sym (span_none l.saved_before none)) ∙ l.invariant.1
+pub loop-entry-init : goal.loop-entry-init
+loop-entry-init c = let s = c.args.list.now in let all : c.into_iter-entry-iterator.result ≡ (entries_of s).pieces = cc in
+    rw all (
+      omega (arith, cut-length length_of s),
+      nothing-before _ ∙ ap (span_in (entries_of s).pieces) c.saturating_sub-saved_before.ensures,
+    )
 
 pub returns-then-saved_before-saved : goal.returns-then-saved_before-saved
-returns-then-saved_before-saved c = let i = (let h : EntryAt c.args.list.now c.loop-entry.from c.in-Some.entry.length c.in-Some.entry.status c.in-Some.entry.size = entry_at _ _ c.at.ensures c.in-Some.is in h) in
-    let l = c.loop-entry in let at : l.from ≡ l.from + 0 = omega arith in
-    let here = span_here i.entry l.saved_before (omega (arith, c.saved_count-saved.ensures)) in
-    ap (λ (n : ℕ). record { from = n; length = c.in-Some.entry.length }) at ∙ ap (past l.from) (sym here) ∙ l.invariant.1
-
-pub overflow_add-from : goal.overflow_add-from
-overflow_add-from c = omega (arith, (let h : EntryAt c.args.list.now c.loop-entry.from c.in-Some.entry.length c.in-Some.entry.status c.in-Some.entry.size = entry_at _ _ c.at.ensures c.in-Some.is in h).fits)
-
-pub loop-entry-smaller : goal.loop-entry-smaller
-loop-entry-smaller c = let i = (let h : EntryAt c.args.list.now c.loop-entry.from c.in-Some.entry.length c.in-Some.entry.status c.in-Some.entry.size = entry_at _ _ c.at.ensures c.in-Some.is in h) in omega (arith, i.low, i.fits)
+returns-then-saved_before-saved c = let l = c.loop-entry in
+    let less = rw (c.saved_count-saved.ensures, c.status_of.ensures) at c.if-saved_before-saved.true in
+    just l.from _ ∙ ap (past l.from) (sym (span_here _ c.next.new.self l.saved_before less))
+    ∙ rw c.in-Some.ensures.steps at l.invariant.1
 
 pub loop-entry-preserved : goal.loop-entry-preserved
-loop-entry-preserved c = let i = (let h : EntryAt c.args.list.now c.loop-entry.from c.in-Some.entry.length c.in-Some.entry.status c.in-Some.entry.size = entry_at _ _ c.at.ensures c.in-Some.is in h) in
-    let s = c.args.list.now in let from = c.loop-entry.from in let count = c.saved_count-saved.ensures in let more = span_more i.entry c.loop-entry.saved_before (omega (arith, count)) in (
-      i.fits,
-      ap₂ (λ (q : List ℕ) (n : ℕ). past (from + c.in-Some.entry.length) (span_in (entries_of q).pieces (c.loop-entry.saved_before - n))) (sym i.next) count
-          ∙ further from c.in-Some.entry.length _ ∙ ap (past from) (sym more) ∙ c.loop-entry.invariant.1,
-    )
+unfolding flatten
+loop-entry-preserved c = let l = c.loop-entry in let e = c.in-Some.entry.now in let es = c.next.new.self in let steps = c.in-Some.ensures.steps in
+    let saved : c.saved_count-saved.result ≡ saved_count (status_of e) = c.saved_count-saved.ensures ∙ ap saved_count c.status_of.ensures in
+    let more = span_more e es l.saved_before (omega (arith, saved)) in
+    let joined : length (flatten l.entry-iterator) ≡ length e + length (flatten es) =
+    ap (λ (es : List (List ℕ)). length (flatten es)) steps ∙ length-append e (flatten es) in
+    rw saved (omega (arith, joined, l.invariant.0), further l.from _ _ ∙ ap (past l.from) (sym more) ∙ rw steps at l.invariant.1)
+
+pub returns : goal.returns
+returns c = let l = c.loop-entry in just l.from 0 ∙ ap (past l.from) (sym (span_none l.saved_before c.in-None.ensures.steps.0)) ∙ l.invariant.1
