@@ -4,24 +4,23 @@
 --   some_left, first_end, first_some, first_size, first_file_size, first_name, first_entry     first_of, by what the tests found
 --   length_sized       an entry that keeps every rule has 58 bytes or more, and lies in the list
 --   IsEntry, IsFault, is_end, is_entry, is_fault, length_end      what each answer of first_of tells
---   EntryAt, entry_at                                 an entry at a position of a list, as a loop over it meets it
 -- Assumes nothing.
-use Rattle.std.specs.Prelude.{Option, Some, None, Ok, Err}
+use Rattle.std.specs.Prelude.{Some, None, Ok, Err}
 use mathlib.Core.Path.{◌≡◌, refl, sym, ap, ◌∙◌, subst}
 use mathlib.Core.Bool.{Bool, true, false, cond, ◌&&◌}
 use mathlib.Core.Logic.{inl, inr}
 use mathlib.Core.List.{List, [], ◌∷◌}
-use Prim.Native.Nat.{ℕ, ◌+◌, ◌%◌, ◌≤◌, ◌<◌}
+use Prim.Native.Nat.{ℕ, ◌%◌, ◌≤◌, ◌<◌}
 use native.Mathlib.Nat.{eq-zero-or-pos}
 use native.Mathlib.Omega.{arith}
 use lib.Dec.{leb, eqb}
-use lib.ListN.{length, take, drop, length-drop}
-use lib.Seq.{length-take-le, drop-drop}
+use lib.ListN.{length, take}
+use lib.Seq.{length-take-le}
 use borrow.Author.Tests.{eqb-false, leb-true, eqb-true}
 use Rattle.computed_tests.proofs.Tests.{and_both}
 use Rattle.entries.specs.Entry.{entry_size, status_of, file_size_of, name_of, length_of}
 use Rattle.entries.specs.Entry.{name_allowed, file_size_allowed, entry_size_allowed, body_allowed, entry_allowed}
-use Rattle.entries.specs.Walk.{Item, entry_in, fault_of, item_of, first_of}
+use Rattle.entries.specs.Walk.{Item, fault_of, item_of, first_of}
 use Rattle.entries.specs.declared.Fault.{Fault}
 use Rattle.entries.specs.declared.Fault.TheVariants as fault
 use Rattle.entries.specs.declared.Entry.{Entry}
@@ -166,27 +165,3 @@ length_end s e = elim (eq-zero-or-pos (length_of s)) [
   | inl z ↦ z
   | inr some ↦ let z = length_sized s some in absurd (omega (arith, z.1, z.2, ap length (is_end e)))
 ]
-
--- ---- at a position of a list
-
--- an entry of n bytes stands at the position
-pub record EntryAt (s : List ℕ) (at n status size : ℕ) : Type 0 where
-  pub entry : IsEntry (drop at s) n status size
-  pub low : 58 ≤ n
-  pub fits : at + n ≤ length s
-  pub next : drop n (drop at s) ≡ drop (at + n) s
-
--- an item that is an entry
-is_item : {e : Entry} (i : Item) → entry_in i ≡ Some e → i ≡ Ok (Some e)
-is_item (Ok o) is = ap Ok is
-is_item (Err f) is = cc
-
-pub entry_at : (s : List ℕ) (at : ℕ) {e : Entry} {o : Option Entry} → o ≡ entry_in (first_of (drop at s)) → o ≡ Some e
-    → EntryAt s at e.length e.status e.size
-entry_at s at {e} answer is = let found = is_entry (sym (is_item (first_of (drop at s)) (sym answer ∙ is))) in
-    record {
-      entry = found;
-      low = found.low;
-      fits = omega (arith, found.low, found.high, length-drop at s);
-      next = drop-drop e.length at s;
-    }

@@ -2,8 +2,6 @@
 --
 --   first_fits, entry_first, no_first     an entry at the front of a list, and none, by the length that stands there
 --   entries_more   an entry at the front is the first entry
---   entries_none    there is none where the front is the end or a fault
---   EntryHere, entry_here, no_entry     an entry at a position of a list, and none, by the length that stands there
 --   walk_from t c   the totals t and those of the entries c, where nothing is left after them; or the refusal of what is left
 --   saved_most     an entry is one saved entry at most
 --   walk_start, no_totals     the walk from no entries at all
@@ -17,27 +15,26 @@
 --   Added t u      u is t with one entry more, and at most one saved entry more
 --   add_added      an entry more is one entry more, and one saved entry more at most
 -- Assumes nothing.
-use Rattle.std.specs.Prelude.{Option, Some, None, Ok, Err}
+use Rattle.std.specs.Prelude.{Ok, Err}
 use mathlib.Core.Path.{◌≡◌, refl, sym, ap, ap₂, ◌∙◌, subst}
 use mathlib.Core.Bool.{Bool, true, false, cond}
 use mathlib.Core.List.{List, [], ◌∷◌, map, foldr}
 use Prim.Native.Nat.{ℕ, ◌+◌, ◌*◌, ◌/◌, ◌≤◌, ◌<◌, max}
 use native.Mathlib.Omega.{arith}
 use lib.ListN.{length, take, drop, length-drop}
-use lib.Seq.{drop-drop, length-take-le}
+use lib.Seq.{length-take-le}
 use Rattle.cut_lists.specs.All.{All}
 use Rattle.cut_lists.specs.Pieces.{Cut, before}
 use Rattle.cut_lists.proofs.CutLaws.{cut-none, cut_stop, cut_more, cut_induct, cut_all}
 use Rattle.refusals.specs.declared.Refusal.{Refusal}
 use Rattle.entries.specs.Entry.{status_of, file_size_of, is_saved, saved_count, is_counted, length_of}
 use Rattle.entries.specs.Numbering.{keep, saved_of}
-use Rattle.entries.specs.Walk.{fault_of, fault_number, refusal_at, first_of, entries_of, totals_of, add_entry, walked_to, walk_of}
+use Rattle.entries.specs.Walk.{fault_of, fault_number, refusal_at, entries_of, totals_of, add_entry, walked_to, walk_of}
 use Rattle.entries.specs.declared.Fault.{Fault}
 use Rattle.entries.specs.declared.Fault.TheVariants.{Size, FileSize, Name}
-use Rattle.entries.specs.declared.Entry.{Entry}
 use Rattle.entries.specs.declared.Totals.{Totals}
-use Rattle.entries.specs.Walk.{Walked, Item, entry_in}
-use Rattle.entries.proofs.EntryLaws.{length_sized, IsEntry, IsFault, length_end, is_fault}
+use Rattle.entries.specs.Walk.{Walked}
+use Rattle.entries.proofs.EntryLaws.{length_sized, IsEntry, IsFault}
 
 pub entries_more : {s : List ℕ} {n status size : ℕ} → IsEntry s n status size → entries_of s ≡ before (take n s) (entries_of (drop n s))
 entries_more {s} i =
@@ -57,38 +54,6 @@ entry_first s is some e_is rest_is = let sized = length_sized s (omega arith) in
 
 pub no_first : (s : List ℕ) {n : ℕ} → n ≡ length_of s → n ≡ 0 → (entries_of s).pieces ≡ []
 no_first s is z = ap (λ (c : Cut). c.pieces) (cut_stop length_of s (sym is ∙ z))
-
--- no entry more: the item at the front is the end or a fault, as the else of `let Some(entry) = .. else` tells
-pub entries_none : (s : List ℕ) (o : Option Entry) → o ≡ entry_in (first_of s) → ((e : Entry) → o ≡ Some e → ⊥) → (entries_of s).pieces ≡ []
-entries_none s o is none = ap (λ (c : Cut). c.pieces) (cut_stop length_of s (by (first_of s) refl (λ e h. none e (is ∙ h))))
-  where
-    by : (i : Item) → i ≡ first_of s → ((e : Entry) → entry_in i ≡ Some e → ⊥) → length_of s ≡ 0
-    by (Ok (Some e)) is none = absurd (none e refl)
-    by (Ok None) is none = length_end s is
-    by (Err f) is none = (is_fault is).length_zero
-
--- an entry of n bytes stands at the position
-pub record EntryHere (s : List ℕ) (at n : ℕ) : Type 0 where
-  pub low : 58 ≤ n
-  pub fits : at + n ≤ length s
-  pub pieces_are : (entries_of (drop at s)).pieces ≡ take n (drop at s) ∷ (entries_of (drop (at + n) s)).pieces
-
-module _ (s : List ℕ) (at : ℕ) {n : ℕ} (length_is : n ≡ length_of (drop at s)) where
-  pub entry_here : (n ≡ 0 → ⊥) → EntryHere s at n
-  entry_here some = let some : 0 < n = omega arith in
-      let sized = length_sized (drop at s) (omega arith) in
-      let cut = cut_more length_of (drop at s) (omega (arith, sized.1, sized.2)) (omega arith) in
-      record {
-        low = omega (arith, sized.1);
-        fits = omega (arith, sized.1, sized.2, length-drop at s);
-        pieces_are =
-            ap (λ (c : Cut). c.pieces) cut
-            ∙ ap (λ (k : ℕ). take k (drop at s) ∷ (entries_of (drop k (drop at s))).pieces) (sym length_is)
-            ∙ ap (λ (q : List ℕ). take n (drop at s) ∷ (entries_of q).pieces) (drop-drop n at s);
-      }
-
-  pub no_entry : n ≡ 0 → (entries_of (drop at s)).pieces ≡ []
-  no_entry z = ap (λ (c : Cut). c.pieces) (cut_stop length_of (drop at s) (sym length_is ∙ z))
 
 -- ---- totals
 

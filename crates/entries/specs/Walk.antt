@@ -8,7 +8,6 @@
 --   Item              what a list begins with: an entry, as numbers, nothing, or a fault
 --   numbers_of e      the entry e, as numbers
 --   item_of e         the item that the entry e is
---   entry_in i        the entry that the item i is, in numbers, where it is one
 --   first_of s        what s begins with
 --   entries_of s      the entries of s up to the first fault, and the rest of s
 --   greatest_of es    the greatest file size of the entries es that count for the data size
@@ -54,10 +53,6 @@ numbers_of e = record { length = length e; status = status_of e; size = file_siz
 
 abbrev pub item_of : List ℕ → Item
 item_of e = Ok (Some (numbers_of e))
-
-abbrev pub entry_in : Item → Option Entry
-entry_in (Ok e) = e
-entry_in (Err f) = None
 
 unfoldable pub first_of : List ℕ → Item
 first_of [] = Ok None

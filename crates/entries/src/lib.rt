@@ -5,7 +5,7 @@ ghost use Rattle.std.specs.Prelude.{◌≡◌, ◌+◌, ◌%◌, ◌<◌, ◌≤
 ghost use Rattle.std.specs.Iterator.{YieldsFirst, YieldsFirstRef, item_count};
 ghost use Rattle.entries.specs.Entry.{unit_allowed, is_dot, units_allowed, only_dots, is_dots, name_allowed, units_of};
 ghost use Rattle.entries.specs.Entry.{entry_size_allowed, is_saved, saved_count, is_counted, status_of, file_size_of, length_of};
-ghost use Rattle.entries.specs.Walk.{fault_number, refusal_at, entry_in, first_of, entries_of, add_entry, walk_of};
+ghost use Rattle.entries.specs.Walk.{fault_number, refusal_at, first_of, entries_of, add_entry, walk_of};
 
 use refusals::Refusal;
 use std::marker::Model;
@@ -116,29 +116,6 @@ pub fn first(list: &[u8]) -> Result<Option<Entry>, Fault>
         status,
         size,
     }))
-}
-
-// The entry at the place `from` of `list`, `None` where there is none that keeps every rule.
-pub fn at(list: &[u8], from: usize) -> Option<Entry>
-    ensures { result ≡ entry_in (first_of (drop from list.now)) }
-{
-    if list.len() < from {
-        return None;
-    }
-    match first(&list[from..]) {
-        Ok(found) => found,
-        Err(_) => None,
-    }
-}
-
-// The length of the entry at the place `from` of `list`, 0 where there is none.
-pub fn length_at(list: &[u8], from: usize) -> usize
-    ensures { result ≡ length_of (drop from list.now) }
-{
-    if list.len() < from {
-        return 0;
-    }
-    first_length(&list[from..])
 }
 
 // The length of the entry that `list` begins with, 0 where there is none.
