@@ -6,9 +6,9 @@
 --   written_byte        what is written are bytes
 --   written-rest        the rest of the room stays
 -- Assumes nothing.
-use mathlib.Core.Path.{◌≡◌, refl, sym, ap, ap₂, ◌∙◌, subst}
+use mathlib.Core.Path.{◌≡◌, refl, sym, ap, ◌∙◌, subst}
 use mathlib.Core.Bool.{Bool, true, false, cond}
-use mathlib.Core.List.{List, ◌++◌}
+use mathlib.Core.List.{List, ◌++◌, append_assoc}
 use Prim.Native.Nat.{ℕ, zero, suc, ◌<◌, ◌≤◌, ◌+◌, ◌-◌}
 use native.Mathlib.Nat.{not-suc-le-zero}
 use native.Mathlib.Numerals.{add-one}
@@ -17,9 +17,10 @@ use native.Mathlib.Decide.{ℕ_discrete, dec_lt}
 use lib.ListN.{length, get_or, set, take, drop, length-set, length-drop, take-append-drop}
 use Rattle.std.proofs.lemmas.List.{take_at, drop_at, drop-drop, length-append, length-take-le, get_or_append_left, get_or-append_right, get_or-take}
 use Rattle.std.proofs.lemmas.Grind.{get_or_after_one}
-use lib.Seq.{ext_get_or, get_or-set_same, get_or-set_other, get_or-drop}
+use lib.Seq.{sets, sets-eq, length-sets, ext_get_or, get_or-set_same, get_or-set_other, get_or-drop}
 use Rattle.gf256.proofs.Polynomials.{sum_below_lt}
 use Rattle.gf256.proofs.Products.{product_byte}
+use Rattle.lent_bytes.proofs.StoreLaws.{sets_over}
 use Rattle.number_sets.specs.Sets.{member}
 use Rattle.volume_weights.specs.Weights.{file_weight}
 use Rattle.recovery.specs.Answers.{Written}
@@ -60,26 +61,34 @@ written_none rule n files ws room = record {
 }
 
 module _ (n : ℕ) (sums ws room : List ℕ) (few : n ≤ 255) (ls : length sums ≡ 255) (lw : length ws ≡ 256) (lr : 255 ≤ length room) where
+  abbrev second : List ℕ
+  second = take (256 - n - 1) (drop 1 ws)
+
   abbrev first : List ℕ
-  first = take n sums ++ drop n room
+  first = sets room 0 (take n sums)
 
   abbrev both : List ℕ
-  both = take n first ++ (take (256 - n - 1) (drop 1 ws) ++ drop (255 - n) (drop n first))
+  both = sets first n second
 
   long_first : length (take n sums) ≡ n
   long_first = length-take-le n sums (omega arith)
 
-  long_second : length (take (256 - n - 1) (drop 1 ws)) ≡ 255 - n
+  long_second : length second ≡ 255 - n
   long_second = length-take-le _ (drop 1 ws) (omega (arith, length-drop 1 ws)) ∙ omega arith
 
-  both_is : both ≡ take n sums ++ (take (256 - n - 1) (drop 1 ws) ++ drop 255 room)
-  both_is = let front = take_at (take n sums) (drop n room) n long_first in
-      let back = drop_at (take n sums) (drop n room) n long_first in
-      let all : n + (255 - n) ≡ 255 = omega arith in
-      ap₂ (λ (a b : List ℕ). a ++ (take (256 - n - 1) (drop 1 ws) ++ b)) front
-      (ap (drop (255 - n)) back ∙ drop-drop (255 - n) n room ∙ ap (λ (k : ℕ). drop k room) all)
+  first_is : first ≡ take n sums ++ drop n room
+  first_is = sets_over room (take n sums) (omega (arith, long_first)) ∙ ap (λ (k : ℕ). take n sums ++ drop k room) long_first
 
-  in_both : (i x : ℕ) → get_or (take n sums ++ (take (256 - n - 1) (drop 1 ws) ++ drop 255 room)) i 0 ≡ x → get_or both i 0 ≡ x
+  both_is : both ≡ take n sums ++ (second ++ drop 255 room)
+  both_is = let all : n + (255 - n) ≡ 255 = omega arith in
+      let end : n + length second ≡ 255 = omega (arith, long_second) in
+      let front : take n first ≡ take n sums = ap (take n) first_is ∙ take_at (take n sums) (drop n room) n long_first in
+      let back : drop n first ≡ drop n room = ap (drop n) first_is ∙ drop_at (take n sums) (drop n room) n long_first in
+      let past : drop 255 first ≡ drop 255 room =
+      rw all at (sym (drop-drop (255 - n) n first) ∙ ap (drop (255 - n)) back ∙ drop-drop (255 - n) n room) in
+      simp (sets-eq second first n (omega (arith, end, length-sets room 0 (take n sums))), append_assoc, front, end, past)
+
+  in_both : (i x : ℕ) → get_or (take n sums ++ (second ++ drop 255 room)) i 0 ≡ x → get_or both i 0 ≡ x
   in_both i x e = ap (λ (l : List ℕ). get_or l i 0) both_is ∙ e
 
   both_long : length both ≡ length room
@@ -88,12 +97,12 @@ module _ (n : ℕ) (sums ws room : List ℕ) (few : n ≤ 255) (ls : length sums
   at_file : (i : ℕ) → i < n → get_or both i 0 ≡ get_or sums i 0
   at_file i l = in_both i _ (get_or_append_left (take n sums) _ 0 i (omega (arith, long_first)) ∙ get_or-take n sums i 0 l)
 
-  past_first : (i x : ℕ) → n ≤ i → get_or (take (256 - n - 1) (drop 1 ws) ++ drop 255 room) (i - n) 0 ≡ x → get_or both i 0 ≡ x
+  past_first : (i x : ℕ) → n ≤ i → get_or (second ++ drop 255 room) (i - n) 0 ≡ x → get_or both i 0 ≡ x
   past_first i x l e = in_both i x (get_or-append_right _ _ n i 0 long_first l ∙ e)
 
   at_volume : (i : ℕ) → n ≤ i → i < 255 → get_or both i 0 ≡ get_or ws (i - n + 1) 0
   at_volume i l h = past_first i _ l
-      (get_or_append_left (take (256 - n - 1) (drop 1 ws)) _ 0 (i - n) (omega (arith, long_second)) ∙ get_or-take _ (drop 1 ws) (i - n) 0 (omega arith)
+      (get_or_append_left second _ 0 (i - n) (omega (arith, long_second)) ∙ get_or-take _ (drop 1 ws) (i - n) 0 (omega arith)
       ∙ get_or_after_one ws (i - n) 0 ∙ ap (λ (k : ℕ). get_or ws k 0) (omega arith))
 
   at_rest : (i : ℕ) → 255 ≤ i → get_or both i 0 ≡ get_or room i 0

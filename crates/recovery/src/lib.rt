@@ -86,15 +86,16 @@ impl Holdings {
         volume_weights::solve(code, nonempty, files, volumes, 255 - n, column)
     }
 
-    // Writes the weights of the files, then those of the volumes.
+    // Writes the weights of the files, then those of the volumes. By `put`: `copy_from_slice` into lent bytes wants `memmove` of the C library,
+    // and the library wants `memcpy` and `memset` only (include/par1.h).
     fn write(self, weights: &[u8; 256], out: &mut [u8])
         requires { 255 ≤ length out.old }
         ensures { Written (rule_of self.code) self.n self.files weights.now out.old out.new 255 }
     {
         let sums = file_weights(self.code, self.files, 255 - self.n, weights);
         let n = usize::from(self.n);
-        out[..n].copy_from_slice(&sums[..n]);
-        out[n..WEIGHTS].copy_from_slice(&weights[1..256 - n]);
+        lent_bytes::put(out, 0, &sums[..n]);
+        lent_bytes::put(out, n, &weights[1..256 - n]);
     }
 
     // The set with the missing files that are empty.

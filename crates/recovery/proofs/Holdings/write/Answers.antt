@@ -17,5 +17,5 @@ returns c = let a = c.args in let sums = c.file_weights-sums.result in
     let long : length sums ≡ 255 = search rules in
     let in_sums : (i : ℕ) → i < 255 → get_or sums i 0 ≡ file_weight (rule_of a.self.code) a.self.files a.weights.now (255 - a.self.n) i =
     λ i l. ap (λ (zs : List ℕ). get_or zs i 0) c.file_weights-sums.ensures ∙ list_below_at 255 _ i l in
-    rw (c.copy_from_slice.ensures.after, c.copy_from_slice-2.ensures.after, c.from-n.ensures)
+    rw (c.put-2.ensures, c.put.ensures, c.from-n.ensures)
     (written_parts a.self.n sums a.weights.now a.out.now (omega arith) long (search rules) c.requires _ _ in_sums)
