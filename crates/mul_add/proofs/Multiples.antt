@@ -6,16 +6,14 @@
 use mathlib.Core.Path.{◌≡◌, refl, sym, ap, ap₂, ◌∙◌}
 use mathlib.Core.Bool.{Bool, cond}
 use mathlib.Core.List.{List, [], ◌∷◌}
-use Prim.Native.Nat.{ℕ, ◌+◌, ◌*◌, ◌^◌, ◌<◌, ◌≤◌}
-use native.Mathlib.Omega.{arith}
-use native.Mathlib.Nat.{pos_of_ne-zero}
+use Prim.Native.Nat.{ℕ, ◌+◌, ◌*◌, ◌^◌, ◌<◌}
+use native.Mathlib.Nat.{add-zero, pos_of_ne-zero}
 use native.Mathlib.Decide.{ℕ_discrete}
 use lib.Bits.{bit_xor}
 use lib.Dec.{eqb}
-use lib.ListN.{length, get_or, take, drop, length-drop}
-use lib.Seq.{length-take-le, get_or-take, get_or-drop}
+use lib.ListN.{get_or}
 use borrow.Author.Tests.{eq-eqb, ne_eqb}
-use Rattle.computed_tests.proofs.Lists.{list_below_is}
+use Rattle.computed_tests.specs.Lists.{list_below}
 use Rattle.gf256.specs.Polynomial.{coeff, sum_below}
 use Rattle.gf256.specs.Field.{product}
 use Rattle.gf256.specs.Tables.{IsTables, eight_from}
@@ -26,11 +24,16 @@ use Rattle.gf256.proofs.TableLaws.{eight_by_tables}
 use Rattle.mul_add.specs.MulAdd.{mul_add, mul_add_by, add_multiples}
 use Rattle.mul_add.proofs.MulAdds.{mul_add_zero}
 
-pub eight_in_a_row : (ps : List ℕ) (e : ℕ) → e + 8 ≤ length ps → take 8 (drop e ps) ≡ eight_from ps e
-unfolding eight_from
-eight_in_a_row ps e h =
-    list_below_is 8 (λ i. get_or ps (e + i) 0) (take 8 (drop e ps)) (length-take-le 8 (drop e ps) (omega (arith, length-drop e ps)))
-    (λ p l. get_or-take 8 (drop e ps) p 0 l ∙ get_or-drop e ps p 0)
+pub eight_in_a_row : (ps : List ℕ) (e : ℕ)
+    → get_or ps e 0 ∷ get_or ps (e + 1) 0 ∷ get_or ps (e + 2) 0 ∷ get_or ps (e + 3) 0 ∷ get_or ps (e + 4) 0 ∷ get_or ps (e + 5) 0 ∷ get_or ps (e + 6) 0
+    ∷ get_or ps (e + 7) 0 ∷ []
+    ≡ eight_from ps e
+unfolding eight_from list_below
+eight_in_a_row ps e =
+    ap
+    (λ (n : ℕ).
+    get_or ps n 0 ∷ get_or ps (e + 1) 0 ∷ get_or ps (e + 2) 0 ∷ get_or ps (e + 3) 0 ∷ get_or ps (e + 4) 0 ∷ get_or ps (e + 5) 0 ∷ get_or ps (e + 6) 0
+    ∷ get_or ps (e + 7) 0 ∷ []) (sym (add-zero e))
 
 -- the multiples of w
 abbrev Multiples : List ℕ → ℕ → Type 0
