@@ -3,10 +3,9 @@
 
 ghost use Rattle.std.specs.Prelude.{◌≡◌, ◌+◌, ◌*◌, ◌%◌, ◌^◌, ◌<◌, ◌≤◌, true, ◌⊎◌, length};
 ghost use Rattle.entries.specs.Entry.{status_of, file_size_of, md5_of, units_of};
-ghost use Rattle.entries.specs.Walk.{add_entry};
 ghost use Rattle.md5_digest.specs.Running.{finished};
 ghost use Rattle.par1_rules.specs.Hashes.{hash_entry};
-ghost use Rattle.list_scan.specs.Name.{name_unit, name_units, name_ended};
+ghost use Rattle.list_scan.specs.Name.{name_start, name_unit, name_units, name_ended};
 ghost use Rattle.list_scan.specs.Scan.{is_whole, scanned, scan_start};
 ghost use Rattle.list_scan.specs.Run.{IsRun};
 ghost use Rattle.list_scan.specs.Found.{fault_at, found_of};
@@ -27,6 +26,49 @@ pub struct NameSoFar {
     pub dots: bool,
 }
 
+impl NameSoFar {
+    // What is known before any unit.
+    fn start() -> Self
+        ensures { result ≡ name_start }
+    {
+        NameSoFar {
+            allowed: true,
+            dots: true,
+        }
+    }
+
+    // What is known with a run of whole units too.
+    #[tactic(auto, unfolding(crate::specs::Name::name_units))]
+    fn with_units(self, units: &[u8]) -> Self
+        ensures { result ≡ name_units self (units_of units.now) }
+    {
+        NameSoFar {
+            allowed: self.allowed && entries::units_allowed(units),
+            dots: self.dots && entries::only_dots(units),
+        }
+    }
+
+    // What is known with a unit too, of which `low` came before.
+    #[tactic(auto, unfolding(crate::specs::Name::name_unit))]
+    fn with_unit(self, low: u8, high: u8) -> Self
+        ensures { result ≡ name_unit self (low + 256 * high) }
+    {
+        let unit = u16::from_le_bytes([low, high]);
+        NameSoFar {
+            allowed: self.allowed && entries::unit_allowed(unit),
+            dots: self.dots && entries::is_dot(unit),
+        }
+    }
+
+    // Whether the name of an entry of `size` bytes is allowed, where all of it came.
+    #[tactic(auto, unfolding(crate::specs::Name::name_ended))]
+    fn ended(self, size: u64) -> bool
+        ensures { result ≡ name_ended self size }
+    {
+        self.allowed && !(self.dots && size <= MAX_DOTS_SIZE)
+    }
+}
+
 // A scan of a list: the first bytes of the entry at hand; how many of its bytes came; the last of them; what is known of its name so far; the
 // totals of the entries before it; and the running hash over the saved ones.
 #[derive(Clone, Copy)]
@@ -43,21 +85,13 @@ pub struct Scan {
 pub fn start() -> Scan
     ensures { result ≡ scan_start }
 {
-    let hash = Md5::new();
     Scan {
         head: [0u8; 56],
         at: 0,
         low: 0,
-        named: NameSoFar {
-            allowed: true,
-            dots: true,
-        },
-        totals: Totals {
-            entries: 0,
-            saved: 0,
-            greatest: 0,
-        },
-        hash,
+        named: NameSoFar::start(),
+        totals: Totals::default(),
+        hash: Md5::new(),
     }
 }
 
@@ -75,33 +109,32 @@ pub fn push(scan: Scan, bytes: &[u8]) -> Scan
 pub fn found(scan: Scan) -> Result<Totals, Refusal>
     ensures { result ≡ found_of scan }
 {
-    let totals = scan.totals;
     if scan.at == 0 {
-        return Ok(totals);
+        return Ok(scan.totals);
     }
-    let head = scan.head;
-    let fault = fault_at(&head, scan.at);
-    let place = std::num::wrapping_add_u64(totals.entries, 1);
-    Err(fault.at(place))
+    let fault = fault_at(&scan.head, scan.at);
+    Err(fault.at(scan.totals.entries.wrapping_add(1)))
 }
 
 // The set hash of the entries that came.
 pub fn set_hash(scan: Scan) -> [u8; 16]
     ensures { result ≡ finished scan.hash }
 {
-    let hash = scan.hash;
-    hash.finish()
+    scan.hash.finish()
 }
 
 // Whether the counts of the scan have room for so many bytes more.
+#[tactic(auto, unfolding(crate::specs::Room::has_room))]
 fn has_room(scan: Scan, more: u64) -> bool
     ensures { result ≡ has_room scan more }
 {
-    let totals = scan.totals;
-    sum_fits(scan.at, more) & sum_fits(totals.entries, more) & sum_fits(totals.saved, more)
+    sum_fits(scan.at, more)
+        && sum_fits(scan.totals.entries, more)
+        && sum_fits(scan.totals.saved, more)
 }
 
 // Whether 64 bits hold the sum of two counts.
+#[tactic(auto, unfolding(crate::specs::Room::sum_fits))]
 fn sum_fits(count: u64, more: u64) -> bool
     ensures { result ≡ sum_fits count more }
 {
@@ -109,47 +142,36 @@ fn sum_fits(count: u64, more: u64) -> bool
 }
 
 // The scan after the bytes too, run by run.
-fn after(scan: Scan, bytes: &[u8]) -> Scan
+fn after(mut scan: Scan, bytes: &[u8]) -> Scan
     requires { has_room scan (length bytes.now) ≡ true }
     ensures { result ≡ scanned scan bytes.now }
 {
-    let mut head = scan.head;
-    let mut at = scan.at;
-    let mut low = scan.low;
-    let mut named = scan.named;
-    let mut totals = scan.totals;
-    let mut hash = scan.hash;
     let mut i: usize = 0;
     while i < bytes.len() {
         let rest = &bytes[i..];
-        let run = next_run(&head, at, low, named, rest);
+        let run = next_run(&scan, rest);
         let n = run.length;
         let taken = &rest[..n];
         i += n;
-        lent_bytes::put(&mut head, at as usize, taken);
-        at += n as u64;
-        named = run.named;
-        if is_whole(&head, at, named) {
-            totals = added(totals, &head);
-            hash = hashed(hash, &head);
-            at = 0;
-            low = 0;
-            named = NameSoFar {
-                allowed: true,
-                dots: true,
-            };
-            continue;
+        let at = scan.at as usize;
+        let head = &mut scan.head;
+        little_endian::put(head, at, taken);
+        scan.at += n as u64;
+        scan.named = run.named;
+        if is_whole(&scan) {
+            let status = entries::status_of(&scan.head);
+            let size = entries::file_size_of(&scan.head);
+            scan.totals.add(status, size);
+            let hash = scan.hash;
+            scan.hash = hashed(hash, &scan.head);
+            scan.at = 0;
+            scan.low = 0;
+            scan.named = NameSoFar::start();
+        } else {
+            scan.low = taken[n - 1];
         }
-        low = taken[n - 1];
     }
-    Scan {
-        head,
-        at,
-        low,
-        named,
-        totals,
-        hash,
-    }
+    scan
 }
 
 // A run: how many bytes of an entry are taken at once, and what is known of its name with them.
@@ -160,29 +182,31 @@ struct Run {
 }
 
 // The run at the front of `rest`: what there is of the entry's first bytes; or of its name, whole units up to its end; or a byte where a unit is cut.
-fn next_run(head: &[u8; 56], at: u64, low: u8, named: NameSoFar, rest: &[u8]) -> Run
-    requires { (0 < length rest.now) × (length head.now ≡ 56) }
-    ensures { IsRun head.now at low named rest.now result }
+fn next_run(scan: &Scan, rest: &[u8]) -> Run
+    requires { (0 < length rest.now) × (length scan.now.head ≡ 56) }
+    ensures { IsRun scan.now.head scan.now.at scan.now.low scan.now.named rest.now result }
 {
+    let at = scan.at;
+    let named = scan.named;
     if at < entries::NAME_AT as u64 {
         return Run {
-            length: lent_bytes::lesser(entries::NAME_AT - at as usize, rest.len()),
+            length: (entries::NAME_AT - at as usize).min(rest.len()),
             named,
         };
     }
     if at % 2 == 1 {
         return Run {
             length: 1,
-            named: with_unit(named, low, rest[0]),
+            named: named.with_unit(scan.low, rest[0]),
         };
     }
     if rest.len() == 1 {
         return Run { length: 1, named };
     }
-    let length = units_to_end(little_endian::read64(head, 0), at, rest.len());
+    let length = units_to_end(little_endian::read64(&scan.head, 0), at, rest.len());
     Run {
         length,
-        named: with_units(named, &rest[..length]),
+        named: named.with_units(&rest[..length]),
     }
 }
 
@@ -203,70 +227,23 @@ fn units_to_end(size: u64, at: u64, left: usize) -> usize
     (to_end + to_end % 2) as usize
 }
 
-// What is known of a name with a run of whole units.
-fn with_units(named: NameSoFar, units: &[u8]) -> NameSoFar
-    ensures { result ≡ name_units named (units_of units.now) }
-{
-    NameSoFar {
-        allowed: named.allowed & entries::units_allowed(units),
-        dots: named.dots & entries::only_dots(units),
-    }
-}
-
-// What is known of a name with a unit of which `low` came before.
-fn with_unit(named: NameSoFar, low: u8, high: u8) -> NameSoFar
-    ensures { result ≡ name_unit named (low + 256 * high) }
-{
-    let unit = low as u16 + 256 * (high as u16);
-    NameSoFar {
-        allowed: named.allowed & entries::unit_allowed(unit),
-        dots: named.dots & entries::is_dot(unit),
-    }
-}
-
-// Whether the name of an entry of `size` bytes is allowed, where all of it came.
-fn name_ended(named: NameSoFar, size: u64) -> bool
-    ensures { result ≡ name_ended named size }
-{
-    named.allowed & !(named.dots & (size <= MAX_DOTS_SIZE))
-}
-
-// The totals with an entry more.
-fn added(totals: Totals, head: &[u8; 56]) -> Totals
-    requires { (totals.entries + 1 < 2 ^ 64) × (totals.saved + 1 < 2 ^ 64) }
-    ensures { result ≡ add_entry totals (status_of head.now) (file_size_of head.now) }
-{
-    let status = little_endian::read64(head, entries::STATUS_AT);
-    let size = little_endian::read64(head, entries::FILE_SIZE_AT);
-    Totals {
-        entries: totals.entries + 1,
-        saved: totals.saved + entries::saved_count(status),
-        greatest: entries::greatest_after(totals.greatest, status, size),
-    }
-}
-
 // The running hash with an entry more.
 fn hashed(hash: Md5, head: &[u8; 56]) -> Md5
     ensures { result ≡ hash_entry hash (status_of head.now) (md5_of head.now) }
 {
-    let status = little_endian::read64(head, entries::STATUS_AT);
-    hashes::with_entry(
-        hash,
-        status,
-        layout::part(head, entries::MD5_AT, layout::HASH_LENGTH),
-    )
+    hashes::with_entry(hash, entries::status_of(head), layout::md5_of(head))
 }
 
-// Whether the entry ends after `at` bytes and keeps every rule.
-fn is_whole(head: &[u8; 56], at: u64, named: NameSoFar) -> bool
-    ensures { result ≡ is_whole head.now at named }
+// Whether the entry at hand ends with the bytes that came, and keeps every rule.
+#[tactic(auto, unfolding(crate::specs::Scan::is_whole))]
+fn is_whole(scan: &Scan) -> bool
+    ensures { result ≡ is_whole scan.now.head scan.now.at scan.now.named }
 {
-    let size = little_endian::read64(head, 0);
-    let file_size = little_endian::read64(head, entries::FILE_SIZE_AT);
-    (size == at)
-        & entries::entry_size_allowed(at, at as usize)
-        & (file_size <= refusals::MAX_FILE_SIZE)
-        & name_ended(named, at)
+    let named = scan.named;
+    little_endian::read64(&scan.head, 0) == scan.at
+        && entries::entry_size_allowed(scan.at, scan.at as usize)
+        && entries::file_size_of(&scan.head) <= refusals::MAX_FILE_SIZE
+        && named.ended(scan.at)
 }
 
 // The rule that an entry breaks of which the list has `at` bytes.
@@ -276,7 +253,7 @@ fn fault_at(head: &[u8; 56], at: u64) -> Fault
     if !entries::entry_size_allowed(little_endian::read64(head, 0), at as usize) {
         return Fault::Size;
     }
-    if little_endian::read64(head, entries::FILE_SIZE_AT) > refusals::MAX_FILE_SIZE {
+    if entries::file_size_of(head) > refusals::MAX_FILE_SIZE {
         return Fault::FileSize;
     }
     Fault::Name

@@ -1,8 +1,9 @@
 -- `list_scan::after` meets its contract. The loop's invariant: the scan so far ends, over the bytes that remain, as the scan before them all,
 -- and its counts have room for them.
 -- Assumes nothing.
-use Rattle.std.proofs.Common.{◌≡◌, ◌+◌, ◌-◌, ◌≤◌, length, take, drop, sym, ap, arith, length-drop, rules}
+use Rattle.std.proofs.Common.{◌≡◌, ◌+◌, ◌-◌, ◌≤◌, length, take, drop, sym, ap, ap₂, ◌∙◌, arith, length-drop, rules}
 use Rattle.lent_bytes.proofs.PartLaws.{part_to_end}
+use Rattle.entries.specs.Walk.{add_entry}
 use Rattle.list_scan.proofs.RunLaws.{kept_start, kept_done, run_fits, run_length, run_ends, run_goes_on}
 use Rattle.list_scan.proofs.after.Goals as goal
 
@@ -24,21 +25,21 @@ overflow_add-i c = omega (arith, (let h : c.loop-i.i + c.next_run-run.result.len
 pub slice_bounds-put-end : goal.slice_bounds-put-end
 slice_bounds-put-end c = sym c.loop-i.invariant.head_size
 
-pub overflow_add-at : goal.overflow_add-at
-overflow_add-at c = omega (arith, (let h : c.loop-i.i + c.next_run-run.result.length ≤ length c.args.bytes.now = run_fits _ _ _ c.loop-i.invariant c.next_run-run.ensures in h), c.loop-i.invariant.room.at_fits)
+pub overflow_add-scan : goal.overflow_add-scan
+overflow_add-scan c = omega (arith, (let h : c.loop-i.i + c.next_run-run.result.length ≤ length c.args.bytes.now = run_fits _ _ _ c.loop-i.invariant c.next_run-run.ensures in h), c.loop-i.invariant.room.at_fits)
 
-pub added-totals-requires : goal.added-totals-requires
-added-totals-requires c = let room = c.loop-i.invariant.room in let some = c.next_run-run.ensures.some in (omega (arith, (let h : c.loop-i.i + c.next_run-run.result.length ≤ length c.args.bytes.now = run_fits _ _ _ c.loop-i.invariant c.next_run-run.ensures in h), some, room.entries_fit), omega (arith, (let h : c.loop-i.i + c.next_run-run.result.length ≤ length c.args.bytes.now = run_fits _ _ _ c.loop-i.invariant c.next_run-run.ensures in h), some, room.saved_fit))
+pub add-requires : goal.add-requires
+add-requires c = let room = c.loop-i.invariant.room in let some = c.next_run-run.ensures.some in (omega (arith, (let h : c.loop-i.i + c.next_run-run.result.length ≤ length c.args.bytes.now = run_fits _ _ _ c.loop-i.invariant c.next_run-run.ensures in h), some, room.entries_fit), omega (arith, (let h : c.loop-i.i + c.next_run-run.result.length ≤ length c.args.bytes.now = run_fits _ _ _ c.loop-i.invariant c.next_run-run.ensures in h), some, room.saved_fit))
 
 pub loop-i-smaller-then-is_whole : goal.loop-i-smaller-then-is_whole
 loop-i-smaller-then-is_whole c = omega (arith, (let h : c.loop-i.i + c.next_run-run.result.length ≤ length c.args.bytes.now = run_fits _ _ _ c.loop-i.invariant c.next_run-run.ensures in h), c.next_run-run.ensures.some)
 
 pub loop-i-preserved-then-is_whole : goal.loop-i-preserved-then-is_whole
-loop-i-preserved-then-is_whole c = run_ends _ _ _ c.loop-i.invariant c.next_run-run.ensures c.put.ensures
-    c.is_whole.ensures c.if-is_whole.true c.added-totals.ensures c.hashed-hash.ensures
+loop-i-preserved-then-is_whole c = rw c.start-scan.ensures (run_ends _ _ _ c.loop-i.invariant c.next_run-run.ensures c.put.ensures
+    c.is_whole.ensures c.if-is_whole.true (c.add.ensures ∙ ap₂ (add_entry c.loop-i.scan.totals) c.status_of-status.ensures c.file_size_of-size.ensures) c.hashed-scan.ensures)
 
-pub overflow_sub-low : goal.overflow_sub-low
-overflow_sub-low c = c.next_run-run.ensures.some
+pub overflow_sub-scan : goal.overflow_sub-scan
+overflow_sub-scan c = c.next_run-run.ensures.some
 
 pub bounds-taken-n : goal.bounds-taken-n
 bounds-taken-n c = omega (arith, (let h : let s = c.args.bytes.now in let n = c.next_run-run.result.length in length (take n (take (length s - c.loop-i.i) (drop c.loop-i.i s))) ≡ n = run_length _ _ _ c.loop-i.invariant c.next_run-run.ensures in h), c.next_run-run.ensures.some)

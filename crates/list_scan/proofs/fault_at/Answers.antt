@@ -13,10 +13,10 @@ pub returns-then-not-entry_size_allowed : goal.returns-then-not-entry_size_allow
 unfolding fault_at
 returns-then-not-entry_size_allowed c = simp (sym c.read64.ensures, sym c.entry_size_allowed.ensures ∙ not-true _ (ap not c.if-not-entry_size_allowed.true))
 
-pub returns-then-read64-gt-MAX_FILE_SIZE : goal.returns-then-read64-gt-MAX_FILE_SIZE
+pub returns-then-file_size_of-gt-MAX_FILE_SIZE : goal.returns-then-file_size_of-gt-MAX_FILE_SIZE
 unfolding fault_at
-returns-then-read64-gt-MAX_FILE_SIZE c = simp ((let h : let a = c.args in fault_at a.head.now a.at ≡ cond (file_size_allowed c.read64-2.result) Name FileSize = simp (sym c.read64.ensures, sym c.entry_size_allowed.ensures ∙ not-false _ (ap not c.if-not-entry_size_allowed.false), sym c.read64-2.ensures) in h), lt-leb _ _ c.if-read64-gt-MAX_FILE_SIZE.true)
+returns-then-file_size_of-gt-MAX_FILE_SIZE c = simp ((let h : let a = c.args in fault_at a.head.now a.at ≡ cond (file_size_allowed c.file_size_of.result) Name FileSize = simp (sym c.read64.ensures, sym c.entry_size_allowed.ensures ∙ not-false _ (ap not c.if-not-entry_size_allowed.false), sym c.file_size_of.ensures) in h), lt-leb _ _ c.if-file_size_of-gt-MAX_FILE_SIZE.true)
 
 pub returns : goal.returns
 unfolding fault_at
-returns c = simp ((let h : let a = c.args in fault_at a.head.now a.at ≡ cond (file_size_allowed c.read64-2.result) Name FileSize = simp (sym c.read64.ensures, sym c.entry_size_allowed.ensures ∙ not-false _ (ap not c.if-not-entry_size_allowed.false), sym c.read64-2.ensures) in h), le-leb _ _ c.if-read64-gt-MAX_FILE_SIZE.false)
+returns c = simp ((let h : let a = c.args in fault_at a.head.now a.at ≡ cond (file_size_allowed c.file_size_of.result) Name FileSize = simp (sym c.read64.ensures, sym c.entry_size_allowed.ensures ∙ not-false _ (ap not c.if-not-entry_size_allowed.false), sym c.file_size_of.ensures) in h), le-leb _ _ c.if-file_size_of-gt-MAX_FILE_SIZE.false)

@@ -1,5 +1,6 @@
 -- `list_scan::found` meets its contract.
 -- Assumes nothing.
+use mathlib.Core.Path.{refl}
 use Rattle.list_scan.specs.Found.{found_of}
 use Rattle.list_scan.proofs.FoundLaws.{found_refused}
 use Rattle.list_scan.proofs.found.Goals as goal
@@ -10,4 +11,4 @@ returns-then-scan-eq0 c = simp c.if-scan-eq0.true
 
 pub returns : goal.returns
 returns c = let sc = c.args.scan in found_refused sc c.if-scan-eq0.false c.fault_at-fault.ensures
-    c.wrapping_add_u64-place.ensures.value c.refusal_at.ensures
+    refl c.at.ensures
