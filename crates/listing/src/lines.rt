@@ -84,10 +84,8 @@ fn put_label(writer: &mut Writer, status: u64, number: u64)
 fn put_name(writer: &mut Writer, name: &[u8])
     ensures { Puts writer.old writer.new (map shown_of (units_of name.now)) }
 {
-    let mut i: usize = 0;
-    while 2 <= name.len() - i {
-        writer.put(shown(little_endian::read16(name, i)));
-        i += 2;
+    for unit in entries::units_of(name) {
+        writer.put(shown(unit));
     }
 }
 
