@@ -7,8 +7,8 @@
 --   again_none, again_end, again_more     the first line that has a listed name again with another sum, entry by entry
 --   line_shaped            each line of a text is of the right shape
 --   again_seen             what the searches for one entry find
---   found_as, seen_sum     the same, from what the code's searches answer
---   named_first, answer_none, answer_first, answer_unfit, answer_over, answer_seen     the byte for an entry, from the first line that names it
+--   fits_as, found_as, seen_sum     the same, from what the code's tests and searches answer
+--   named_first, answer_none, answer_first, answer_unfit, answer_over, answer_byte     the byte for an entry, from the first line that names it
 -- Assumes nothing.
 use mathlib.Core.Path.{◌≡◌, refl, sym, ap, ◌∙◌, subst}
 use mathlib.Core.Bool.{Bool, true, false, cond, not, ◌&&◌, ◌||◌, true≢false, or-true}
@@ -28,7 +28,7 @@ use Rattle.lent_bytes.specs.Equal.{equal}
 use Rattle.lent_bytes.proofs.EqualLaws.{equal-same, equal_true, equal_lengths}
 use Rattle.entries.specs.Entry.{name_of, units_of}
 use Rattle.md5sum_text.specs.Lines.{shaped_length, lines_of, sum_in, name_in}
-use Rattle.md5sum_text.specs.Names.{text_of, is_fitting, sum_of, is_named}
+use Rattle.md5sum_text.specs.Names.{text_of, units_fit, is_fitting, sum_of, is_named}
 use Rattle.md5sum_text.specs.Import.{any, is_listed, has_other, is_again, answer_for}
 use Rattle.md5sum_text.specs.Walks.{Stands, is_other, Sought, Found}
 use Rattle.md5sum_text.specs.declared.lines.Place.{Place}
@@ -214,6 +214,10 @@ module _ (s e : List ℕ) (m : ℕ) (most : m ≤ length (lines_of s).pieces) wh
         pub again_seen : q ≡ first_below m (is_again (e ∷ []) ls)
         again_seen = first_only m (is_again (e ∷ []) ls) q (record { within = next.high; found = found_there; before = none_before })
 
+-- whether the name fits, as the code's test of its units says
+pub fits_as : (e : List ℕ) {name : List ℕ} {b r : Bool} → name ≡ name_of e → b ≡ units_fit (units_of name) → b ≡ r → is_fitting e ≡ r
+fits_as e is test which = ap (λ (n : List ℕ). units_fit (units_of n)) (sym is) ∙ sym test ∙ which
+
 -- the same, as the code's searches answer
 pub found_as : (s e : List ℕ) {name sum : List ℕ} {m : ℕ} {p q : Place} → name ≡ name_of e → Found s name sum m p q
     → Sought (lines_of s).pieces (is_other (name_of e) sum) p.number m q.number
@@ -252,6 +256,12 @@ module _ (s e : List ℕ) (m : ℕ) (all : m ≡ length (lines_of s).pieces) (fi
   pub answer_over : p ≡ m → answer_for (lines_of s).pieces e ≡ 0
   answer_over z = answer_none (lines_of s).pieces e (λ k h. named.before k (omega (arith, all)))
 
-  pub answer_seen : (p ≡ m → ⊥) → answer_for (lines_of s).pieces e ≡ cond (equal (sum_in (get_or (lines_of s).pieces p [])) (sum_of e)) 1 2
+  answer_seen : (p ≡ m → ⊥) → answer_for (lines_of s).pieces e ≡ cond (equal (sum_in (get_or (lines_of s).pieces p [])) (sum_of e)) 1 2
   answer_seen z = let h : p < m = omega (arith, first.high) in
       answer_first (lines_of s).pieces e p (omega (arith, all)) named.before (named.found h)
+
+  -- as the code's comparison says
+  pub answer_byte : {sum : List ℕ} {b r : Bool} → (p ≡ m → ⊥) → sum ≡ sum_in (get_or (lines_of s).pieces p []) → b ≡ equal sum (sum_of e) → b ≡ r
+      → cond r 1 2 ≡ answer_for (lines_of s).pieces e
+  answer_byte z is test which =
+      ap (λ (b : Bool). cond b 1 2) (sym which ∙ test ∙ ap (λ (l : List ℕ). equal l (sum_of e)) is) ∙ sym (answer_seen z)

@@ -61,9 +61,7 @@ fn put_units(writer: &mut Writer, name: &[u8])
     requires { units_fit (units_of name.now) ≡ true }
     ensures { Puts writer.old writer.new (units_of name.now) }
 {
-    let mut i: usize = 0;
-    while 2 <= name.len() - i {
-        writer.put(little_endian::read16(name, i) as u8);
-        i += 2;
+    for unit in entries::units_of(name) {
+        writer.put(unit as u8);
     }
 }

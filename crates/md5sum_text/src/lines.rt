@@ -71,10 +71,8 @@ fn is_other(line: &[u8], name: &[u8], sum: &[u8]) -> bool
     ensures { result ≡ is_other name.now sum.now line.now }
 {
     let length = line.len() - (LINE_NAME_AT + 1);
-    if !names::units_are(name, layout::part(line, LINE_NAME_AT, length)) {
-        return false;
-    }
-    !lent_bytes::same(layout::part(line, 0, SUM_LENGTH), sum)
+    names::units_are(name, layout::part(line, LINE_NAME_AT, length))
+        && !lent_bytes::same(layout::part(line, 0, SUM_LENGTH), sum)
 }
 
 // The length of the line at `at`, which is of the right shape: no byte before its name ends it.
@@ -91,16 +89,18 @@ fn shaped_length(text: &[u8], at: usize) -> usize
 {
     let length = line_length(text, at);
     if is_shaped(layout::part(text, at, length)) {
-        return length;
+        length
+    } else {
+        0
     }
-    0
 }
 
 // Whether a line is of the right shape.
+#[tactic(auto, unfolding(crate::specs::Lines::is_shaped))]
 fn is_shaped(line: &[u8]) -> bool
     ensures { result ≡ is_shaped line.now }
 {
-    (MIN_LINE_LENGTH <= line.len())
-        & text::all_hex_digits(layout::part(line, 0, SUM_LENGTH))
-        & lent_bytes::same(layout::part(line, SUM_LENGTH, 2), b"  ")
+    MIN_LINE_LENGTH <= line.len()
+        && text::all_hex_digits(layout::part(line, 0, SUM_LENGTH))
+        && lent_bytes::same(layout::part(line, SUM_LENGTH, 2), b"  ")
 }

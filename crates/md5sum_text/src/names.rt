@@ -8,36 +8,20 @@ ghost use Rattle.md5sum_text.specs.Names.{unit_fits, units_fit};
 pub(crate) fn units_fit(name: &[u8]) -> bool
     ensures { result ≡ units_fit (units_of name.now) }
 {
-    let mut at: usize = 0;
-    while 2 <= name.len() - at {
-        if !unit_fits(little_endian::read16(name, at)) {
-            return false;
-        }
-        at += 2;
-    }
-    true
+    entries::units_of(name).all(unit_fits)
 }
 
 // Whether a unit fits a line.
 fn unit_fits(unit: u16) -> bool
     ensures { result ≡ unit_fits unit }
 {
-    (32 <= unit) & (unit <= 126)
+    32 <= unit && unit <= 126
 }
 
 // Whether the units of a name are the bytes `text`.
 pub(crate) fn units_are(name: &[u8], text: &[u8]) -> bool
     ensures { result ≡ equal (units_of name.now) text.now }
 {
-    if name.len() / 2 != text.len() {
-        return false;
-    }
-    let mut i: usize = 0;
-    while i < text.len() {
-        if little_endian::read16(name, 2 * i) != text[i] as u16 {
-            return false;
-        }
-        i += 1;
-    }
-    true
+    let bytes = text.iter().map(|byte| u16::from(*byte));
+    entries::units_of(name).eq(bytes)
 }

@@ -87,9 +87,10 @@ fn answer_for(entry: &[u8], text: &[u8], count: u64) -> u8
         return 0;
     }
     if is_sum(layout::part(text, first.at, lines::SUM_LENGTH), entry) {
-        return 1;
+        1
+    } else {
+        2
     }
-    2
 }
 
 // Whether `sum` is the text of the MD5 of an entry's file.

@@ -5,7 +5,6 @@ use mathlib.Core.Bool.{not}
 use mathlib.Core.List.{List}
 use Prim.Native.Nat.{ℕ}
 use native.Mathlib.Omega.{arith}
-use borrow.Author.Tests.{not-true, not-false}
 use Rattle.lent_bytes.specs.Equal.{equal}
 use Rattle.entries.specs.Entry.{units_of}
 use Rattle.md5sum_text.proofs.lines.is_other.Goals as goal
@@ -13,10 +12,11 @@ use Rattle.md5sum_text.proofs.lines.is_other.Goals as goal
 pub overflow_sub-length : goal.overflow_sub-length
 overflow_sub-length c = omega (arith, c.requires)
 
-pub returns-then-not-units_are : goal.returns-then-not-units_are
-returns-then-not-units_are c = let u = c.units_are in let name = c.args.name.now in let same = sym (u.ensures ∙ ap (equal (units_of name)) c.part.ensures) ∙ not-true u.result (ap not c.if-not-units_are.true) in
-    simp same
+pub returns-then-units_are : goal.returns-then-units_are
+returns-then-units_are c = let a = c.args in
+    let named = sym (c.units_are.ensures ∙ ap (equal (units_of a.name.now)) c.part.ensures) ∙ c.if-units_are.true in
+    simp named (ap not (c.same.ensures ∙ ap (λ (l : List ℕ). equal l a.sum.now) c.part-then-units_are.ensures))
 
-pub returns : goal.returns
-returns c = let u = c.units_are in let a = c.args in let same = sym (u.ensures ∙ ap (equal (units_of a.name.now)) c.part.ensures) ∙ not-false u.result (ap not c.if-not-units_are.false) in
-    simp same (ap not (c.same.ensures ∙ ap (λ (l : List ℕ). equal l a.sum.now) c.part-2.ensures))
+pub returns-else-units_are : goal.returns-else-units_are
+returns-else-units_are c =
+    let named = sym (c.units_are.ensures ∙ ap (equal (units_of c.args.name.now)) c.part.ensures) ∙ c.if-units_are.false in simp named c.if-units_are.false
