@@ -16,14 +16,15 @@ const LINE_NAME_AT: usize = 34;
 // The shortest line: sum, two spaces, one byte of name, byte 10.
 const MIN_LINE_LENGTH: usize = 36;
 
-// The lines of the right shape that a text begins with: how many there are, and where they end.
+// The lines of the right shape that a text begins with: how many there are, and where they end. An iterator of lines would count them, but not say
+// where the last one ends.
 #[derive(Clone, Copy)]
 pub struct Shapes {
     pub count: u64,
     pub end: usize,
 }
 
-// A line of a text: its number, from 0, and where it stands.
+// A line of a text: its number, from 0, and where it stands. A search answers with one, since the next search goes on from there.
 #[derive(Clone, Copy)]
 pub struct Place {
     pub number: u64,
