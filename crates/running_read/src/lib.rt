@@ -1,12 +1,12 @@
 // Reading of a Par 1.0 file that comes in chunks (document 02, 2026-03: "Logs too long to hold").
 #![tactic(auto)]
 
-ghost use Rattle.std.specs.Prelude.{◌≡◌, ◌-◌, ◌≤◌, take, drop};
+ghost use Rattle.std.specs.Prelude.{◌≡◌, ◌+◌, ◌-◌, ◌*◌, ◌≤◌, leb, take, drop};
 ghost use Rattle.running_read.specs.Running.{cap, start_read, counts_of, is_open, push_of, reading_of, over_of, push_answer, end_answer};
 
-use par1_read::Parts;
 use list_scan::Scan;
 use md5_digest::Md5;
+use par1_read::Parts;
 use par1_rules::layout;
 use refusals::{JOB, MAX_VOLUME_LENGTH, Refusal};
 
@@ -55,13 +55,11 @@ struct Counts {
 pub fn start() -> RunningRead
     ensures { result ≡ start_read }
 {
-    let control = Md5::new();
-    let list = list_scan::start();
     RunningRead {
         total: 0,
         header: [0u8; 96],
-        control,
-        list,
+        control: Md5::new(),
+        list: list_scan::start(),
         ended: false,
     }
 }
@@ -102,61 +100,43 @@ pub fn end(job: RunningRead) -> Ended
 pub fn over(job: RunningRead) -> RunningRead
     ensures { result ≡ over_of job }
 {
-    let header = job.header;
-    let control = job.control;
-    let list = job.list;
-    RunningRead {
-        total: job.total,
-        header,
-        control,
-        list,
-        ended: true,
-    }
+    RunningRead { ended: true, ..job }
 }
 
 // What a job counts.
 fn counts_of(job: RunningRead) -> Counts
     ensures { result ≡ counts_of job }
 {
-    let control = job.control;
-    let list = job.list;
-    let totals = list.totals;
-    let hash = list.hash;
     Counts {
         total: job.total,
-        control: control.total,
-        at: list.at,
-        entries: totals.entries,
-        saved: totals.saved,
-        set: hash.total,
+        control: job.control.total,
+        at: job.list.at,
+        entries: job.list.totals.entries,
+        saved: job.list.totals.saved,
+        set: job.list.hash.total,
         ended: job.ended,
     }
 }
 
 // Whether a job with these counts goes on: it is not over, and some run of pushes gives them.
+#[tactic(auto, unfolding(crate::specs::Running::is_open, crate::specs::Running::cap))]
 fn is_open(counts: Counts) -> bool
     ensures { result ≡ is_open counts }
 {
-    if counts.ended {
-        return false;
-    }
-    if counts.total > CAP {
-        return false;
-    }
-    if counts.control != less(counts.total, layout::SET_HASH_AT as u64) {
-        return false;
-    }
-    let room = less(counts.total, layout::LIST_START);
-    if counts.at > room {
-        return false;
-    }
-    if counts.entries > (room - counts.at) / entries::MIN_ENTRY_SIZE {
-        return false;
-    }
-    if counts.saved > counts.entries {
-        return false;
-    }
-    counts.set == layout::HASH_LENGTH as u64 * counts.saved
+    let room = counts.total.saturating_sub(layout::LIST_START);
+    !counts.ended
+        && counts.total <= CAP
+        && counts.control == counts.total.saturating_sub(layout::SET_HASH_AT as u64)
+        && entries_fit(counts.at, counts.entries, room)
+        && counts.saved <= counts.entries
+        && counts.set == layout::HASH_LENGTH as u64 * counts.saved
+}
+
+// Whether `room` bytes of a list hold so many entries and `at` bytes of the next one.
+fn entries_fit(at: u64, entries: u64, room: u64) -> bool
+    ensures { result ≡ leb (at + 58 * entries) room }
+{
+    at <= room && entries <= (room - at) / entries::MIN_ENTRY_SIZE
 }
 
 // The job after the bytes too.
@@ -165,7 +145,7 @@ fn extended(job: RunningRead, bytes: &[u8]) -> RunningRead
     ensures { result ≡ push_of job bytes.now }
 {
     let total = job.total;
-    let taken = layout::part(bytes, 0, less(CAP, total) as usize);
+    let taken = layout::part(bytes, 0, CAP.saturating_sub(total) as usize);
     let mut header = job.header;
     lent_bytes::put(&mut header, total as usize, taken);
     let list_size = little_endian::read64(&header, layout::LIST_SIZE_AT);
@@ -184,7 +164,7 @@ fn extended(job: RunningRead, bytes: &[u8]) -> RunningRead
 fn hashed_in(bytes: &[u8], total: u64) -> &[u8]
     ensures { result.now ≡ drop (32 - total) bytes.now }
 {
-    let from = less(layout::SET_HASH_AT as u64, total);
+    let from = (layout::SET_HASH_AT as u64).saturating_sub(total);
     layout::part(bytes, from as usize, bytes.len())
 }
 
@@ -192,8 +172,8 @@ fn hashed_in(bytes: &[u8], total: u64) -> &[u8]
 fn listed_in(bytes: &[u8], total: u64, size: u64) -> &[u8]
     ensures { result.now ≡ take (size - (total - 96)) (drop (96 - total) bytes.now) }
 {
-    let from = less(layout::LIST_START, total);
-    let left = less(size, less(total, layout::LIST_START));
+    let from = layout::LIST_START.saturating_sub(total);
+    let left = size.saturating_sub(total.saturating_sub(layout::LIST_START));
     layout::part(bytes, from as usize, left as usize)
 }
 
@@ -213,11 +193,4 @@ fn reading_of(job: RunningRead) -> Result<Parts, Refusal>
         &set,
         list_scan::found(list),
     )
-}
-
-// `a` less `b`, 0 where b is more.
-fn less(a: u64, b: u64) -> u64
-    ensures { result ≡ a - b }
-{
-    if a < b { 0 } else { a - b }
 }

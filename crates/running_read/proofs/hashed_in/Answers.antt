@@ -10,5 +10,5 @@ use Rattle.running_read.proofs.hashed_in.Goals as goal
 
 pub returns : goal.returns
 returns c = let a = c.args in let s : List ℕ = a.bytes.now in
-    c.part.ensures ∙ ap (λ (k : ℕ). take (length s) (drop k s)) c.less-from.ensures
+    c.part.ensures ∙ ap (λ (k : ℕ). take (length s) (drop k s)) c.saturating_sub-from.ensures
     ∙ take_all (length s) (drop (32 - a.total) s) (omega (arith, length-drop (32 - a.total) s))
