@@ -3,15 +3,13 @@
 --   length-md5, length-set_hash    a hash is 16 bytes
 --   pushed_over h es   the running hash h after the entries es
 --   set-start         from no bytes at all, its end is the set hash
---   hash_part         the part of a list that is the hash of the entry at a position
 --   set_more, set-none    an entry more; no entry more
 -- Assumes nothing.
 use mathlib.Core.Path.{◌≡◌, refl, sym, ap, ◌∙◌}
 use mathlib.Core.Bool.{Bool, true, false, cond}
 use mathlib.Core.List.{List, [], ◌∷◌, ◌++◌, append_assoc, append-nil, map, flatten}
-use Prim.Native.Nat.{ℕ, ◌+◌, ◌≤◌}
+use Prim.Native.Nat.{ℕ}
 use lib.ListN.{length, take, drop}
-use lib.Seq.{drop-drop}
 use Rattle.md5_digest.specs.declared.Md5.{Md5}
 use Rattle.md5_digest.specs.Digest.{md5}
 use Rattle.md5_digest.specs.Running.{state_of, pushed, finished}
@@ -23,7 +21,6 @@ use Rattle.entries.specs.Walk.{entries_of}
 use Rattle.entries.proofs.EntryLaws.{IsEntry}
 use Rattle.entries.proofs.WalkLaws.{entries_more}
 use Rattle.par1_rules.specs.Hashes.{set_hash, hash_entry}
-use Rattle.lent_bytes.proofs.PartLaws.{part_take}
 
 pub length-md5 : (m : List ℕ) → length (md5 m) ≡ 16
 unfolding md5
@@ -74,7 +71,3 @@ module _ (h : Md5) where
   pub set-none : {es : List (List ℕ)} → es ≡ [] → pushed_over h es ≡ h
   unfolding pushed_over
   set-none e = simp e
-
--- the part of a list that is the hash of the entry there
-pub hash_part : (s : List ℕ) (at n : ℕ) → 40 ≤ n → take 16 (drop (at + 24) s) ≡ md5_of (take n (drop at s))
-hash_part s at n h = ap (take 16) (sym (drop-drop 24 at s)) ∙ sym (part_take 24 16 n (drop at s) h)

@@ -2,8 +2,6 @@
 --
 --   Open c        the counts c of a job that goes on, in numbers
 --   open_tells    the test tells them
---   open_not      where they do not hold, the test fails
---   open_set      where all but the last hold, the last decides
 --   is_open_lem       where they hold, the test passes
 --   tested        the test, as the code makes it
 --   open_short, open_few    a job that goes on has at most the cap of bytes, and of entries
@@ -14,7 +12,7 @@ use Prim.Native.Nat.{◌+◌, ◌-◌, ◌*◌, ◌≤◌}
 use native.Mathlib.Omega.{arith}
 use lib.Dec.{leb, eqb}
 use borrow.Author.Tests.{not-true, leb-true, eqb-true, eq-eqb, le-leb}
-use Rattle.computed_tests.proofs.Tests.{test_fails, and_both}
+use Rattle.computed_tests.proofs.Tests.{and_both}
 use Rattle.running_read.specs.declared.Counts.{Counts}
 use Rattle.running_read.specs.declared.RunningRead.{RunningRead}
 use Rattle.running_read.specs.Running.{cap, counts_of, is_open}
@@ -44,10 +42,7 @@ module _ (c : Counts) where
         set_is = eqb-true _ _ five.1;
       }
 
-  pub open_not : (Open c → ⊥) → is_open c ≡ false
-  open_not h = test_fails (is_open c) (λ e. h (open_tells e))
-
-  pub open_set : c.ended ≡ false → c.total ≤ cap → c.control ≡ c.total - 32 → c.at + 58 * c.entries ≤ c.total - 96
+  open_set : c.ended ≡ false → c.total ≤ cap → c.control ≡ c.total - 32 → c.at + 58 * c.entries ≤ c.total - 96
       → c.saved ≤ c.entries → is_open c ≡ eqb c.set (16 * c.saved)
   unfolding is_open
   open_set a b d e f = simp (a, le-leb _ _ b, eq-eqb _ _ d, le-leb _ _ e, le-leb _ _ f)
