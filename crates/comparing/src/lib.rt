@@ -15,7 +15,7 @@ mod scan;
 
 use par1_read::Parts;
 use par1_rules::layout::{HEADER_LENGTH, part};
-use refusals::{Refusal, bare};
+use refusals::Refusal;
 use text::Writer;
 
 // A line for each difference of the files `one` and `two` over the first bytes of `out`, and their length; or 14, and nothing written, where
@@ -25,17 +25,10 @@ pub fn compare(one: &[u8], two: &[u8], out: &mut [u8]) -> Result<usize, Refusal>
 {
     let first = par1_read::read(one);
     let second = par1_read::read(two);
-    let mut measured = Writer::new(&mut out[..0]);
-    put_comparison(&mut measured, one, two, first, second);
-    let length = measured.position();
-    if length == 0 {
-        return Ok(0);
-    }
-    if length <= out.len() {
-        put_comparison(&mut Writer::new(out), one, two, first, second);
-        return Ok(length);
-    }
-    Err(bare(refusals::NO_ROOM))
+    text::written_by(
+        out,
+        |writer| put_comparison(writer, one, two, first, second),
+    )
 }
 
 // The lines on two files that read as `first` and `second`.

@@ -30,19 +30,12 @@ pub fn list_input(input: &[u8], out: &mut [u8]) -> Result<usize, Refusal>
     list_as(input, Err(bare(refusals::SIZE)), out)
 }
 
-// The listing of a file that reads as `reading`: measured, and written where it fits.
+// The listing of a file that reads as `reading`, written where it fits.
 fn list_as(file: &[u8], reading: Result<Parts, Refusal>, out: &mut [u8]) -> Result<usize, Refusal>
     requires { ListIn reading file.now }
     ensures { (result, out.new) ≡ written (listing_by reading file.now) out.old }
 {
-    let mut measured = Writer::new(&mut out[..0]);
-    put_listing(&mut measured, file, reading);
-    let length = measured.position();
-    if length <= out.len() {
-        put_listing(&mut Writer::new(out), file, reading);
-        return Ok(length);
-    }
-    Err(bare(refusals::NO_ROOM))
+    text::written_by(out, |writer| put_listing(writer, file, reading))
 }
 
 // The listing of a file that reads as `reading`.

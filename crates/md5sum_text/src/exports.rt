@@ -10,7 +10,7 @@ ghost use Rattle.md5sum_text.specs.Export.{line_for, export_text, all_fitting};
 use crate::names::units_fit;
 use par1_rules::layout;
 use par1_rules::layout::name_of;
-use refusals::{Refusal, bare};
+use refusals::Refusal;
 use text::Writer;
 
 // Whether the name of each entry of `list` fits a line.
@@ -20,19 +20,12 @@ pub(crate) fn all_fitting(list: &[u8]) -> bool
     entries::of(list).all(|entry| units_fit(name_of(entry)))
 }
 
-// The lines of the entries of `list`, measured, and written where they fit.
+// The lines of the entries of `list`, written where they fit.
 pub(crate) fn export_list(list: &[u8], out: &mut [u8]) -> Result<usize, Refusal>
     requires { all_fitting (entries_of list.now).pieces ≡ true }
     ensures { (result, out.new) ≡ written (export_text (entries_of list.now).pieces) out.old }
 {
-    let mut measured = Writer::new(&mut out[..0]);
-    put_lines(&mut measured, list);
-    let length = measured.position();
-    if length <= out.len() {
-        put_lines(&mut Writer::new(out), list);
-        return Ok(length);
-    }
-    Err(bare(refusals::NO_ROOM))
+    text::written_by(out, |writer| put_lines(writer, list))
 }
 
 // The lines of the entries of `list`.

@@ -4,9 +4,11 @@
 ghost use Rattle.std.specs.Prelude.{◌≡◌};
 ghost use Rattle.text.specs.Hex.{is_hex_digit, all_hex_digits};
 
+mod fitting;
 mod scan;
 mod writer;
 
+pub use fitting::written_by;
 pub use scan::{is_decimal, line_length, value_of, word_length};
 pub use writer::Writer;
 
