@@ -4,9 +4,9 @@ ghost use Rattle.std.specs.Prelude.{◌≡◌};
 ghost use Rattle.catalog.specs.Calls.{open_of, add_of, drop_of, load_of};
 ghost use Rattle.par1_c.specs.Answers.{answered_length, answered_rows, filled_count, load_plan};
 
-use refusals::Refusal;
 use crate::{answer, length_told};
 use catalog::Row;
+use refusals::Refusal;
 
 // What a load answers, and how many records it fills.
 #[derive(Clone, Copy)]
