@@ -1,6 +1,7 @@
 // Replays the log of arrivals on standard input (document 02, 2026-11): thin over the crate `replay`, one line at a time.
 #![tactic(auto)]
 
+use inventory::Inventory;
 use refusals::MAX_LISTED_LENGTH;
 use replay::Writer;
 use std::io::{self, Write};
@@ -17,25 +18,19 @@ fn main(rt: HostRuntime) -> io::Result<()> {
 
 // Prints the lines of a replay, one after another (crate replay, specs/Claim, `LinesJoined`).
 fn replay_log(log: &[u8], out: &mut impl Write) -> io::Result<()> {
-    let opened = replay::open(log);
-    if opened.over {
-        return print(out, opened);
-    }
-    let mut from = opened.from;
-    let mut inventory = opened.inventory;
-    loop {
-        let event = replay::next(log, from, inventory);
-        print(out, event)?;
-        if event.over {
-            return Ok(());
+    match replay::open(log) {
+        Ok(replay) => {
+            for event in replay {
+                print(out, event)?;
+            }
+            Ok(())
         }
-        from = event.from;
-        inventory = event.inventory;
+        Err(number) => print(out, Err(number)),
     }
 }
 
-// Prints the line after an event.
-fn print(out: &mut impl Write, event: replay::Event) -> io::Result<()> {
+// Prints the line after an event, or the refusal of a first line.
+fn print(out: &mut impl Write, event: Result<Inventory, u32>) -> io::Result<()> {
     let mut line = [0u8; LINE_ROOM];
     let mut writer = Writer::new(&mut line);
     replay::put_line(&mut writer, event);

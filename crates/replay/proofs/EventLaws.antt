@@ -3,24 +3,26 @@
 --   change_other            the change of any other letter
 --   event_short, event_long     a line of fewer than three characters is no event
 --   part_body               the part of a log that is a line without its byte 10
---   opening_long, opening-none, opening_shape, opening_opens, opening_of     the cases of the first line
---   opened_as, taken_as     what an opening and a change give, by their outcomes
+--   opening_long, opening-none, opening_shape, opening_opens, opening_goes, opening_refused     the cases of the first line
+--   told_kept, told_refused, before_kept     what is told of a change, by its outcome
+--   gives_as, ends_at, goes_on_at     what a replay gives, by the event
 --   next_end, next_unended, next_shape, next-taken     the cases of an event
+--   inside_log, next_other, next_here     the same by the line as the code cuts it
 -- Assumes nothing.
-use mathlib.Core.Path.{◌≡◌, refl, sym, ap, ◌∙◌, subst}
+use mathlib.Core.Path.{◌≡◌, refl, sym, ap, ap₂, ◌∙◌, subst}
 use mathlib.Core.Logic.{◌≢◌}
-use mathlib.Core.Bool.{Bool, true, false, cond, ◌&&◌, and-false, false≢true}
+use mathlib.Core.Bool.{Bool, true, false, cond, ◌&&◌, and-false, true≢false, false≢true}
 use mathlib.Core.List.{List, [], ◌∷◌}
 use Prim.Native.Nat.{ℕ, ◌+◌, ◌-◌, ◌≤◌, ◌<◌}
 use native.Mathlib.Omega.{arith}
 use native.Mathlib.Decide.{dec_lt}
 use lib.Dec.{eqb}
-use lib.ListN.{length, get_or, take, drop}
+use lib.ListN.{length, get_or, take, drop, length-drop}
 use lib.Seq.{length-take-le}
 use borrow.Author.Tests.{le-leb, lt-leb, ne_eqb, eq-eqb, eqb-true}
 use Rattle.lent_bytes.proofs.PartLaws.{part_take}
 use Rattle.codes.specs.declared.Code.TheVariants.{Powers}
-use Rattle.std.specs.Prelude.{Result, Ok, Err, MatchResult}
+use Rattle.std.specs.Prelude.{Option, Some, Result, Ok, Err}
 use Rattle.inventory.specs.Model.{Change, remove_volume}
 use Rattle.inventory.specs.Outcome.{Outcome}
 use Rattle.inventory.proofs.Outcomes.{returned}
@@ -30,9 +32,10 @@ use Rattle.text.specs.Decimal.{is_decimal}
 use Rattle.text.specs.TextLines.{line_length}
 use Rattle.text.proofs.ScanLaws.{line_most}
 use Rattle.replay.specs.Log.{body_of, is_first_line, numbers_of, is_letter, change_of, is_event_line, number_in}
-use Rattle.replay.specs.Events.{ended, opened_by, opening, last, taken, next_event}
+use Rattle.replay.specs.Events.{ended, opened_by, opening, last, taken, next_event, told, GoesOn, Gives}
 use Rattle.replay.specs.FirstLine.{opened_line}
-use Rattle.replay.specs.declared.events.Event.{Event}
+use Rattle.replay.specs.Event.{Event}
+use Rattle.replay.specs.declared.events.Replay.{Replay}
 
 -- ---- the line of an event
 
@@ -56,33 +59,56 @@ event_long l e =
 
 -- ---- what is handed back
 
-pub opened_as : (o : Outcome) (from : ℕ) {e : Event} {q : Result Inventory ℕ} → q ≡ returned o
-    → MatchResult q (λ s. e ≡ taken from (outcome s 0)) (λ k. e ≡ ended k) → e ≡ opened_by from o
-unfolding opened_by
-opened_as o from {e} is h =
-    go (eqb o.number 0) refl (subst (λ (q : Result Inventory ℕ). MatchResult q (λ s. e ≡ taken from (outcome s 0)) (λ k. e ≡ ended k)) is h)
-  where
-    go : (b : Bool) → eqb o.number 0 ≡ b
-        → MatchResult (cond b (Ok o.next) (Err o.number)) (λ s. e ≡ taken from (outcome s 0)) (λ k. e ≡ ended k)
-        → e ≡ cond b (taken from o) (ended o.number)
-    go true z h = h ∙ ap (λ (k : ℕ). taken from (outcome o.next k)) (sym (eqb-true o.number 0 z))
-    go false z h = h
+module _ (o : Outcome) (from : ℕ) where
+  opened_ok : {t : Inventory} → Ok t ≡ returned o → taken from (outcome t 0) ≡ opened_by from o
+  unfolding opened_by
+  opened_ok {t} is = go (eqb o.number 0) refl is
+    where
+      go : (b : Bool) → eqb o.number 0 ≡ b → Ok t ≡ cond b (Ok o.next) (Err o.number) → taken from (outcome t 0) ≡ cond b (taken from o) (ended o.number)
+      go true z is = let same : t ≡ o.next = cc in ap₂ (λ (t : Inventory) (k : ℕ). taken from (outcome t k)) same (sym (eqb-true o.number 0 z))
+      go false z is = absurd (cc)
 
-pub taken_as : (c : Change) (s : Inventory) (k from : ℕ) {e : Event} {q : Result Inventory ℕ} → q ≡ returned (change_step c s k)
-    → MatchResult q (λ t. e ≡ taken from (outcome t 0)) (λ n. e ≡ taken from (outcome s n)) → e ≡ taken from (change_step c s k)
+  opened_err : {k : ℕ} → Err k ≡ returned o → ended k ≡ opened_by from o
+  unfolding opened_by
+  opened_err {k} is = go (eqb o.number 0) is
+    where
+      go : (b : Bool) → Err k ≡ cond b (Ok o.next) (Err o.number) → ended k ≡ cond b (taken from o) (ended o.number)
+      go true is = absurd (cc)
+      go false is = let same : k ≡ o.number = cc in ap ended same
+
+  pub told_kept : {t : Inventory} → Ok t ≡ returned o → (Some (Ok t) ≡ told (taken from o)) × (t ≡ o.next)
+  told_kept {t} is = go (eqb o.number 0) is
+    where
+      go : (b : Bool) → Ok t ≡ cond b (Ok o.next) (Err o.number) → (Some (Ok t) ≡ cond b (Some (Ok o.next)) (Some (Err o.number))) × (t ≡ o.next)
+      go true is = let same : t ≡ o.next = cc in (ap (λ (s : Inventory). Some (Ok s)) same, same)
+      go false is = absurd (cc)
+
+  pub told_refused : {k : ℕ} → Err k ≡ returned o → Some (Err k) ≡ told (taken from o)
+  told_refused {k} is = go (eqb o.number 0) is
+    where
+      go : (b : Bool) → Err k ≡ cond b (Ok o.next) (Err o.number) → Some (Err k) ≡ cond b (Some (Ok o.next)) (Some (Err o.number))
+      go true is = absurd (cc)
+      go false is = ap Some is
+
+-- a refusal leaves what was present
+pub before_kept : (c : Change) (s : Inventory) (k : ℕ) {n : ℕ} → Err n ≡ returned (change_step c s k) → s ≡ (change_step c s k).next
 unfolding change_step
-taken_as c s k from {e} is h =
-    go (eqb (change_step c s k).number 0) refl
-    (subst (λ (q : Result Inventory ℕ). MatchResult q (λ t. e ≡ taken from (outcome t 0)) (λ n. e ≡ taken from (outcome s n))) is h)
+before_kept c s k {n} is = go (eqb (change_step c s k).number 0) is
   where
-    n : ℕ
-    n = (change_step c s k).number
+    go : (b : Bool) → Err n ≡ cond b (Ok (cond b (after_change c s k) s)) (Err (change_step c s k).number) → s ≡ cond b (after_change c s k) s
+    go true is = absurd (cc)
+    go false is = refl
 
-    go : (b : Bool) → eqb n 0 ≡ b
-        → MatchResult (cond b (Ok (cond b (after_change c s k) s)) (Err n)) (λ t. e ≡ taken from (outcome t 0)) (λ n. e ≡ taken from (outcome s n))
-        → e ≡ taken from (outcome (cond b (after_change c s k) s) n)
-    go true z h = h ∙ ap (λ (m : ℕ). taken from (outcome (after_change c s k) m)) (sym (eqb-true n 0 z))
-    go false z h = h
+-- what a replay gives, by the event
+pub gives_as : (r : Replay) {t : Option (Result Inventory ℕ)} {r' : Replay} {e : Event} → e ≡ next_event r.log.now r.from r.inventory
+    → (t ≡ told e) × GoesOn r.log.now e r' → Gives r t r'
+gives_as r {t} {r'} z h = subst (λ (e : Event). (t ≡ told e) × GoesOn r.log.now e r') z h
+
+pub ends_at : (log : List ℕ) (k from : ℕ) (r : Replay) → r.log.now ≡ log → length log ≤ r.from → GoesOn log (last k from r.inventory) r
+ends_at log k from r z h = record { same = z; present = refl; more = λ o. absurd (true≢false o); no_more = λ _. h }
+
+pub goes_on_at : (log : List ℕ) (o : Outcome) (r : Replay) → r.log.now ≡ log → r.inventory ≡ o.next → GoesOn log (taken r.from o) r
+goes_on_at log o r z i = record { same = z; present = i; more = λ _. refl; no_more = λ o. absurd (false≢true o) }
 
 -- ---- a line of a log
 
@@ -102,8 +128,11 @@ module _ (log : List ℕ) where
   abbrev first : List ℕ
   first = body_of (take (line_length log) log)
 
+  abbrev o : Outcome
+  o = open_step Powers (get_or (numbers_of first) 0 0) (drop 1 (numbers_of first))
+
   abbrev first_opens : Event
-  first_opens = opened_by (line_length log) (open_step Powers (get_or (numbers_of first) 0 0) (drop 1 (numbers_of first)))
+  first_opens = opened_by (line_length log) o
 
   pub opening_long : 65536 < length log → ended 1 ≡ opening log
   unfolding opening
@@ -127,19 +156,21 @@ module _ (log : List ℕ) where
       pub opening_opens : is_first_line first ≡ true → first_opens ≡ opening log
       opening_opens e = sym (ended_line ∙ ap (λ (b : Bool). cond b first_opens (ended 28)) e)
 
-      pub opening_of : (n : ℕ) {e : Event} {q : Result Inventory ℕ} → n ≡ line_length log → q ≡ opened_line first
-          → MatchResult q (λ s. e ≡ taken n (outcome s 0)) (λ k. e ≡ ended k) → e ≡ opening log
+      pub opening_goes : (from : ℕ) {s : Inventory} → from ≡ line_length log → Ok s ≡ opened_line first → taken from (outcome s 0) ≡ opening log
       unfolding opened_line
-      opening_of n {e} z is m =
-          go (is_first_line first) refl (subst (λ (q : Result Inventory ℕ). MatchResult q (λ s. e ≡ taken n (outcome s 0)) (λ k. e ≡ ended k)) is m)
+      opening_goes from {s} z is = go (is_first_line first) refl is
         where
-          o : Outcome
-          o = open_step Powers (get_or (numbers_of first) 0 0) (drop 1 (numbers_of first))
+          go : (b : Bool) → is_first_line first ≡ b → Ok s ≡ cond b (returned o) (Err 28) → taken from (outcome s 0) ≡ opening log
+          go true f is = opened_ok o from is ∙ ap (λ (k : ℕ). opened_by k o) z ∙ opening_opens f
+          go false f is = absurd (cc)
 
-          go : (b : Bool) → is_first_line first ≡ b
-              → MatchResult (cond b (returned o) (Err 28)) (λ s. e ≡ taken n (outcome s 0)) (λ k. e ≡ ended k) → e ≡ opening log
-          go true f m = opened_as o n refl m ∙ ap (λ (k : ℕ). opened_by k o) z ∙ opening_opens f
-          go false f m = m ∙ opening_shape f
+      pub opening_refused : {k : ℕ} → Err k ≡ opened_line first → opening log ≡ ended k
+      unfolding opened_line
+      opening_refused {k} is = go (is_first_line first) refl is
+        where
+          go : (b : Bool) → is_first_line first ≡ b → Err k ≡ cond b (returned o) (Err 28) → opening log ≡ ended k
+          go true f is = sym (opened_err o (line_length log) is ∙ opening_opens f)
+          go false f is = let same : k ≡ 28 = cc in sym (ap ended same ∙ opening_shape f)
 
 -- ---- an event
 
@@ -176,3 +207,28 @@ module _ (log : List ℕ) (from : ℕ) (s : Inventory) where
 
       pub next-taken : is_event_line line ≡ true → takes ≡ next_event log from s
       next-taken e = sym (ended_event ∙ ap (λ (b : Bool). cond b takes (last 28 from s)) e)
+
+-- the line at hand, which is ended, as the code cuts it
+module _ (log : List ℕ) (from n : ℕ) (e : n ≡ line_length (drop from log)) (h : from < length log) where
+  pub inside_log : from + n ≤ length log
+  inside_log = omega (arith, e, line_most (drop from log), length-drop from log, h)
+
+  module _ (q : n ≢ 0) where
+    abbrev at_hand : List ℕ
+    at_hand = take (from + n - 1 - from) (drop from log)
+
+    unended : line_length (drop from log) ≢ 0
+    unended z = q (e ∙ z)
+
+    body : at_hand ≡ body_of (take (line_length (drop from log)) (drop from log))
+    body = let z = unended in ap (λ (m : ℕ). take (from + m - 1 - from) (drop from log)) e ∙ part_body log from (omega (arith, h)) (omega (arith, z))
+
+    pub next_other : (s : Inventory) → is_event_line at_hand ≡ false → last 28 from s ≡ next_event log from s
+    next_other s t = next_shape log from s h unended (sym (ap is_event_line body) ∙ t)
+
+    pub next_here : (s : Inventory) → is_event_line at_hand ≡ true
+        → taken (from + n - 1 + 1) (change_step (change_of (get_or at_hand 0 0)) s (number_in at_hand)) ≡ next_event log from s
+    next_here s t = let z = unended in
+        ap₂ (λ (k : ℕ) (w : List ℕ). taken k (change_step (change_of (get_or w 0 0)) s (number_in w)))
+        (let k : from + n - 1 + 1 ≡ from + line_length (drop from log) = omega (arith, e, z) in k) body
+        ∙ next-taken log from s h unended (sym (ap is_event_line body) ∙ t)

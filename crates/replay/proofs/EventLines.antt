@@ -4,6 +4,8 @@
 --   line_none, line_files       that of an inventory which no calls give, and of any other
 --   set-none, set_files         the same by the set that `recoverable_files` promises
 --   set_denied, set_kept        and by what it returns
+--   told-none, told_number      the end of the log, and a refusal, by what is told
+--   line_kept, line_denied, line_told     the line of an event, by what is told
 --   line_there                  so each event has one
 -- Assumes nothing.
 use mathlib.Core.Path.{◌≡◌, refl, sym, ap, ◌∙◌, subst}
@@ -14,18 +16,19 @@ use Prim.Native.Nat.{ℕ}
 use native.Mathlib.Omega.{arith}
 use native.Mathlib.Decide.{ℕ_discrete}
 use lib.Dec.{eqb}
-use borrow.Author.Tests.{eqb-true, eq-eqb}
-use Rattle.std.specs.Prelude.{Ok, Err}
+use borrow.Author.Tests.{eqb-true, eq-eqb, ne_eqb}
+use Rattle.std.specs.Prelude.{None, Some, Ok, Err}
 use Rattle.number_sets.specs.Sets.{member}
 use Rattle.parity.specs.Coefficient.{rule_of}
 use Rattle.parity.proofs.Coefficients.{rule_byte}
 use Rattle.inventory.specs.Steps.{is_inventory, or_refusal}
 use Rattle.inventory.specs.RecoverableFiles.{RecoverableFiles, RecoverableSet}
+use Rattle.inventory.specs.declared.Inventory.{Inventory}
 use Rattle.inventory.proofs.RecoverableSets.{set_there}
 use Rattle.inventory.proofs.RecoverableAnswers.{one_set}
 use Rattle.replay.specs.Lines.{refused_line, files_of, numbers_line}
-use Rattle.replay.specs.Events.{EventLine, at_end, refused, no_inventory, files}
-use Rattle.replay.specs.declared.events.Event.{Event}
+use Rattle.replay.specs.Events.{told, EventLine, at_end, refused, no_inventory, files}
+use Rattle.replay.specs.Event.{Event}
 
 module _ (e : Event) where
   pub line_refused : (line : List ℕ) → EventLine rule_of e line → e.number ≢ 0 → line ≡ refused_line e.number
@@ -87,6 +90,58 @@ module _ (e : Event) (z : e.number ≡ 0) (o : e.over ≡ false) where
       go : (b : Bool) → eqb r.number 0 ≡ b → Err k ≡ cond b (Ok r.files) (Err r.number) → EventLine rule_of e (refused_line k)
       go true n is = absurd (cc)
       go false n is = let same : k ≡ r.number = cc in rw same (set-none e z o r R (λ m. true≢false (sym (eq-eqb r.number 0 m) ∙ n)))
+
+-- ---- what is told of an event
+
+told_present : (e : Event) {s : Inventory} → told e ≡ Some (Ok s) → (e.number ≡ 0) × (e.over ≡ false) × (e.inventory ≡ s)
+told_present e {s} h = go (eqb e.number 0) e.over refl refl h
+  where
+    go : (b c : Bool) → eqb e.number 0 ≡ b → e.over ≡ c → cond b (cond c None (Some (Ok e.inventory))) (Some (Err e.number)) ≡ Some (Ok s)
+        → (e.number ≡ 0) × (e.over ≡ false) × (e.inventory ≡ s)
+    go true true z o h = absurd (cc)
+    go true false z o h = (eqb-true e.number 0 z, o, cc)
+    go false c z o h = absurd (cc)
+
+told_refusal : (e : Event) {k : ℕ} → told e ≡ Some (Err k) → (e.number ≢ 0) × (e.number ≡ k)
+told_refusal e {k} h = go (eqb e.number 0) e.over refl h
+  where
+    go : (b c : Bool) → eqb e.number 0 ≡ b → cond b (cond c None (Some (Ok e.inventory))) (Some (Err e.number)) ≡ Some (Err k)
+        → (e.number ≢ 0) × (e.number ≡ k)
+    go true true z h = absurd (cc)
+    go true false z h = absurd (cc)
+    go false c z h = (λ m. true≢false (sym (eq-eqb e.number 0 m) ∙ z), cc)
+
+pub told-none : (e : Event) → None ≡ told e → (e.number ≡ 0) × (e.over ≡ true)
+told-none e h = go (eqb e.number 0) e.over refl refl h
+  where
+    go : (b c : Bool) → eqb e.number 0 ≡ b → e.over ≡ c → None ≡ cond b (cond c None (Some (Ok e.inventory))) (Some (Err e.number))
+        → (e.number ≡ 0) × (e.over ≡ true)
+    go true true z o h = (eqb-true e.number 0 z, o)
+    go true false z o h = absurd (cc)
+    go false c z o h = absurd (cc)
+
+pub told_number : (e : Event) → e.number ≢ 0 → told e ≡ Some (Err e.number)
+told_number e q = ap (λ (b : Bool). cond b (cond e.over None (Some (Ok e.inventory))) (Some (Err e.number))) (ne_eqb e.number 0 q)
+
+module _ (e : Event) where
+  pub line_kept : {s : Inventory} {ws : List ℕ} → told e ≡ Some (Ok s)
+      → (r : RecoverableFiles) × RecoverableSet rule_of s r × (Ok ws ≡ or_refusal r.files r.number)
+      → EventLine rule_of e (numbers_line (files_of s.n (member ws)))
+  line_kept {s} {ws} h = let (z, o, i) = told_present e h in
+      subst
+      (λ (s : Inventory). (r : RecoverableFiles) × RecoverableSet rule_of s r × (Ok ws ≡ or_refusal r.files r.number)
+      → EventLine rule_of e (numbers_line (files_of s.n (member ws))))
+      i (set_kept e z o)
+
+  pub line_denied : {s : Inventory} {k : ℕ} → told e ≡ Some (Ok s)
+      → (r : RecoverableFiles) × RecoverableSet rule_of s r × (Err k ≡ or_refusal r.files r.number) → EventLine rule_of e (refused_line k)
+  line_denied {s} {k} h = let (z, o, i) = told_present e h in
+      subst
+      (λ (s : Inventory). (r : RecoverableFiles) × RecoverableSet rule_of s r × (Err k ≡ or_refusal r.files r.number) → EventLine rule_of e (refused_line k))
+      i (set_denied e z o)
+
+  pub line_told : {k : ℕ} → told e ≡ Some (Err k) → EventLine rule_of e (refused_line k)
+  line_told h = let (q, n) = told_refusal e h in subst (λ (k : ℕ). EventLine rule_of e (refused_line k)) n (refused q)
 
 pub line_there : (e : Event) → (line : List ℕ) × EventLine rule_of e line
 line_there e =

@@ -5,7 +5,8 @@
 --   files_line                  the line of the recoverable files of an inventory that stands for a state
 --   Starts, opening_starts      the first line
 --   Follows, next_follows       an event
---   next_goes                   one that is taken goes on in the log
+--   next_goes, next_stays       one that is taken goes on in the log; one that ends it leaves what is present
+--   at_the_end                  no line after the end
 -- Assumes nothing.
 use mathlib.Core.Path.{◌≡◌, refl, sym, ap, ap₂, ◌∙◌, subst, fun_ext}
 use mathlib.Core.Logic.{◌↔◌, ◌≢◌}
@@ -15,7 +16,7 @@ use Prim.Native.Nat.{ℕ, ◌+◌, ◌≤◌, ◌<◌}
 use native.Mathlib.Nat.{suc-ne-zero}
 use native.Mathlib.Omega.{arith}
 use native.Mathlib.Decide.{ℕ_discrete, dec_le}
-use lib.Dec.{eqb}
+use lib.Dec.{leb, eqb}
 use lib.ListN.{length, get_or, take, drop, length-drop, drop_of_length-le}
 use lib.Seq.{drop-drop}
 use borrow.Author.Tests.{le-leb, lt-leb, eq-eqb, ne_eqb}
@@ -44,7 +45,7 @@ use Rattle.replay.specs.Log.{body_of, is_first_line, numbers_of, change_of, is_e
 use Rattle.replay.specs.Lines.{refused_line, files_of, numbers_line}
 use Rattle.replay.specs.Replay.{Decides, event_line, event_lines, opened_lines, log_lines, replay_of}
 use Rattle.replay.specs.Events.{ended, opened_by, opening, last, taken, next_event, EventLine, at_end, refused, no_inventory, files}
-use Rattle.replay.specs.declared.events.Event.{Event}
+use Rattle.replay.specs.Event.{Event}
 use Rattle.replay.proofs.EventLines.{line_refused, line_end}
 use Rattle.replay.proofs.EventLaws.{opening_long, opening-none, opening_shape, opening_opens, next_end, next_unended, next_shape, next-taken}
 
@@ -190,7 +191,7 @@ module _ (size : ℕ → ℕ) (t : State) (log : List ℕ) (from : ℕ) (s : Inv
   follows_last : (k : ℕ) (e : Event) (line : List ℕ) → last k from s ≡ e → ((d : Test) → lines_from d t log from ≡ line) → Follows size t log from e line
   follows_last k e line z h = subst (λ (e : Event). Follows size t log from e line) z record { ends = λ _ d D. h d; goes = λ o. absurd (true≢false o) }
 
-  at_the_end : length log ≤ from → (d : Test) → lines_from d t log from ≡ []
+  pub at_the_end : length log ≤ from → (d : Test) → lines_from d t log from ≡ []
   unfolding event_lines
   at_the_end h d =
       ap (λ (l : List ℕ). event_lines d t (cut line_length l).pieces (cut line_length l).rest) (drop_of_length-le log h)
@@ -314,3 +315,17 @@ pub next_goes : (log : List ℕ) (from : ℕ) (s : Inventory) (e : Event) → e 
     → (from < e.from) × (e.from ≤ length log)
 next_goes log from s e z o =
     subst (λ (e : Event). (from < e.from) × (e.from ≤ length log)) (sym z) (goes_on log from s (ap (λ (e : Event). e.over) (sym z) ∙ o))
+
+-- and one that ends the replay leaves what is present
+pub next_stays : (log : List ℕ) (from : ℕ) (s : Inventory) → (next_event log from s).over ≡ true → (next_event log from s).inventory ≡ s
+unfolding next_event
+next_stays log from s h = let n : ℕ = line_length (drop from log) in
+    let line : List ℕ = body_of (take n (drop from log)) in
+    go (leb (length log) from) (eqb n 0) (is_event_line line) (from + n) (change_step (change_of (get_or line 0 0)) s (number_in line)) h
+  where
+    go : (a b c : Bool) (to : ℕ) (o : Outcome) → (cond a (last 0 from s) (cond b (last 28 from s) (cond c (taken to o) (last 28 from s)))).over ≡ true
+        → (cond a (last 0 from s) (cond b (last 28 from s) (cond c (taken to o) (last 28 from s)))).inventory ≡ s
+    go true b c to o h = refl
+    go false true c to o h = refl
+    go false false true to o h = absurd (false≢true h)
+    go false false false to o h = refl

@@ -6,10 +6,13 @@
 --   opened_by from o            the same of an opening, which ends where it is refused
 --   opening log                the first line: where its events start, and what is present then, or its refusal
 --   next_event log from s       the event at `from`, where s is present before it
+--   told e                     what a program is told of e: nothing at the end of the log, else what is present after it, or its refusal
+--   GoesOn log e r             the replay r of this log goes on after e, and has nothing left of it where e is the last
+--   Gives r t r'               what is told next by a replay r, and the replay after it
 --   EventLine rules e line     the line that is printed after e
 --   Prints rules log e lines   the lines that are printed from the event e on, each event taken where the one before it ended
 -- Assumes nothing.
-use Rattle.std.specs.Prelude.{ℕ, ◌+◌, ◌≡◌, ◌≢◌, true, false, cond, List, [], ◌∷◌, leb, eqb, length, get_or, take, drop}
+use Rattle.std.specs.Prelude.{ℕ, ◌+◌, ◌≡◌, ◌≢◌, ◌≤◌, Option, None, Some, Result, Ok, Err, true, false, cond, List, [], ◌∷◌, leb, eqb, length, get_or, take, drop}
 use Rattle.refusals.specs.Limits.{max_listed_length}
 use Rattle.number_sets.specs.Sets.{member}
 use Rattle.codes.specs.declared.Code.{Code}
@@ -21,7 +24,8 @@ use Rattle.inventory.specs.Outcome.{Outcome}
 use Rattle.text.specs.TextLines.{line_length}
 use Rattle.replay.specs.Log.{body_of, is_first_line, numbers_of, change_of, is_event_line, number_in}
 use Rattle.replay.specs.Lines.{refused_line, files_of, numbers_line}
-use Rattle.replay.specs.declared.events.Event.{Event}
+use Rattle.replay.specs.Event.{Event}
+use Rattle.replay.specs.declared.events.Replay.{Replay}
 
 abbrev pub last : ℕ → ℕ → Inventory → Event
 last k from s = record { number = k; over = true; from = from; inventory = s }
@@ -52,6 +56,22 @@ next_event log from s =
     cond (leb (length log) from) (last 0 from s)
     (cond (eqb n 0) (last 28 from s)
     (cond (is_event_line line) (taken (from + n) (change_step (change_of (get_or line 0 0)) s (number_in line))) (last 28 from s)))
+
+-- ---- a replay, as the code holds it
+
+abbrev pub told : Event → Option (Result Inventory ℕ)
+told e = cond (eqb e.number 0) (cond e.over None (Some (Ok e.inventory))) (Some (Err e.number))
+
+pub record GoesOn (log : List ℕ) (e : Event) (r : Replay) : Type 0 where
+  pub same : r.log.now ≡ log
+  pub present : r.inventory ≡ e.inventory
+  pub more : e.over ≡ false → r.from ≡ e.from
+  pub no_more : e.over ≡ true → length log ≤ r.from
+
+abbrev pub Gives : Replay → Option (Result Inventory ℕ) → Replay → Type 0
+Gives r t r' = let e : Event = next_event r.log.now r.from r.inventory in (t ≡ told e) × GoesOn r.log.now e r'
+
+-- ---- the lines
 
 pub data EventLine (rules : Code → ℕ → ℕ → ℕ) (e : Event) : List ℕ → Type 0 where
   at_end : e.number ≡ 0 → e.over ≡ true → EventLine rules e []

@@ -1,8 +1,9 @@
 // A log event by event: the first line opens an inventory, each further line changes it.
-ghost use Rattle.std.specs.Prelude.{◌≡◌, true, get_or, MatchResult};
-ghost use Rattle.inventory.specs.Steps.{change_step, outcome, or_refusal};
+ghost use Rattle.std.specs.Prelude.{◌≡◌, ◌-◌, true, false, get_or, length, MatchResult};
+ghost use Rattle.std.specs.Iterator.{at_most};
+ghost use Rattle.inventory.specs.Steps.{change_step, or_refusal};
 ghost use Rattle.replay.specs.Log.{change_of, is_letter, is_event_line, number_in};
-ghost use Rattle.replay.specs.Events.{ended, opened_by, opening, last, taken, next_event};
+ghost use Rattle.replay.specs.Events.{ended, opening, GoesOn, Gives};
 
 use crate::first_line::open_line;
 use codes::Code;
@@ -10,117 +11,83 @@ use inventory::Inventory;
 use refusals::{EVENT, MAX_LISTED_LENGTH, SIZE};
 use text::{is_decimal, line_length, value_of};
 
-// What an event gave: 0 or the number of its refusal, whether the replay is over, where the next line starts, and what is present.
-// Over with 0 is the end of the log.
-#[derive(Clone, Copy)]
-pub struct Event {
-    pub number: u32,
-    pub over: bool,
-    pub from: usize,
-    pub inventory: Inventory,
+// A replay of a log after its first line: where the next line starts, and what is present before it. As an iterator it tells of each event
+// what is present after it, or its refusal; a line of another shape is the last.
+#[derive(Drop)]
+pub struct Replay<'a> {
+    log: &'a [u8],
+    from: usize,
+    inventory: Inventory,
 }
 
-// The first line of a log: over with 1 for a log that is too long, with 28 for another shape, with 10 or 1 as opening refuses.
-pub fn open(log: &[u8]) -> Event
-    ensures { result ≡ opening log.now }
+// The replay of a log: 1 for a log that is too long, 28 for a first line of another shape, 10 or 1 as opening refuses.
+pub fn open(log: &[u8]) -> Result<Replay<'_>, u32>
+    ensures { MatchResult result (λ r. ((opening log.now).over ≡ false) × GoesOn log.now (opening log.now) r) (λ k. opening log.now ≡ ended k) }
 {
     if MAX_LISTED_LENGTH < log.len() {
-        return ended(SIZE);
+        return Err(SIZE);
     }
-    let length = line_length(log, 0);
-    if length == 0 {
-        return ended(EVENT);
+    let from = line_length(log, 0);
+    if from == 0 {
+        return Err(EVENT);
     }
-    let end = length - 1;
-    opened_by(length, open_line(&log[..end]))
-}
-
-// The event of the line at `from`: over with 28 for another shape, and with 0 at the end of the log.
-pub fn next(log: &[u8], from: usize, inventory: Inventory) -> Event
-    ensures { result ≡ next_event log.now from inventory }
-{
-    if log.len() <= from {
-        return last(0, from, inventory);
-    }
-    let length = line_length(log, from);
-    if length == 0 {
-        return last(EVENT, from, inventory);
-    }
-    let end = from + length - 1;
-    let line = &log[from..end];
-    if !is_event_line(line) {
-        return last(EVENT, from, inventory);
-    }
-    taken(from + length, inventory, changed(inventory, line))
-}
-
-// The refusal of a first line.
-fn ended(number: u32) -> Event
-    ensures { result ≡ ended number }
-{
-    let inventory = inventory::zeros();
-    last(number, 0, inventory)
-}
-
-// What an opening gives, after a first line of this length.
-fn opened_by(from: usize, opened: Result<Inventory, u32>) -> Event
-    ensures { MatchResult opened (λ s. result ≡ taken from (outcome s 0)) (λ k. result ≡ ended k) }
-{
-    match opened {
-        Ok(inventory) => taken(from, inventory, opened),
-        Err(number) => ended(number),
-    }
-}
-
-// No event more: the refusal of a line, or 0 at the end of the log.
-fn last(number: u32, from: usize, inventory: Inventory) -> Event
-    ensures { result ≡ last number from inventory }
-{
-    Event {
-        number,
-        over: true,
+    let end = from - 1;
+    let inventory = open_line(&log[..end])?;
+    Ok(Replay {
+        log,
         from,
         inventory,
-    }
+    })
 }
 
-// What an event gives, the next line of which starts at `from`: a refusal leaves what was present before it.
-fn taken(from: usize, before: Inventory, changed: Result<Inventory, u32>) -> Event
-    ensures { MatchResult changed (λ s. result ≡ taken from (outcome s 0)) (λ k. result ≡ taken from (outcome before k)) }
-{
-    let (inventory, number) = match changed {
-        Ok(next) => (next, 0),
-        Err(number) => (before, number),
-    };
-    Event {
-        number,
-        over: false,
-        from,
-        inventory,
+impl Iterator for Replay<'_> {
+    type Item = Result<Inventory, u32>;
+
+    ghost next_gives = { Gives };
+
+    ghost remaining = { λ r. at_most (length r.log.now - r.from) };
+
+    // What is present after the event of the next line, or its refusal: 28, the last, for a line of another shape.
+    fn next(&mut self) -> Option<Result<Inventory, u32>> {
+        let log = self.log;
+        let from = self.from;
+        if log.len() <= from {
+            return None;
+        }
+        // nothing is left after a line of another shape
+        self.from = log.len();
+        let length = line_length(log, from);
+        if length == 0 {
+            return Some(Err(EVENT));
+        }
+        let end = from + length - 1;
+        let line = &log[from..end];
+        if !is_event_line(line) {
+            return Some(Err(EVENT));
+        }
+        let changed = changed(self.inventory, line);
+        self.from = end + 1;
+        if let Ok(inventory) = changed {
+            self.inventory = inventory;
+        }
+        Some(changed)
     }
 }
 
 // Whether a line has the shape of an event: a letter, a space, a number.
+#[tactic(auto, using(crate::proofs::EventLaws::event_short), unfolding(crate::specs::Log::is_event_line))]
 fn is_event_line(line: &[u8]) -> bool
     ensures { result ≡ is_event_line line.now }
 {
-    if line.len() < 3 {
-        return false;
-    }
-    is_letter(line[0]) & (line[1] == b' ') & is_decimal(&line[2..])
+    line.len() >= 3 && is_letter(line[0]) && line[1] == b' ' && is_decimal(&line[2..])
 }
 
 // Whether a letter is one of an event.
+#[tactic(auto, unfolding(crate::specs::Log::is_letter))]
 fn is_letter(letter: u8) -> bool
     ensures { result ≡ is_letter letter }
 {
-    match letter {
-        b'F' => true,
-        b'V' => true,
-        b'f' => true,
-        b'v' => true,
-        _ => false,
-    }
+    matches!(letter, b'F' | b'V' | b'f' | b'v')
 }
 
 // What the event of a line makes of an inventory.

@@ -11,7 +11,7 @@ mod events;
 mod first_line;
 mod lines;
 
-pub use events::{Event, next, open};
+pub use events::{Replay, open};
 pub use lines::put_line;
 use refusals::{Refusal, bare};
 pub use text::Writer;
@@ -35,20 +35,12 @@ pub fn replay(log: &[u8], out: &mut [u8]) -> Result<usize, Refusal>
 fn put_replay(writer: &mut Writer, log: &[u8])
     ensures { (d : State → ℕ → Bool) → Decides coefficient d → Puts writer.old writer.new (replay_of d log.now) }
 {
-    let opened = open(log);
-    if opened.over {
-        put_line(writer, opened);
-        return;
-    }
-    let mut from = opened.from;
-    let mut inventory = opened.inventory;
-    loop {
-        let event = next(log, from, inventory);
-        put_line(writer, event);
-        if event.over {
-            return;
+    match open(log) {
+        Ok(replay) => {
+            for event in replay {
+                put_line(writer, event);
+            }
         }
-        from = event.from;
-        inventory = event.inventory;
+        Err(number) => put_line(writer, Err(number)),
     }
 }

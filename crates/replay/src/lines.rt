@@ -1,32 +1,28 @@
 // The lines that a replay prints, each put by a writer.
-ghost use Rattle.std.specs.Prelude.{cond, List, ℕ};
+ghost use Rattle.std.specs.Prelude.{◌≡◌, cond, List, Some, ℕ};
 ghost use Rattle.number_sets.specs.Sets.{member};
 ghost use Rattle.parity.specs.Coefficient.{rule_of};
 ghost use Rattle.text.specs.Ascii.{ascii};
 ghost use Rattle.text.specs.Decimal.{decimal, field};
 ghost use Rattle.text.specs.Writer.{Puts};
 ghost use Rattle.replay.specs.Lines.{refused_line, files_of, numbers_line};
-ghost use Rattle.replay.specs.Events.{EventLine};
+ghost use Rattle.replay.specs.Event.{Event};
+ghost use Rattle.replay.specs.Events.{told, EventLine};
 
-use crate::events::Event;
+use inventory::Inventory;
 use number_sets::has;
 use text::Writer;
 
-// The line after an event: the missing files that are recoverable, or the refusal; none at the end of the log. An event that is neither
-// refused nor over, and has an inventory that no calls give, is `refused 10`.
-pub fn put_line(writer: &mut Writer, event: Event)
-    ensures { (line : List ℕ) × EventLine rule_of event line × Puts writer.old writer.new line }
+// The line after an event, of which a replay tells this: the missing files that are recoverable, or the refusal. An inventory that no calls
+// give is `refused 10`.
+pub fn put_line(writer: &mut Writer, event: Result<Inventory, u32>)
+    ensures { (e : Event) → told e ≡ Some event → (line : List ℕ) × EventLine rule_of e line × Puts writer.old writer.new line }
 {
-    if event.number != 0 {
-        put_refused(writer, event.number);
-        return;
-    }
-    if event.over {
-        return;
-    }
-    let inventory = event.inventory;
-    match inventory.recoverable_files() {
-        Ok(files) => put_files(writer, inventory.n, files),
+    match event {
+        Ok(inventory) => match inventory.recoverable_files() {
+            Ok(files) => put_files(writer, inventory.n, files),
+            Err(number) => put_refused(writer, number),
+        },
         Err(number) => put_refused(writer, number),
     }
 }

@@ -1,16 +1,21 @@
 -- `replay::events::open` meets its contract.
 -- Assumes nothing.
-use mathlib.Core.Path.{◌≡◌, sym, ap, ◌∙◌}
+use mathlib.Core.Path.{◌≡◌, refl, sym, ap, ◌∙◌, subst}
+use mathlib.Core.Logic.{◌≢◌}
+use mathlib.Core.Bool.{false}
+use mathlib.Core.List.{List}
 use Prim.Native.Nat.{ℕ, ◌≤◌, ◌-◌, ◌+◌}
 use native.Mathlib.Omega.{arith}
 use lib.ListN.{length, take, length-take}
-use mathlib.Core.Logic.{◌≢◌}
-use mathlib.Core.List.{List}
+use Rattle.std.proofs.lemmas.Result.{err_from_is_err_and}
 use Rattle.text.specs.TextLines.{line_length}
 use Rattle.text.proofs.ScanLaws.{line_most}
+use Rattle.inventory.specs.Steps.{outcome}
 use Rattle.replay.specs.Log.{body_of}
+use Rattle.replay.specs.Event.{Event}
+use Rattle.replay.specs.Events.{GoesOn}
 use Rattle.replay.specs.FirstLine.{opened_line}
-use Rattle.replay.proofs.EventLaws.{part_body, opening_long, opening-none, opening_of}
+use Rattle.replay.proofs.EventLaws.{part_body, opening_long, opening-none, opening_goes, opening_refused, goes_on_at}
 use Rattle.replay.proofs.events.open.Goals as goal
 
 -- the first line, which is ended
@@ -26,15 +31,23 @@ body log n e q = let z = unended log n e q in
     ∙ part_body log 0 (omega arith) (omega (arith, z))
 
 pub returns-then-log-gt-MAX_LISTED_LENGTH : goal.returns-then-log-gt-MAX_LISTED_LENGTH
-returns-then-log-gt-MAX_LISTED_LENGTH c = c.ended.ensures ∙ opening_long c.args.log.now c.if-log-gt-MAX_LISTED_LENGTH.true
+returns-then-log-gt-MAX_LISTED_LENGTH c = sym (opening_long _ c.if-log-gt-MAX_LISTED_LENGTH.true)
 
-pub returns-then-length-eq0 : goal.returns-then-length-eq0
-returns-then-length-eq0 c = let log = c.args.log.now in c.ended-then-length-eq0.ensures ∙ opening-none log c.if-log-gt-MAX_LISTED_LENGTH.false (sym c.line_length-length.ensures ∙ c.if-length-eq0.true)
+pub returns-then-from-eq0 : goal.returns-then-from-eq0
+returns-then-from-eq0 c = sym (opening-none _ c.if-log-gt-MAX_LISTED_LENGTH.false (sym c.line_length-from.ensures ∙ c.if-from-eq0.true))
 
 pub slice_bounds-open_line-end : goal.slice_bounds-open_line-end
-slice_bounds-open_line-end c = simp length-take (omega (arith, inside c.args.log.now c.line_length-length.result c.line_length-length.ensures))
+slice_bounds-open_line-end c = simp length-take (omega (arith, inside _ _ c.line_length-from.ensures))
+
+pub returns-in_err-inventory : goal.returns-in_err-inventory
+returns-in_err-inventory c = let log = c.args.log.now in let n = c.line_length-from.ensures in
+    let p = err_from_is_err_and c.from_residual.result c.from_residual.ensures.1 in
+    rw (p.1, p.2) (opening_refused log c.if-log-gt-MAX_LISTED_LENGTH.false (unended log _ n c.if-from-eq0.false)
+    (c.in_err-inventory.ensures ∙ ap opened_line (body log _ n c.if-from-eq0.false)))
 
 pub returns : goal.returns
-returns c = let log = c.args.log.now in
-    opening_of log c.if-log-gt-MAX_LISTED_LENGTH.false (unended c.args.log.now c.line_length-length.result c.line_length-length.ensures c.if-length-eq0.false)
-    _ c.line_length-length.ensures (c.open_line.ensures ∙ ap opened_line (body c.args.log.now c.line_length-length.result c.line_length-length.ensures c.if-length-eq0.false)) c.opened_by.ensures
+returns c = let log = c.args.log.now in let n = c.line_length-from.ensures in
+    subst (λ (e : Event). (e.over ≡ false) × GoesOn log e record { log = c.args.log; from = c.line_length-from.result; inventory = c.in_ok-inventory.inventory })
+    (opening_goes log c.if-log-gt-MAX_LISTED_LENGTH.false (unended log _ n c.if-from-eq0.false) _ n
+    (c.in_ok-inventory.ensures ∙ ap opened_line (body log _ n c.if-from-eq0.false)))
+    (refl, goes_on_at log (outcome c.in_ok-inventory.inventory 0) _ refl refl)
