@@ -44,14 +44,11 @@ pub extern "C" fn par1_catalog_drop(catalog: &mut [u8], number: u64) -> u64
 pub extern "C" fn par1_catalog_load(catalog: &[u8], rows: &mut [Row]) -> u64
     ensures { (result, rows.new) ≡ answered_rows (load_of catalog.now rows.old) }
 {
-    let p = load_plan(catalog, rows.len());
-    let n = p.count;
-    let mut i: usize = 0;
-    while i < n {
+    let plan = load_plan(catalog, rows.len());
+    for i in 0..plan.count {
         rows[i] = catalog::row_at(catalog, i);
-        i += 1;
     }
-    p.answer
+    plan.answer
 }
 
 // What a load into `room` records answers, and how many it fills: none where it is refused.

@@ -18,30 +18,30 @@ kept b zs ys i e l = ap length e ∙ length_filled b i ys l
 
 pub loop-i-init : goal.loop-i-init
 unfolding records_to
-loop-i-init c = (omega arith, refl)
+loop-i-init c = refl
 
 pub offset_bounds-rows-i : goal.offset_bounds-rows-i
 offset_bounds-rows-i c =
-    let few = most c.args.catalog.now c.args.rows.now c.load_plan-p.result c.load_plan-p.ensures in
-    omega (arith, kept c.args.catalog.now c.loop-i.rows c.args.rows.now c.loop-i.i c.loop-i.invariant.1 (omega arith))
+    let few = most c.args.catalog.now c.args.rows.now c.load_plan-plan.result c.load_plan-plan.ensures in
+    omega (arith, kept c.args.catalog.now c.loop-i.rows c.args.rows.now c.loop-i.i c.loop-i.invariant (omega arith))
 
 pub bounds-rows-i : goal.bounds-rows-i
 bounds-rows-i c =
-    let few = most c.args.catalog.now c.args.rows.now c.load_plan-p.result c.load_plan-p.ensures in
-    omega (arith, kept c.args.catalog.now c.loop-i.rows c.args.rows.now c.loop-i.i c.loop-i.invariant.1 (omega arith))
+    let few = most c.args.catalog.now c.args.rows.now c.load_plan-plan.result c.load_plan-plan.ensures in
+    omega (arith, kept c.args.catalog.now c.loop-i.rows c.args.rows.now c.loop-i.i c.loop-i.invariant (omega arith))
 
 pub loop-i-preserved : goal.loop-i-preserved
 loop-i-preserved c =
-    let few = most c.args.catalog.now c.args.rows.now c.load_plan-p.result c.load_plan-p.ensures in
+    let few = most c.args.catalog.now c.args.rows.now c.load_plan-plan.result c.load_plan-plan.ensures in
     let more = filled_more c.args.catalog.now c.loop-i.i c.args.rows.now c.row_at.result c.row_at.ensures (omega arith) in
-    (omega arith, rw c.loop-i.invariant.1 more)
+    rw c.loop-i.invariant more
 
 pub returns : goal.returns
 returns c =
     let ys = c.args.rows.now in
     let b = c.args.catalog.now in
-    let e = c.load_plan-p.ensures in
-    let all : c.loop-i.i ≡ c.load_plan-p.result.count = omega arith in
+    let e = c.load_plan-plan.ensures in
+    let all : c.loop-i.i ≡ c.load_plan-plan.result.count = omega arith in
     ap₂ (λ (n : ℕ) (l : List Row). (n, l)) (ap (λ (q : LoadPlan). q.answer) e)
-    (c.loop-i.invariant.1 ∙ ap (λ (n : ℕ). filled_to b n ys) (all ∙ ap (λ (q : LoadPlan). q.count) e))
+    (c.loop-i.invariant ∙ ap (λ (n : ℕ). filled_to b n ys) (all ∙ ap (λ (q : LoadPlan). q.count) e))
     ∙ plan_filled b ys
