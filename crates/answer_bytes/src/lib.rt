@@ -1,4 +1,5 @@
-// Answers in lent bytes: a byte of the field, the parts of a file, and the first entry of a list.
+// Answers in lent bytes: a byte of the field, the parts of a file, and the first entry of a list. What is left to answer is a number or a refusal, as C
+// gets it.
 #![tactic(auto)]
 
 ghost use Rattle.std.specs.Prelude.{◌≡◌};

@@ -7,7 +7,8 @@ ghost use Rattle.comparing.specs.Differences.{entry_lines};
 use crate::{fields, lines};
 use text::Writer;
 
-// The lines on the entries of the lists `one` and `two`: on the fields of those at one place, and `all` where a side lacks the entry.
+// The lines on the entries of the lists `one` and `two`: on the fields of those at one place, and `all` where a side lacks the entry. By `next`
+// of both: a `zip` ends with the shorter list.
 pub(crate) fn put_entries(writer: &mut Writer, one: &[u8], two: &[u8])
     ensures { Puts writer.old writer.new (text_of (entry_lines 1 (entries_of one.now).pieces (entries_of two.now).pieces)) }
 {

@@ -6,7 +6,7 @@ ghost use Rattle.comparing.specs.Runs.{run_lines};
 use crate::{lines, scan};
 use text::Writer;
 
-// The lines on the runs of places at which `a` and `b` differ.
+// The lines on the runs of places at which `a` and `b` differ. By a place: a run begins where the search after the last one ends.
 pub(crate) fn put_runs(writer: &mut Writer, a: &[u8], b: &[u8])
     ensures { Puts writer.old writer.new (text_of (run_lines a.now b.now)) }
 {

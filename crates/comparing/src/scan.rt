@@ -10,14 +10,13 @@ pub(crate) fn difference_from(a: &[u8], b: &[u8], from: usize) -> usize
     ensures { FirstFrom (differs a.now b.now) (max (length a.now) (length b.now)) from result }
 {
     let common = a.len().min(b.len());
-    let mut p = equal_blocks(a, b, from);
-    while p < common {
+    let start = equal_blocks(a, b, from);
+    for p in start..common {
         if a[p] != b[p] {
             return p;
         }
-        p += 1;
     }
-    p
+    start.max(common)
 }
 
 // The first place from `from` on at which `a` and `b` agree; the length of the longer one where there is none.
@@ -27,17 +26,16 @@ pub(crate) fn agreement_from(a: &[u8], b: &[u8], from: usize) -> usize
         × FirstFrom (λ p. not (differs a.now b.now p)) (max (length a.now) (length b.now)) from result }
 {
     let common = a.len().min(b.len());
-    let mut p = from;
-    while p < common {
+    for p in from..common {
         if a[p] == b[p] {
             return p;
         }
-        p += 1;
     }
     a.len().max(b.len())
 }
 
-// A place from `from` on before which, from there, `a` and `b` agree: the start of the first block that differs, or of what is no whole block.
+// A place from `from` on before which, from there, `a` and `b` agree: the start of the first block that differs, or of what is no whole block. By a
+// place, which is the answer.
 fn equal_blocks(a: &[u8], b: &[u8], from: usize) -> usize
     ensures { (from ≤ result) × ((p : ℕ) → p < result → from ≤ p → differs a.now b.now p ≡ false) }
 {
@@ -61,12 +59,10 @@ fn block_differs(a: &[u8], b: &[u8], at: usize) -> u8
     ensures { result ≡ 0 → (p : ℕ) → p < at + 256 → at ≤ p → get_or a.now p 0 ≡ get_or b.now p 0 }
 {
     let mut found: u8 = 0;
-    let mut i: usize = 0;
-    while i < BLOCK {
+    for i in 0..BLOCK {
         if a[at + i] != b[at + i] {
             found = 1;
         }
-        i += 1;
     }
     found
 }

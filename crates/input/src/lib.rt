@@ -5,7 +5,8 @@ ghost use Rattle.std.specs.Prelude.{◌≤◌, length, IfOk};
 
 use std::io::{self, Read};
 
-// Reads until `buffer` is full or the input ends, and answers how many bytes it put at the start of `buffer`.
+// Reads until `buffer` is full or the input ends, and answers how many bytes it put at the start of `buffer`. By a loop of reads: `read_exact` is an
+// error at an early end, and `read_to_end` wants a heap.
 pub fn read_full(input: &mut impl Read, buffer: &mut [u8]) -> io::Result<usize>
     ensures { IfOk result (λ n. n ≤ length buffer.new) }
 {

@@ -1,4 +1,4 @@
-// Inventories in lent bytes: 18 numbers of 64 bits.
+// Inventories in lent bytes: 18 numbers of 64 bits. What is left to answer is a number, as C gets it.
 #![tactic(auto)]
 
 ghost use Rattle.std.specs.Prelude.{◌≡◌, [], ◌∷◌, length};

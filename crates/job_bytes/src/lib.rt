@@ -1,4 +1,5 @@
-// Jobs in lent bytes (document 02, 2026-03): the caller keeps the bytes from one call to the next.
+// Jobs in lent bytes (document 02, 2026-03): the caller keeps the bytes from one call to the next. What is left to answer is a number or a refusal, as
+// C gets it.
 #![tactic(auto)]
 
 mod marks;

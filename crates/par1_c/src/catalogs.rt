@@ -8,7 +8,7 @@ use crate::{answer, length_told};
 use catalog::Row;
 use refusals::Refusal;
 
-// What a load answers, and how many records it fills.
+// What a load answers, and how many records it fills: both, refused or not, since C gets the answer as a number.
 #[derive(Clone, Copy)]
 pub struct LoadPlan {
     pub answer: u64,

@@ -16,7 +16,8 @@ use text::Writer;
 // The line after an event, of which a replay tells this: the missing files that are recoverable, or the refusal. An inventory that no calls
 // give is `refused 10`.
 pub fn put_line(writer: &mut Writer, event: Result<Inventory, u32>)
-    ensures { (e : Event) → told e ≡ Some event → (line : List ℕ) × EventLine rule_of e line × Puts writer.old writer.new line }
+    ensures { ((e : Event) → told e ≡ Some event → (line : List ℕ) × EventLine rule_of e line × Puts writer.old writer.new line)
+        × ((k : ℕ) → event ≡ Err k → Puts writer.old writer.new (refused_line k)) }
 {
     match event {
         Ok(inventory) => match inventory.recoverable_files() {

@@ -1,12 +1,9 @@
 -- `comparing::scan::block_differs` meets its contract. The loop's invariant: while nothing was found, the bytes passed agree.
 -- Assumes nothing.
 use mathlib.Core.Path.{◌≡◌}
-use Prim.Native.Nat.{ℕ, ◌≤◌, ◌<◌, ◌-◌, ◌+◌}
+use Prim.Native.Nat.{ℕ, ◌≤◌, ◌<◌, ◌+◌}
 use lib.ListN.{get_or}
 use Rattle.comparing.proofs.scan.block_differs.Given as goal
 
 abbrev pub invariant-loop-i : goal.invariant-loop-i
-invariant-loop-i l = (l.i ≤ 256) × (l.found ≡ 0 → (p : ℕ) → p < l.at + l.i → l.at ≤ p → get_or l.a p 0 ≡ get_or l.b p 0)
-
-abbrev pub decreases-loop-i : goal.decreases-loop-i
-decreases-loop-i l = 256 - l.i
+invariant-loop-i l = l.found ≡ 0 → (p : ℕ) → p < l.at + l.i → l.at ≤ p → get_or l.a p 0 ≡ get_or l.b p 0
