@@ -42,26 +42,26 @@
  *   par1_mul_add_start   14                     24                                            100
  *   par1_mul_add_push    20                     the job's 24, the buffer from the position    700
  *   par1_mul_add_end     20                     the job's 24                                  100
- *   par1_read_start      14                     392                                         1,500
- *   par1_read_push       20                     the job's 392                               3,100
- *   par1_read_end        20 R 14                64, and the job's 392                       3,100
+ *   par1_read_start      14                     392                                           100
+ *   par1_read_push       20                     the job's 392                               2,400
+ *   par1_read_end        20 R 14                64, and the job's 392                       2,600
  *
  *   what is present, and what comes back
- *   par1_open            10 1 14                144                                         3,000
- *   par1_add_file        10 11                  the inventory's 144                         1,100
- *   par1_remove_file     10 11                  the inventory's 144                         1,100
+ *   par1_open            10 1 14                144                                         2,200
+ *   par1_add_file        10 11                  the inventory's 144                           600
+ *   par1_remove_file     10 11                  the inventory's 144                           600
  *   par1_add_volume      10 29 27 11            the inventory's 144                           900
  *   par1_remove_volume   10 11                  the inventory's 144                           900
- *   par1_quarantine      10 11                  the inventory's 144                         1,300
- *   par1_release         10 11                  the inventory's 144                         1,300
+ *   par1_quarantine      10 11                  the inventory's 144                           700
+ *   par1_release         10 11                  the inventory's 144                           700
  *   par1_count           10 14                  24                                            400
- *   par1_query           10 13 12 14            255                                        70,200
+ *   par1_query           10 13 12 14            255                                        69,700
  *
  *   text
  *   par1_compare         14                     the text                                    2,800
  *   par1_export          R 24 14                the text, at most as long as the list       2,800
  *   par1_import          R, 22 or 23, 14        1 for each entry                            2,900
- *   par1_replay          14                     the text, at most 14,760,448               76,000
+ *   par1_replay          14                     the text, at most 14,760,448               76,300
  *
  *   catalogs
  *   par1_catalog_open    R 26 14                16 + 28 for each entry                      2,800
