@@ -2,6 +2,7 @@
 --
 --   diagonal_more              the diagonal
 --   product_more               a row times the matrix within a width w
+--   pivot_more                 the search for a pivot
 --   Swept w n y k scale m m'   the first n rows of m' are those of m swept, as far as w, the others those of m
 --   swept_none, swept_more     the sweep, before its first row and one row further
 --   swept_all                  after its last
@@ -55,6 +56,15 @@ product_more t is w u m sum i hw e hb h sum' by j l = let row = take (i * 256 + 
     ∙ mul_add_at (get_or u i 0) row sum j (omega arith)
     ∙ ap₂ bit_xor (h j l) (ap (product (get_or u i 0)) (row_at (i * 256 + w - i * 256) m i j (omega arith)))
     ∙ ap (λ (n : ℕ). sum_below n (λ i. product (get_or u i 0) (entry m i j))) (sym (add-one i))
+
+-- ---- the search for a pivot
+
+pub pivot_more : (y : ℕ → ℕ) (owners : List ℕ) (k : ℕ) → ((j : ℕ) → j < k → get_or owners j 0 ≡ 0 → y j ≡ 0)
+    → (get_or owners k 0 ≡ 0 → y k ≡ 0) → (j : ℕ) → j < k + 1 → get_or owners j 0 ≡ 0 → y j ≡ 0
+pivot_more y owners k h e j l o = elim (ℕ_discrete j k) [
+  | yes p ↦ ap y p ∙ e (ap (λ (i : ℕ). get_or owners i 0) (sym p) ∙ o)
+  | no q ↦ h j (omega arith) o
+]
 
 -- ---- the sweep
 

@@ -5,14 +5,15 @@
 --   bytes_append  bytes and bytes after them are bytes
 --   bytes_to_le    and so are those of a number
 --   length-to_le   the k lowest bytes are k
+--   to_add        j + k bytes are the j lowest bytes, then the next k
 --   to_mod        only the number modulo 256 ^ k counts
 --   low_first     std's k lowest bytes are these
 --   from_to       a number turned into k bytes and back is the number modulo 256 ^ k
 --   to_from       bytes turned into a number and back are the same bytes
 -- Assumes nothing.
-use mathlib.Core.Path.{◌≡◌, refl, sym, ap, ◌∙◌}
+use mathlib.Core.Path.{◌≡◌, refl, sym, ap, ap₂, ◌∙◌}
 use Prim.Native.Nat.{ℕ, zero, suc, ◌+◌, ◌*◌, ◌/◌, ◌%◌, ◌^◌, ◌<◌}
-use native.Mathlib.Nat.{pow-suc, zero-lt-suc, mod-one, div-one, one-le-pow, div-div-eq-div-mul}
+use native.Mathlib.Nat.{pow-suc, zero-lt-suc, zero-add, suc-add, mod-one, div-one, one-le-pow, div-div-eq-div-mul, pow-succ'}
 use native.Mathlib.Omega.{arith}
 use mathlib.Core.List.{List, [], ◌∷◌, ◌++◌}
 use lib.ListN.{length, take, drop}
@@ -58,6 +59,11 @@ unfolding to_le
 bytes_to_le zero n i = zero-lt-suc 255
 bytes_to_le (suc k) n zero = omega arith
 bytes_to_le (suc k) n (suc i) = bytes_to_le k (n / 256) i
+
+pub to_add : (j k n : ℕ) → to_le (j + k) n ≡ to_le j n ++ to_le k (n / 256 ^ j)
+unfolding to_le
+to_add zero k n = ap₂ to_le (zero-add k) (sym (div-one n))
+to_add (suc j) k n = rw (suc-add, to_add j k (n / 256), pow-succ', div-div-eq-div-mul)
 
 pub to_mod : (k n : ℕ) → to_le k (n % 256 ^ k) ≡ to_le k n
 unfolding to_le
