@@ -2,7 +2,7 @@
 #![tactic(auto)]
 
 ghost use Rattle.std.specs.Prelude.{◌≡◌};
-ghost use Rattle.codes.specs.Codes.{CodeFrom, code_number};
+ghost use Rattle.codes.specs.Codes.{CodeFrom, code_number, code_of};
 
 // Par 1.0's own code, whose coefficients are powers, and the code of Cauchy coefficients.
 #[derive(Clone, Copy, Debug, PartialEq, Eq)]
@@ -40,4 +40,11 @@ impl TryFrom<u64> for Code {
             _ => Err(NoCode),
         }
     }
+}
+
+// The code of a number; any number but 0 gives the second.
+pub fn code_of(number: u64) -> Code
+    ensures { result ≡ code_of number }
+{
+    Code::try_from(number).unwrap_or(Code::Cauchy)
 }

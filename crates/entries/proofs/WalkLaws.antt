@@ -2,6 +2,7 @@
 --
 --   first_fits, entry_first, no_first     an entry at the front of a list, and none, by the length that stands there
 --   entries_more   an entry at the front is the first entry
+--   length_none, entries_none    there is none where the front is the end or a fault
 --   walk_from t c   the totals t and those of the entries c, where nothing is left after them; or the refusal of what is left
 --   saved_most     an entry is one saved entry at most
 --   walk_start, no_totals     the walk from no entries at all
@@ -14,12 +15,13 @@
 --   WalkRefused, walk_refused     what a walk to a fault tells
 --   Added t u      u is t with one entry more, and at most one saved entry more
 --   add_added      an entry more is one entry more, and one saved entry more at most
+--   add_fits       an entry more, by counts that stop at the greatest number of 64 bits, where both have room
 -- Assumes nothing.
-use Rattle.std.specs.Prelude.{Ok, Err}
+use Rattle.std.specs.Prelude.{Some, None, Ok, Err}
 use mathlib.Core.Path.{◌≡◌, refl, sym, ap, ap₂, ◌∙◌, subst}
 use mathlib.Core.Bool.{Bool, true, false, cond}
 use mathlib.Core.List.{List, [], ◌∷◌, map, foldr}
-use Prim.Native.Nat.{ℕ, ◌+◌, ◌*◌, ◌/◌, ◌≤◌, ◌<◌, max}
+use Prim.Native.Nat.{ℕ, ◌+◌, ◌*◌, ◌/◌, ◌^◌, ◌≤◌, ◌<◌, max}
 use native.Mathlib.Omega.{arith}
 use lib.ListN.{length, take, drop, length-drop}
 use lib.Seq.{length-take-le}
@@ -29,12 +31,13 @@ use Rattle.cut_lists.proofs.CutLaws.{cut-none, cut_stop, cut_more, cut_induct, c
 use Rattle.refusals.specs.declared.Refusal.{Refusal}
 use Rattle.entries.specs.Entry.{status_of, file_size_of, is_saved, saved_count, is_counted, length_of}
 use Rattle.entries.specs.Numbering.{keep, saved_of}
-use Rattle.entries.specs.Walk.{fault_of, fault_number, refusal_at, entries_of, totals_of, add_entry, walked_to, walk_of}
+use Rattle.entries.specs.Walk.{Item, fault_of, fault_number, refusal_at, first_of, entries_of, totals_of, add_entry, saturating_add_entry, walked_to, walk_of}
+use Rattle.entries.specs.declared.Entry.{Entry}
 use Rattle.entries.specs.declared.Fault.{Fault}
 use Rattle.entries.specs.declared.Fault.TheVariants.{Size, FileSize, Name}
 use Rattle.entries.specs.declared.Totals.{Totals}
 use Rattle.entries.specs.Walk.{Walked}
-use Rattle.entries.proofs.EntryLaws.{length_sized, IsEntry, IsFault}
+use Rattle.entries.proofs.EntryLaws.{length_sized, length_end, IsEntry, IsFault, is_fault}
 
 pub entries_more : {s : List ℕ} {n status size : ℕ} → IsEntry s n status size → entries_of s ≡ before (take n s) (entries_of (drop n s))
 entries_more {s} i =
@@ -54,6 +57,15 @@ entry_first s is some e_is rest_is = let sized = length_sized s (omega arith) in
 
 pub no_first : (s : List ℕ) {n : ℕ} → n ≡ length_of s → n ≡ 0 → (entries_of s).pieces ≡ []
 no_first s is z = ap (λ (c : Cut). c.pieces) (cut_stop length_of s (sym is ∙ z))
+
+-- no entry more: the item at the front is the end or a fault
+pub length_none : (s : List ℕ) (i : Item) → i ≡ first_of s → ((e : Entry) → i ≡ Ok (Some e) → ⊥) → length_of s ≡ 0
+length_none s (Ok (Some e)) is k = absurd (k e refl)
+length_none s (Ok None) is k = length_end s is
+length_none s (Err f) is k = (is_fault is).length_zero
+
+pub entries_none : (s : List ℕ) (i : Item) → i ≡ first_of s → ((e : Entry) → i ≡ Ok (Some e) → ⊥) → (entries_of s).pieces ≡ []
+entries_none s i is k = no_first s refl (length_none s i is k)
 
 -- ---- totals
 
@@ -104,6 +116,11 @@ pub record Added (t u : Totals) : Type 0 where
 pub add_added : (t : Totals) (status size : ℕ) → Added t (add_entry t status size)
 unfolding add_entry
 add_added t status size = record { entries_is = refl; saved_most = omega (arith, saved_most status) }
+
+pub add_fits : (t : Totals) (status size : ℕ) → t.entries + 1 < 2 ^ 64 → t.saved + 1 < 2 ^ 64
+    → saturating_add_entry t status size ≡ add_entry t status size
+unfolding add_entry saturating_add_entry
+add_fits t status size entries_fit saved_fit = same (omega arith) (omega (arith, saved_most status)) refl
 
 -- ---- the walk, step by step
 

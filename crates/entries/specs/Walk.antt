@@ -13,10 +13,11 @@
 --   greatest_of es    the greatest file size of the entries es that count for the data size
 --   totals_of es      how many entries es are, how many of them are saved, and the greatest size
 --   add_entry t st n  the totals t and an entry more, with the status st and the file size n
+--   saturating_add_entry t st n    the same, but with counts that stop at the greatest number of 64 bits
 --   walked_to t s     the totals t, where s, which remains after their entries, is empty; or the refusal of the entry at its front
 --   walk_of s         the totals of the entries of s, where they fill it; or the refusal of the first entry that breaks a rule
 -- Assumes nothing.
-use Rattle.std.specs.Prelude.{ℕ, ◌+◌, max, cond, length, take, Option, Some, None, Result, Ok, Err}
+use Rattle.std.specs.Prelude.{ℕ, ◌+◌, ◌-◌, ◌^◌, min, max, cond, length, take, Option, Some, None, Result, Ok, Err}
 use mathlib.Core.List.{List, [], ◌∷◌, map, foldr}
 use Rattle.cut_lists.specs.Pieces.{Cut, cut}
 use Rattle.refusals.specs.declared.Refusal.{Refusal}
@@ -73,6 +74,15 @@ add_entry t status size =
     record {
       entries = t.entries + 1;
       saved = t.saved + saved_count status;
+      greatest = cond (is_counted status) (max t.greatest size) t.greatest;
+    }
+
+-- as code counts, in 64 bits
+unfoldable pub saturating_add_entry : Totals → ℕ → ℕ → Totals
+saturating_add_entry t status size =
+    record {
+      entries = min (t.entries + 1) (2 ^ 64 - 1);
+      saved = min (t.saved + saved_count status) (2 ^ 64 - 1);
       greatest = cond (is_counted status) (max t.greatest size) t.greatest;
     }
 

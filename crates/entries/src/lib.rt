@@ -1,11 +1,11 @@
 // The entries of a Par 1.0 list (document 01, "Byte layout"): the first entry of a part of a list, and the walk over a whole one.
 #![tactic(auto)]
 
-ghost use Rattle.std.specs.Prelude.{◌≡◌, ◌+◌, ◌%◌, ◌<◌, ◌≤◌, ◌^◌, length, drop, ℕ, List};
+ghost use Rattle.std.specs.Prelude.{◌≡◌, cond, ◌%◌, ◌≤◌, max, length, drop, ℕ, List};
 ghost use Rattle.std.specs.Iterator.{YieldsFirst, YieldsFirstRef, item_count};
 ghost use Rattle.entries.specs.Entry.{unit_allowed, is_dot, units_allowed, only_dots, is_dots, name_allowed, units_of};
 ghost use Rattle.entries.specs.Entry.{entry_size_allowed, is_saved, saved_count, is_counted, status_of, file_size_of, length_of};
-ghost use Rattle.entries.specs.Walk.{fault_number, refusal_at, first_of, entries_of, add_entry, walk_of};
+ghost use Rattle.entries.specs.Walk.{fault_number, refusal_at, first_of, entries_of, saturating_add_entry, walk_of};
 
 use refusals::Refusal;
 use std::marker::Model;
@@ -75,17 +75,14 @@ pub struct Totals {
 }
 
 impl Totals {
-    // Counts one entry more.
-    #[tactic(auto, unfolding(crate::specs::Walk::add_entry))]
+    // Counts one entry more; a count that has no room for it stays at the greatest number.
+    #[tactic(auto, unfolding(crate::specs::Walk::saturating_add_entry))]
     pub fn add(&mut self, status: u64, size: u64)
-        requires { (self.old.entries + 1 < 2 ^ 64) × (self.old.saved + 1 < 2 ^ 64) }
-        ensures { self.new ≡ add_entry self.old status size }
+        ensures { self.new ≡ saturating_add_entry self.old status size }
     {
-        self.entries += 1;
-        self.saved += saved_count(status);
-        if is_counted(status) {
-            self.greatest = self.greatest.max(size);
-        }
+        self.entries = self.entries.saturating_add(1);
+        self.saved = self.saved.saturating_add(saved_count(status));
+        self.greatest = greatest_after(self.greatest, status, size);
     }
 }
 
@@ -116,6 +113,20 @@ pub fn first(list: &[u8]) -> Result<Option<Entry>, Fault>
         status,
         size,
     }))
+}
+
+// What stands at the place `from` of `list`, as `first` tells it. Past the end there is nothing.
+pub fn at(list: &[u8], from: usize) -> Result<Option<Entry>, Fault>
+    ensures { result ≡ first_of (drop from list.now) }
+{
+    first(&list[from.min(list.len())..])
+}
+
+// The length of the entry at the place `from` of `list`, 0 where there is none.
+pub fn length_at(list: &[u8], from: usize) -> usize
+    ensures { result ≡ length_of (drop from list.now) }
+{
+    first_length(&list[from.min(list.len())..])
 }
 
 // The length of the entry that `list` begins with, 0 where there is none.
@@ -299,6 +310,17 @@ fn is_dots(name: &[u8]) -> bool
     ensures { result ≡ is_dots (units_of name.now) }
 {
     name.len() <= MAX_DOTS && only_dots(name)
+}
+
+// The greatest size that counts, with one entry more.
+pub fn greatest_after(greatest: u64, status: u64, size: u64) -> u64
+    ensures { result ≡ cond (is_counted status) (max greatest size) greatest }
+{
+    if is_counted(status) {
+        greatest.max(size)
+    } else {
+        greatest
+    }
 }
 
 // Whether an entry counts for the data size: a saved one does.

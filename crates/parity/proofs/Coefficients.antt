@@ -34,15 +34,15 @@ module _ (c : Code) (f v : ℕ) where
   unfolding coefficient_answer
   answer_in_range hf hv h = simp (ne_eqb f 0 (λ e. omega arith), ne_eqb v 0 (λ e. omega arith), le-ltb 255 (f + v) h)
 
-  answer_file_zero : f ≡ 0 → coefficient_answer c f v ≡ Err 10
+  pub answer_file_zero : f ≡ 0 → coefficient_answer c f v ≡ Err 10
   unfolding coefficient_answer
   answer_file_zero e = simp (eq-eqb f 0 e)
 
-  answer_volume_zero : v ≡ 0 → coefficient_answer c f v ≡ Err 10
+  pub answer_volume_zero : v ≡ 0 → coefficient_answer c f v ≡ Err 10
   unfolding coefficient_answer
   answer_volume_zero e = simp (eq-eqb v 0 e, or-true)
 
-  answer_sum_above : 255 < f + v → coefficient_answer c f v ≡ Err 10
+  pub answer_sum_above : 255 < f + v → coefficient_answer c f v ≡ Err 10
   unfolding coefficient_answer
   answer_sum_above h = simp (lt-ltb 255 (f + v) h, or-true)
 

@@ -42,7 +42,7 @@ module _ (c : Counts) where
         set_is = eqb-true _ _ five.1;
       }
 
-  open_set : c.ended ≡ false → c.total ≤ cap → c.control ≡ c.total - 32 → c.at + 58 * c.entries ≤ c.total - 96
+  pub open_set : c.ended ≡ false → c.total ≤ cap → c.control ≡ c.total - 32 → c.at + 58 * c.entries ≤ c.total - 96
       → c.saved ≤ c.entries → is_open c ≡ eqb c.set (16 * c.saved)
   unfolding is_open
   open_set a b d e f = simp (a, le-leb _ _ b, eq-eqb _ _ d, le-leb _ _ e, le-leb _ _ f)

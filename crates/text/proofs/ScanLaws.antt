@@ -50,7 +50,7 @@ rest_from s at (Some x) d h e = h.2 ∙ take_all _ (drop at s) (omega (arith, le
 -- ---- the first byte of a kind
 
 module _ (b : ℕ) where
-  to_here : (s : List ℕ) (i : ℕ) → i < length s → get_or s i 0 ≡ b → length_to b (drop i s) ≡ 0
+  pub to_here : (s : List ℕ) (i : ℕ) → i < length s → get_or s i 0 ≡ b → length_to b (drop i s) ≡ 0
   to_here s i h e = ap (length_to b) (drop_at s i h) ∙ simp (eq-eqb (get_or s i 0) b e)
 
   pub to_most : (s : List ℕ) → length_to b s ≤ length s

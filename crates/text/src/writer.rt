@@ -22,6 +22,14 @@ impl<'a> Writer<'a> {
         Writer { out, at: 0 }
     }
 
+    // At the position `at` of a buffer, which may be past its end.
+    pub fn starting_at(out: &'a mut [u8], at: usize) -> Writer<'a>
+        ensures same_reference { result.out.ghost_name ≡ out.entry.ghost_name }
+        ensures starts { buffer_of result ≡ buffer out.old at }
+    {
+        Writer { out, at }
+    }
+
     // The position of the next byte: how long the text is, from a start at 0.
     pub fn position(&self) -> usize
         ensures { result ≡ (buffer_of self.now).at }

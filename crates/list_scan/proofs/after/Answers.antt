@@ -4,6 +4,7 @@
 use Rattle.std.proofs.Common.{◌≡◌, ◌+◌, ◌-◌, ◌≤◌, length, take, drop, sym, ap, ap₂, ◌∙◌, arith, length-drop, rules}
 use Rattle.lent_bytes.proofs.PartLaws.{part_to_end}
 use Rattle.entries.specs.Walk.{add_entry}
+use Rattle.entries.proofs.WalkLaws.{add_fits}
 use Rattle.list_scan.proofs.RunLaws.{kept_start, kept_done, run_fits, run_length, run_ends, run_goes_on}
 use Rattle.list_scan.proofs.after.Goals as goal
 
@@ -28,15 +29,17 @@ slice_bounds-put-end c = sym c.loop-i.invariant.head_size
 pub overflow_add-scan : goal.overflow_add-scan
 overflow_add-scan c = omega (arith, (let h : c.loop-i.i + c.next_run-run.result.length ≤ length c.args.bytes.now = run_fits _ _ _ c.loop-i.invariant c.next_run-run.ensures in h), c.loop-i.invariant.room.at_fits)
 
-pub add-requires : goal.add-requires
-add-requires c = let room = c.loop-i.invariant.room in let some = c.next_run-run.ensures.some in (omega (arith, (let h : c.loop-i.i + c.next_run-run.result.length ≤ length c.args.bytes.now = run_fits _ _ _ c.loop-i.invariant c.next_run-run.ensures in h), some, room.entries_fit), omega (arith, (let h : c.loop-i.i + c.next_run-run.result.length ≤ length c.args.bytes.now = run_fits _ _ _ c.loop-i.invariant c.next_run-run.ensures in h), some, room.saved_fit))
-
 pub loop-i-smaller-then-is_whole : goal.loop-i-smaller-then-is_whole
 loop-i-smaller-then-is_whole c = omega (arith, (let h : c.loop-i.i + c.next_run-run.result.length ≤ length c.args.bytes.now = run_fits _ _ _ c.loop-i.invariant c.next_run-run.ensures in h), c.next_run-run.ensures.some)
 
 pub loop-i-preserved-then-is_whole : goal.loop-i-preserved-then-is_whole
-loop-i-preserved-then-is_whole c = rw c.start-scan.ensures (run_ends _ _ _ c.loop-i.invariant c.next_run-run.ensures c.put.ensures
-    c.is_whole.ensures c.if-is_whole.true (c.add.ensures ∙ ap₂ (add_entry c.loop-i.scan.totals) c.status_of-status.ensures c.file_size_of-size.ensures) c.hashed-scan.ensures)
+loop-i-preserved-then-is_whole c = let l = c.loop-i in
+    let fits : l.i + c.next_run-run.result.length ≤ length c.args.bytes.now = run_fits _ _ _ l.invariant c.next_run-run.ensures in
+    let some = c.next_run-run.ensures.some in
+    let added = add_fits l.scan.totals _ _ (omega (arith, fits, some, l.invariant.room.entries_fit)) (omega (arith, fits, some, l.invariant.room.saved_fit)) in
+    rw c.start-scan.ensures (run_ends _ _ _ l.invariant c.next_run-run.ensures c.put.ensures
+    c.is_whole.ensures c.if-is_whole.true
+    (c.add.ensures ∙ added ∙ ap₂ (add_entry l.scan.totals) c.status_of-status.ensures c.file_size_of-size.ensures) c.hashed-scan.ensures)
 
 pub overflow_sub-scan : goal.overflow_sub-scan
 overflow_sub-scan c = c.next_run-run.ensures.some
