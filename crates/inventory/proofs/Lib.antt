@@ -12,7 +12,7 @@ mod Inside
 mod TellingCalls
 pub mod Told
 pub mod Determined
-pub mod Refused
+pub mod RefusedCalls
 pub mod Representation
 pub mod Openings
 pub mod Condition

@@ -419,14 +419,14 @@ abbrev pub ExactlyGiven : Type 0
 ExactlyGiven = ExactlyGivenFor rule_of
 
 -- "Every call refuses with 10, first of all, a sheet that opening and accepted calls could not have given."
--- proved: proofs/Refused.antt, `others_refused`
+-- proved: proofs/RefusedCalls.antt, `others_refused`
 abbrev pub OthersRefused : Type 0
 OthersRefused =
     (s : Inventory) → is_inventory s ≡ false
     → (c : Call) (r : Reply) (s₁ : Inventory) → Step rule_of s c r s₁ → (r ≡ reply 10 (room_of c)) × (s₁ ≡ s)
 
 -- "every part of it is 0, and every call refuses that sheet with 10"
--- proved: proofs/Refused.antt, `zeros-refused`
+-- proved: proofs/RefusedCalls.antt, `zeros-refused`
 abbrev pub ZerosRefused : Type 0
 ZerosRefused = (c : Call) (r : Reply) (s₁ : Inventory) → Step rule_of zeros c r s₁ → (r ≡ reply 10 (room_of c)) × (s₁ ≡ zeros)
 

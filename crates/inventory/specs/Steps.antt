@@ -7,6 +7,9 @@
 --   nonempty_of sizes k   the files among the first k that are not empty
 --   fresh c n sizes      an inventory of n files of these sizes, nothing present, for volumes of the code c
 --   outcome s k          the outcome of the inventory s and the number k
+--   refusal o             the refusal of a call whose outcome is o: its number, and the inventory that is handed back
+--   or_refused a o        what a call returns whose outcome is o: a, or the refusal of o
+--   handed_back o         so of a call that opens or changes an inventory: the next one, or the refusal
 --   refused_opening k     the outcome of an opening refused with k
 --   open_step             opening
 --   with_files s ws       the inventory s with the files of the set ws present
@@ -39,6 +42,7 @@ use Rattle.inventory.specs.Model.{Change, add_file, remove_file, add_volume, rem
 use Rattle.inventory.specs.Model.{Reply, numbered, counts}
 use Rattle.inventory.specs.declared.Inventory.{Inventory}
 use Rattle.inventory.specs.Outcome.{Outcome}
+use Rattle.inventory.specs.declared.Refused.{Refused}
 use Rattle.inventory.specs.declared.Counts.{Counts}
 use Rattle.recovery.specs.declared.Answer.{Answer}
 use Rattle.recovery.specs.declared.Answer.TheVariants as answer
@@ -93,6 +97,16 @@ fresh c n sizes = record {
 
 abbrev pub outcome : Inventory → ℕ → Outcome
 outcome s k = record { next = s; number = k }
+
+abbrev pub refusal : Outcome → Refused
+refusal o = record { number = o.number; inventory = o.next }
+
+abbrev pub or_refused : {A : Type 0} → A → Outcome → Result A Refused
+or_refused a o = cond (eqb o.number 0) (Ok a) (Err (refusal o))
+
+-- "A refusal returns its number only ..; the sheet is handed back as it came. Where a refused opening must hand back a sheet, every part of it is 0"
+abbrev pub handed_back : Outcome → Result Inventory Refused
+handed_back o = or_refused o.next o
 
 abbrev pub refused_opening : ℕ → Outcome
 refused_opening number = outcome zeros number

@@ -4,7 +4,8 @@
 
 ghost use Rattle.std.specs.Prelude.{◌≡◌};
 ghost use Rattle.inventory.specs.Model.{add_file, remove_file, add_volume, remove_volume, quarantine, release};
-ghost use Rattle.inventory.specs.Steps.{if_inventory, zeros, open_step, change_step, count_reply, count_step, change_number, or_refusal};
+ghost use Rattle.inventory.specs.Steps.{if_inventory, zeros, outcome, refusal, or_refused, handed_back, refused_opening};
+ghost use Rattle.inventory.specs.Steps.{open_step, change_step, count_reply, count_step, change_number};
 
 mod query;
 mod ranges;
@@ -28,6 +29,14 @@ pub struct Inventory {
     pub code: Code,
 }
 
+// A refusal of a call that opens or changes an inventory: its number, and the inventory that is handed back: of a change the one that it was
+// given, as it came; of an opening zeros, which every call refuses with 10.
+#[derive(Clone, Copy)]
+pub struct Refused {
+    pub number: u32,
+    pub inventory: Inventory,
+}
+
 // How many files and how many volumes are present, and how many volumes are in quarantine.
 #[derive(Clone, Copy, Debug, PartialEq, Eq)]
 pub struct Counts {
@@ -37,21 +46,20 @@ pub struct Counts {
 }
 
 // Every call but `open` refuses with 10, first of all, an inventory that no calls give. A change takes the inventory by value and hands back the
-// next one, so that a refusal, which is its number alone, leaves the caller's as it was; document 01 has it so (docs/DECISIONS.md, "Forms that
-// document 01 names").
+// next one or, with a refusal, that one as it came; document 01 has it so (docs/DECISIONS.md, "Forms that document 01 names").
 impl Inventory {
     // An inventory of n files of these sizes, nothing present, for volumes of this code: 10 unless n is 1 to 254 and there are n
     // sizes, then 1 for a size above the limit.
-    pub fn open(code: Code, n: u64, sizes: &[u64]) -> Result<Inventory, u32>
-        ensures { let o = open_step code n sizes.now in result ≡ or_refusal o.next o.number }
+    pub fn open(code: Code, n: u64, sizes: &[u64]) -> Result<Inventory, Refused>
+        ensures { result ≡ handed_back (open_step code n sizes.now) }
     {
         if !one_to(MAX_FILES, n) || sizes.len() as u64 != n {
-            return Err(OUT_OF_RANGE);
+            return Err(refused_opening(OUT_OF_RANGE));
         }
         let mut nonempty = [0u64; 4];
         for (k, size) in sizes.iter().enumerate() {
             if *size > MAX_FILE_SIZE {
-                return Err(SIZE);
+                return Err(refused_opening(SIZE));
             }
             if *size > 0 {
                 // through a name of its own: the borrow checker lays no call's result straight in a variable that is an array
@@ -70,8 +78,8 @@ impl Inventory {
     }
 
     // The inventory with a file present: 10 for a number out of range, 11 for one that is present.
-    pub fn add_file(mut self, file: u64) -> Result<Inventory, u32>
-        ensures { let o = change_step add_file self file in result ≡ or_refusal o.next o.number }
+    pub fn add_file(mut self, file: u64) -> Result<Inventory, Refused>
+        ensures { result ≡ handed_back (change_step add_file self file) }
     {
         self.permitted(one_to(self.n, file), false, false, has(self.files, file))?;
         self.files = insert(self.files, file);
@@ -79,8 +87,8 @@ impl Inventory {
     }
 
     // The inventory with a file missing: 10 for a number out of range, 11 for one that is missing.
-    pub fn remove_file(mut self, file: u64) -> Result<Inventory, u32>
-        ensures { let o = change_step remove_file self file in result ≡ or_refusal o.next o.number }
+    pub fn remove_file(mut self, file: u64) -> Result<Inventory, Refused>
+        ensures { result ≡ handed_back (change_step remove_file self file) }
     {
         self.permitted(one_to(self.n, file), false, false, !has(self.files, file))?;
         self.files = remove(self.files, file);
@@ -89,8 +97,8 @@ impl Inventory {
 
     // The inventory with a volume of this code present: 10 for a number out of range, 29 for the other code, 27 for one in quarantine,
     // 11 for one that is present.
-    pub fn add_volume(mut self, code: Code, volume: u64) -> Result<Inventory, u32>
-        ensures { let o = change_step (add_volume code) self volume in result ≡ or_refusal o.next o.number }
+    pub fn add_volume(mut self, code: Code, volume: u64) -> Result<Inventory, Refused>
+        ensures { result ≡ handed_back (change_step (add_volume code) self volume) }
     {
         let ranged = is_volume(self.n, volume);
         let other = code != self.code;
@@ -101,8 +109,8 @@ impl Inventory {
     }
 
     // The inventory with a volume missing, neither present nor in quarantine: 10 for a number out of range, 11 for one that is neither.
-    pub fn remove_volume(mut self, volume: u64) -> Result<Inventory, u32>
-        ensures { let o = change_step remove_volume self volume in result ≡ or_refusal o.next o.number }
+    pub fn remove_volume(mut self, volume: u64) -> Result<Inventory, Refused>
+        ensures { result ≡ handed_back (change_step remove_volume self volume) }
     {
         let held = has(self.volumes, volume) || has(self.quarantined, volume);
         self.permitted(is_volume(self.n, volume), false, false, !held)?;
@@ -112,8 +120,8 @@ impl Inventory {
     }
 
     // The inventory with a volume in quarantine, no longer present: 10 for a number out of range, 11 for one that is not present.
-    pub fn quarantine(mut self, volume: u64) -> Result<Inventory, u32>
-        ensures { let o = change_step quarantine self volume in result ≡ or_refusal o.next o.number }
+    pub fn quarantine(mut self, volume: u64) -> Result<Inventory, Refused>
+        ensures { result ≡ handed_back (change_step quarantine self volume) }
     {
         let ranged = is_volume(self.n, volume);
         self.permitted(ranged, false, false, !has(self.volumes, volume))?;
@@ -123,8 +131,8 @@ impl Inventory {
     }
 
     // The inventory with a volume out of quarantine, present again: 10 for a number out of range, 11 for one that is not in quarantine.
-    pub fn release(mut self, volume: u64) -> Result<Inventory, u32>
-        ensures { let o = change_step release self volume in result ≡ or_refusal o.next o.number }
+    pub fn release(mut self, volume: u64) -> Result<Inventory, Refused>
+        ensures { result ≡ handed_back (change_step release self volume) }
     {
         let ranged = is_volume(self.n, volume);
         self.permitted(ranged, false, false, !has(self.quarantined, volume))?;
@@ -148,24 +156,44 @@ impl Inventory {
     }
 
     // Whether a change may be: 10, then 29 where a volume of the other code is to be added, 27 where one in quarantine is, then 11 where there
-    // is nothing to do.
-    fn permitted(self, in_range: bool, other: bool, aside: bool, already: bool) -> Result<(), u32>
-        ensures { result ≡ or_refusal tt (if_inventory self (change_number in_range other aside already)) }
+    // is nothing to do; the refusal has the inventory as it came.
+    fn permitted(
+        self,
+        in_range: bool,
+        other: bool,
+        aside: bool,
+        already: bool,
+    ) -> Result<(), Refused>
+        ensures { result ≡ or_refused tt (outcome self (if_inventory self (change_number in_range other aside already))) }
     {
         if !is_inventory(self) || !in_range {
-            return Err(OUT_OF_RANGE);
+            return Err(self.refused(OUT_OF_RANGE));
         }
         if other {
-            return Err(OTHER_CODE);
+            return Err(self.refused(OTHER_CODE));
         }
         if aside {
-            return Err(QUARANTINED);
+            return Err(self.refused(QUARANTINED));
         }
-        if already { Err(ALREADY) } else { Ok(()) }
+        if already {
+            Err(self.refused(ALREADY))
+        } else {
+            Ok(())
+        }
+    }
+
+    // A refusal with this inventory as it came.
+    fn refused(self, number: u32) -> Refused
+        ensures { result ≡ refusal (outcome self number) }
+    {
+        Refused {
+            number,
+            inventory: self,
+        }
     }
 }
 
-// The inventory of zeros, which every call refuses with 10: of bytes that are no inventory, and of a log whose first line is refused.
+// The inventory of zeros, which every call refuses with 10: of bytes that are no inventory, and of a refused opening.
 pub fn zeros() -> Inventory
     ensures { result ≡ zeros }
 {
@@ -176,5 +204,15 @@ pub fn zeros() -> Inventory
         nonempty: [0u64; 4],
         quarantined: [0u64; 4],
         code: Code::Powers,
+    }
+}
+
+// A refused opening.
+pub fn refused_opening(number: u32) -> Refused
+    ensures { result ≡ refusal (refused_opening number) }
+{
+    Refused {
+        number,
+        inventory: zeros(),
     }
 }

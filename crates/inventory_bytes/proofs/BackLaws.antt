@@ -7,6 +7,7 @@
 --   loaded_back    the bytes of an inventory are that inventory
 --   stored_back    144 bytes whose code is one are the bytes of the inventory that they are
 --   zeros_bytes, refused-zeros     the inventory of a refused opening is 144 zeros
+--   opened_zeros         so is the one that `opened` returns with a refusal
 -- Assumes nothing.
 use mathlib.Core.Path.{◌≡◌, refl, sym, ap, ap₂, ◌∙◌}
 use mathlib.Core.Logic.{inl, inr, ◌≢◌}
@@ -17,17 +18,21 @@ use native.Mathlib.Nat.{zero-lt-suc}
 use native.Mathlib.Omega.{arith}
 use lib.ListN.{length, get_or, replicate, length-append}
 use lib.Seq.{take_all}
-use lib.Dec.{eqb}
+use lib.Dec.{leb, eqb}
 use borrow.Author.Tests.{eq-eqb, ne_eqb}
 use Rattle.codes.specs.Codes.{is_code, code_of, code_number}
 use Rattle.codes.specs.declared.Code.{Code}
 use Rattle.codes.proofs.CodeLaws.{back, number_back, number_small, number_code}
-use Rattle.inventory.specs.Steps.{zeros}
+use Rattle.std.specs.Prelude.{Err}
+use Rattle.refusals.specs.Limits.{max_files}
+use Rattle.inventory.specs.Steps.{zeros, handed_back, open_step, refused_opening}
 use Rattle.inventory.specs.declared.Inventory.{Inventory}
+use Rattle.inventory.specs.declared.Refused.{Refused}
+use Rattle.inventory.proofs.Outcomes.{refused_tells}
 use Rattle.inventory.proofs.Openings.{refused-next}
 use Rattle.little_endian.specs.Bytes.{to_le, le_at, numbers, numbers_at}
 use Rattle.little_endian.proofs.NumberLists.{length-numbers, numbers-append, numbers_back, numbers_read}
-use Rattle.inventory_bytes.specs.Inventories.{code_number_in, inventory_in, inventory_of, inventory_bytes}
+use Rattle.inventory_bytes.specs.Inventories.{code_number_in, inventory_in, inventory_of, inventory_bytes, opened_by}
 use Rattle.inventory_bytes.specs.Claim.{Held, InventoryPlaced, LoadedBack, StoredBack, OtherBytes, RefusedZeros}
 
 -- ---- the length and the code
@@ -141,3 +146,12 @@ zeros_bytes = refl
 
 pub refused-zeros : RefusedZeros
 refused-zeros c n sizes h = ap inventory_bytes (refused-next c n sizes h) ∙ zeros_bytes
+
+pub opened_zeros : (c : Code) (n : ℕ) (s : List ℕ) {r : Refused} → Err r ≡ handed_back (opened_by c n s)
+    → inventory_bytes r.inventory ≡ replicate 144 0
+unfolding opened_by
+opened_zeros c n s {r} h = go (leb n max_files && eqb (length s) (8 * n)) h
+  where
+    go : (b : Bool) → Err r ≡ handed_back (cond b (open_step c n (numbers_at n s 0)) (refused_opening 10)) → inventory_bytes r.inventory ≡ replicate 144 0
+    go true h = let t = refused_tells (open_step c n (numbers_at n s 0)) h in ap inventory_bytes t.2 ∙ refused-zeros c n (numbers_at n s 0) t.0
+    go false h = ap inventory_bytes (refused_tells (refused_opening 10) h).2 ∙ zeros_bytes

@@ -11,13 +11,13 @@ use borrow.Author.Tests.{eqb-true, eq-eqb}
 use Rattle.std.specs.Prelude.{Ok, Err}
 use Rattle.lent_bytes.proofs.WritingLaws.{unless_refused, numbered_as}
 use Rattle.inventory.specs.Outcome.{Outcome}
-use Rattle.inventory.specs.Steps.{outcome, or_refusal}
+use Rattle.inventory.specs.Steps.{outcome, refusal, handed_back}
 use Rattle.inventory_bytes.specs.Inventories.{stored, stored_by}
 
-pub stored_outcome : (o : Outcome) (out : List ℕ) → stored (or_refusal o.next o.number) out ≡ stored_by o out
+pub stored_outcome : (o : Outcome) (out : List ℕ) → stored (handed_back o) out ≡ stored_by o out
 unfolding stored stored_by
 stored_outcome o out = go (eqb o.number 0) refl
   where
-    go : (b : Bool) → eqb o.number 0 ≡ b → stored (cond b (Ok o.next) (Err o.number)) out ≡ stored_by o out
+    go : (b : Bool) → eqb o.number 0 ≡ b → stored (cond b (Ok o.next) (Err (refusal o))) out ≡ stored_by o out
     go true e = ap (λ (k : ℕ). stored_by (outcome o.next k) out) (sym (eqb-true o.number 0 e))
     go false e = numbered_as refl (unless_refused _ _ refl (λ z. true≢false (sym (eq-eqb o.number 0 z) ∙ e)) refl)

@@ -18,6 +18,7 @@ use Rattle.codes.specs.declared.Code.{Code}
 use Rattle.inventory.specs.Model.{Reply, reply}
 use Rattle.inventory.specs.Steps.{zeros, outcome, open_step, refused_opening}
 use Rattle.inventory.specs.declared.Inventory.{Inventory}
+use Rattle.inventory.specs.declared.Refused.{Refused}
 use Rattle.inventory.specs.Outcome.{Outcome}
 use Rattle.refusals.specs.Limits.{max_files}
 use Rattle.little_endian.specs.Bytes.{le_at, numbers, numbers_at}
@@ -49,9 +50,9 @@ opened_by c n s = cond (leb n max_files && eqb (length s) (8 * n)) (open_step c 
 unfoldable pub stored_by : Outcome → List ℕ → ℕ × List ℕ
 stored_by o out = with_number (written_unless (bare o.number) (inventory_bytes o.next) out)
 
-unfoldable pub stored : Result Inventory ℕ → List ℕ → ℕ × List ℕ
+unfoldable pub stored : Result Inventory Refused → List ℕ → ℕ × List ℕ
 stored (Ok s) out = stored_by (outcome s 0) out
-stored (Err number) out = (number, out)
+stored (Err r) out = (r.number, out)
 
 -- the values of a count are numbers of 64 bits
 unfoldable pub counted_into : Reply → List ℕ → ℕ × List ℕ

@@ -2,12 +2,12 @@
 #![tactic(auto)]
 
 ghost use Rattle.std.specs.Prelude.{◌≡◌, [], ◌∷◌, length};
-ghost use Rattle.inventory.specs.Steps.{open_step, or_refusal, count_reply, answer_number};
+ghost use Rattle.inventory.specs.Steps.{open_step, handed_back, count_reply, answer_number};
 ghost use Rattle.little_endian.specs.Bytes.{numbers as numbers_of, numbers_at};
 ghost use Rattle.inventory_bytes.specs.Inventories.{inventory_of, inventory_bytes, opened_by, stored, counted_into};
 
 use codes::Code;
-use inventory::{Answer, Counts, Inventory, zeros};
+use inventory::{Answer, Counts, Inventory, Refused, refused_opening, zeros};
 use lent_bytes::write;
 use little_endian::{read_numbers, read64, write_numbers};
 use refusals::{MAX_FILES, OUT_OF_RANGE, PRESENT, UNDETERMINED};
@@ -22,23 +22,23 @@ const COUNT_LENGTH: usize = 24;
 const MOST_FILES: usize = MAX_FILES as usize;
 
 // Opens an inventory for volumes of this code, of n files with the sizes in these bytes.
-pub fn opened(code: Code, n: u64, sizes: &[u8]) -> Result<Inventory, u32>
-    ensures { let o = opened_by code n sizes.now in result ≡ or_refusal o.next o.number }
+pub fn opened(code: Code, n: u64, sizes: &[u8]) -> Result<Inventory, Refused>
+    ensures { result ≡ handed_back (opened_by code n sizes.now) }
 {
     let count = n as usize;
     if MOST_FILES < count {
-        return Err(OUT_OF_RANGE);
+        return Err(refused_opening(OUT_OF_RANGE));
     }
     if sizes.len() != 8 * count {
-        return Err(OUT_OF_RANGE);
+        return Err(refused_opening(OUT_OF_RANGE));
     }
     let mut numbers = [0u64; MOST_FILES];
     opened_by(code, n, sizes, &mut numbers[..count])
 }
 
 // Opens an inventory of n files with as many sizes as are to be read into `numbers`.
-fn opened_by(code: Code, n: u64, sizes: &[u8], numbers: &mut [u64]) -> Result<Inventory, u32>
-    ensures { let o = open_step code n (numbers_at (length numbers.old) sizes.now 0) in result ≡ or_refusal o.next o.number }
+fn opened_by(code: Code, n: u64, sizes: &[u8], numbers: &mut [u64]) -> Result<Inventory, Refused>
+    ensures { result ≡ handed_back (open_step code n (numbers_at (length numbers.old) sizes.now 0)) }
 {
     read_numbers(sizes, 0, numbers);
     Inventory::open(code, n, numbers)
@@ -78,7 +78,7 @@ fn four_at(bytes: &[u8], at: usize) -> [u64; 4]
 }
 
 // The inventory that a call hands back over the first bytes of `out`, and 0; or the number of the refusal.
-pub fn store(outcome: Result<Inventory, u32>, out: &mut [u8]) -> u32
+pub fn store(outcome: Result<Inventory, Refused>, out: &mut [u8]) -> u32
     ensures { (result, out.new) ≡ stored outcome out.old }
 {
     match outcome {
@@ -86,7 +86,7 @@ pub fn store(outcome: Result<Inventory, u32>, out: &mut [u8]) -> u32
             let bytes = bytes_of(next);
             write(out, &bytes)
         }
-        Err(number) => number,
+        Err(refused) => refused.number,
     }
 }
 

@@ -8,24 +8,24 @@ use mathlib.Core.Path.{◌≡◌, refl, ap, ◌∙◌}
 use mathlib.Core.List.{List}
 use Prim.Native.Nat.{ℕ}
 use Rattle.inventory.specs.Model.{Reply}
-use Rattle.inventory.specs.Steps.{count_step}
+use Rattle.inventory.specs.Steps.{handed_back, count_step}
 use Rattle.inventory.specs.declared.Inventory.{Inventory}
+use Rattle.inventory.specs.declared.Refused.{Refused}
 use Rattle.inventory.specs.Outcome.{Outcome}
 use Rattle.std.specs.Prelude.{Result}
-use Rattle.inventory.proofs.Outcomes.{returned}
 use Rattle.inventory_bytes.specs.Inventories.{inventory_of, stored, stored_by, counted_into}
 use Rattle.inventory_bytes.proofs.Stores.{stored_outcome}
 use Rattle.par1_c.specs.Inventories.{changed_by, count_into}
 
-pub stored_same : (o : Outcome) (out : List ℕ) {q : Result Inventory ℕ} {r : ℕ × List ℕ} → q ≡ returned o → r ≡ stored q out → r ≡ stored_by o out
-stored_same o out is e = e ∙ ap (λ (q : Result Inventory ℕ). stored q out) is ∙ stored_outcome o out
+pub stored_same : (o : Outcome) (out : List ℕ) {q : Result Inventory Refused} {r : ℕ × List ℕ} → q ≡ handed_back o → r ≡ stored q out → r ≡ stored_by o out
+stored_same o out is e = e ∙ ap (λ (q : Result Inventory Refused). stored q out) is ∙ stored_outcome o out
 
 module _ (b : List ℕ) {s : Inventory} {r : ℕ × List ℕ} where
   pub changed_by_outcome : (step : Inventory → ℕ → Outcome) (k : ℕ) {o : Outcome} → s ≡ inventory_of b → o ≡ step s k → r ≡ stored_by o b
       → r ≡ changed_by step k b
   changed_by_outcome step k loaded stepped stored = stored ∙ ap (λ (o : Outcome). stored_by o b) (stepped ∙ ap (λ (s : Inventory). step s k) loaded)
 
-  pub changed-same : (step : Inventory → ℕ → Outcome) (k : ℕ) {o : Result Inventory ℕ} → s ≡ inventory_of b → o ≡ returned (step s k)
+  pub changed-same : (step : Inventory → ℕ → Outcome) (k : ℕ) {o : Result Inventory Refused} → s ≡ inventory_of b → o ≡ handed_back (step s k)
       → r ≡ stored o b → r ≡ changed_by step k b
   changed-same step k loaded stepped e = changed_by_outcome step k loaded refl (stored_same (step s k) b stepped e)
 

@@ -10,7 +10,7 @@ use Rattle.inventory.specs.Model.{Change, add_volume, Reply}
 use Rattle.inventory.specs.Steps.{is_inventory, zeros, change_step, count_step}
 use Rattle.inventory.specs.declared.Inventory.{Inventory}
 use Rattle.inventory.specs.Outcome.{Outcome}
-use Rattle.inventory.proofs.Refused.{change_refused, count-refused, zeros-none}
+use Rattle.inventory.proofs.RefusedCalls.{change_refused, count-refused, zeros-none}
 use Rattle.inventory_bytes.specs.Inventories.{inventory_of, stored_by, counted_into}
 use Rattle.inventory_bytes.proofs.BackLaws.{other_bytes}
 use Rattle.lent_bytes.specs.Writing.{written_unless}

@@ -22,7 +22,7 @@ use Rattle.inventory.specs.Model.{Change, add_file, remove_file, add_volume, rem
 use Rattle.inventory.specs.Steps.{is_inventory, if_inventory, in_range, change_number, change_step, outcome, refused_opening, open_step, fresh}
 use Rattle.inventory.specs.declared.Inventory.{Inventory}
 use Rattle.inventory.proofs.ValidInventories.{few_files}
-use Rattle.inventory.proofs.Refused.{change_refused}
+use Rattle.inventory.proofs.RefusedCalls.{change_refused}
 use Rattle.inventory.proofs.Outcomes.{open_out_of_range, open_miscounted}
 
 -- ---- changes

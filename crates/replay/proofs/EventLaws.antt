@@ -4,14 +4,13 @@
 --   event_short, event_long     a line of fewer than three characters is no event
 --   part_body               the part of a log that is a line without its byte 10
 --   opening_long, opening-none, opening_shape, opening_opens, opening_goes, opening_refused     the cases of the first line
---   told_kept, told_refused, before_kept     what is told of a change, by its outcome
---   gives_as, ends_at, goes_on_at     what a replay gives, by the event
+--   goes_on_at               a replay that goes on after an event
 --   next_end, next_unended, next_shape, next-taken     the cases of an event
 --   inside_log, next_other, next_here     the same by the line as the code cuts it
 -- Assumes nothing.
-use mathlib.Core.Path.{◌≡◌, refl, sym, ap, ap₂, ◌∙◌, subst}
+use mathlib.Core.Path.{◌≡◌, refl, sym, ap, ap₂, ◌∙◌}
 use mathlib.Core.Logic.{◌≢◌}
-use mathlib.Core.Bool.{Bool, true, false, cond, ◌&&◌, and-false, true≢false, false≢true}
+use mathlib.Core.Bool.{Bool, true, false, cond, ◌&&◌, and-false, false≢true}
 use mathlib.Core.List.{List, [], ◌∷◌}
 use Prim.Native.Nat.{ℕ, ◌+◌, ◌-◌, ◌≤◌, ◌<◌}
 use native.Mathlib.Omega.{arith}
@@ -22,19 +21,19 @@ use lib.Seq.{length-take-le}
 use borrow.Author.Tests.{le-leb, lt-leb, ne_eqb, eq-eqb, eqb-true}
 use Rattle.lent_bytes.proofs.PartLaws.{part_take}
 use Rattle.codes.specs.declared.Code.TheVariants.{Powers}
-use Rattle.std.specs.Prelude.{Option, Some, Result, Ok, Err}
-use Rattle.inventory.specs.Model.{Change, remove_volume}
+use Rattle.std.specs.Prelude.{Ok, Err}
+use Rattle.inventory.specs.Model.{remove_volume}
 use Rattle.inventory.specs.Outcome.{Outcome}
 use Rattle.inventory.proofs.Outcomes.{returned}
-use Rattle.inventory.specs.Steps.{outcome, open_step, change_step, after_change}
+use Rattle.inventory.specs.Steps.{outcome, open_step, change_step}
 use Rattle.inventory.specs.declared.Inventory.{Inventory}
 use Rattle.text.specs.Decimal.{is_decimal}
 use Rattle.text.specs.TextLines.{line_length}
 use Rattle.text.proofs.ScanLaws.{line_most}
 use Rattle.replay.specs.Log.{body_of, is_first_line, numbers_of, is_letter, change_of, is_event_line, number_in}
-use Rattle.replay.specs.Events.{ended, opened_by, opening, last, taken, next_event, told, GoesOn, Gives}
+use Rattle.replay.specs.Events.{ended, opened_by, opening, last, taken, next_event, GoesOn}
 use Rattle.replay.specs.FirstLine.{opened_line}
-use Rattle.replay.specs.Event.{Event}
+use Rattle.replay.specs.declared.events.Event.{Event}
 use Rattle.replay.specs.declared.events.Replay.{Replay}
 
 -- ---- the line of an event
@@ -76,37 +75,7 @@ module _ (o : Outcome) (from : ℕ) where
       go true is = absurd (cc)
       go false is = let same : k ≡ o.number = cc in ap ended same
 
-  pub told_kept : {t : Inventory} → Ok t ≡ returned o → (Some (Ok t) ≡ told (taken from o)) × (t ≡ o.next)
-  told_kept {t} is = go (eqb o.number 0) is
-    where
-      go : (b : Bool) → Ok t ≡ cond b (Ok o.next) (Err o.number) → (Some (Ok t) ≡ cond b (Some (Ok o.next)) (Some (Err o.number))) × (t ≡ o.next)
-      go true is = let same : t ≡ o.next = cc in (ap (λ (s : Inventory). Some (Ok s)) same, same)
-      go false is = absurd (cc)
-
-  pub told_refused : {k : ℕ} → Err k ≡ returned o → Some (Err k) ≡ told (taken from o)
-  told_refused {k} is = go (eqb o.number 0) is
-    where
-      go : (b : Bool) → Err k ≡ cond b (Ok o.next) (Err o.number) → Some (Err k) ≡ cond b (Some (Ok o.next)) (Some (Err o.number))
-      go true is = absurd (cc)
-      go false is = ap Some is
-
--- a refusal leaves what was present
-pub before_kept : (c : Change) (s : Inventory) (k : ℕ) {n : ℕ} → Err n ≡ returned (change_step c s k) → s ≡ (change_step c s k).next
-unfolding change_step
-before_kept c s k {n} is = go (eqb (change_step c s k).number 0) is
-  where
-    go : (b : Bool) → Err n ≡ cond b (Ok (cond b (after_change c s k) s)) (Err (change_step c s k).number) → s ≡ cond b (after_change c s k) s
-    go true is = absurd (cc)
-    go false is = refl
-
--- what a replay gives, by the event
-pub gives_as : (r : Replay) {t : Option (Result Inventory ℕ)} {r' : Replay} {e : Event} → e ≡ next_event r.log.now r.from r.inventory
-    → (t ≡ told e) × GoesOn r.log.now e r' → Gives r t r'
-gives_as r {t} {r'} z h = subst (λ (e : Event). (t ≡ told e) × GoesOn r.log.now e r') z h
-
-pub ends_at : (log : List ℕ) (k from : ℕ) (r : Replay) → r.log.now ≡ log → length log ≤ r.from → GoesOn log (last k from r.inventory) r
-ends_at log k from r z h = record { same = z; present = refl; more = λ o. absurd (true≢false o); no_more = λ _. h }
-
+-- a replay that goes on
 pub goes_on_at : (log : List ℕ) (o : Outcome) (r : Replay) → r.log.now ≡ log → r.inventory ≡ o.next → GoesOn log (taken r.from o) r
 goes_on_at log o r z i = record { same = z; present = i; more = λ _. refl; no_more = λ o. absurd (false≢true o) }
 

@@ -28,7 +28,7 @@ use Rattle.inventory.proofs.RecoverableSets.{set_there}
 use Rattle.inventory.proofs.RecoverableAnswers.{one_set}
 use Rattle.replay.specs.Lines.{refused_line, files_of, numbers_line}
 use Rattle.replay.specs.Events.{told, EventLine, at_end, refused, no_inventory, files}
-use Rattle.replay.specs.Event.{Event}
+use Rattle.replay.specs.declared.events.Event.{Event}
 
 module _ (e : Event) where
   pub line_refused : (line : List ℕ) → EventLine rule_of e line → e.number ≢ 0 → line ≡ refused_line e.number

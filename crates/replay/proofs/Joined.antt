@@ -17,7 +17,7 @@ use Rattle.recovery.specs.Recoverable.{State}
 use Rattle.replay.specs.Replay.{Decides, replay_of}
 use Rattle.replay.specs.Events.{opening, next_event, Prints, ends, goes_on}
 use Rattle.replay.specs.Claim.{LogPrints, at_once, by_events, LinesThere, LinesJoined}
-use Rattle.replay.specs.Event.{Event}
+use Rattle.replay.specs.declared.events.Event.{Event}
 use Rattle.replay.proofs.EventLines.{line_refused, line_there}
 use Rattle.replay.proofs.ReplayLaws.{Stands, lines_from, opening_starts, Follows, next_follows, next_goes}
 

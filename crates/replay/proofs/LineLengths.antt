@@ -24,7 +24,7 @@ use Rattle.text.specs.TextLines.{line_length}
 use Rattle.replay.specs.Log.{body_of, is_first_line, numbers_of, change_of, is_event_line, number_in}
 use Rattle.replay.specs.Events.{ended, opened_by, opening, last, taken, next_event, EventLine, at_end, refused, no_inventory, files, Prints, ends, goes_on}
 use Rattle.replay.specs.Claim.{at_once, by_events, LinesFit}
-use Rattle.replay.specs.Event.{Event}
+use Rattle.replay.specs.declared.events.Event.{Event}
 use Rattle.replay.proofs.ReplayLaws.{Stands, opening_starts, Follows, next_follows}
 use Rattle.replay.proofs.Lengths.{files_short, refused_short, opening_small}
 

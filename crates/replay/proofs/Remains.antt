@@ -19,7 +19,7 @@ use Rattle.text.specs.Writer.{Puts}
 use Rattle.text.specs.declared.writer.Writer.{Writer}
 use Rattle.text.proofs.WriterLaws as text
 use Rattle.replay.specs.Replay.{Decides, replay_of}
-use Rattle.replay.specs.Event.{Event}
+use Rattle.replay.specs.declared.events.Event.{Event}
 use Rattle.replay.specs.Events.{ended, opening, next_event, told, GoesOn, Gives, EventLine, at_end}
 use Rattle.replay.specs.declared.events.Replay.{Replay}
 use Rattle.replay.proofs.EventLines.{line_refused, told-none, told_number}

@@ -6,13 +6,14 @@
 --   Starts, opening_starts      the first line
 --   Follows, next_follows       an event
 --   next_goes, next_stays       one that is taken goes on in the log; one that ends it leaves what is present
+--   told_progress               what is told of an event leaves less of the log
 --   at_the_end                  no line after the end
 -- Assumes nothing.
 use mathlib.Core.Path.{◌≡◌, refl, sym, ap, ap₂, ◌∙◌, subst, fun_ext}
 use mathlib.Core.Logic.{◌↔◌, ◌≢◌}
 use mathlib.Core.Bool.{Bool, true, false, cond, true≢false, false≢true}
 use mathlib.Core.List.{List, [], ◌∷◌, ◌++◌}
-use Prim.Native.Nat.{ℕ, ◌+◌, ◌≤◌, ◌<◌}
+use Prim.Native.Nat.{ℕ, ◌+◌, ◌-◌, ◌≤◌, ◌<◌}
 use native.Mathlib.Nat.{suc-ne-zero}
 use native.Mathlib.Omega.{arith}
 use native.Mathlib.Decide.{ℕ_discrete, dec_le}
@@ -20,6 +21,8 @@ use lib.Dec.{leb, eqb}
 use lib.ListN.{length, get_or, take, drop, length-drop, drop_of_length-le}
 use lib.Seq.{drop-drop}
 use borrow.Author.Tests.{le-leb, lt-leb, eq-eqb, ne_eqb}
+use Rattle.std.specs.Prelude.{Option, None, Some, Result}
+use Rattle.std.specs.Iterator.{MakesProgress, at_most}
 use Rattle.cut_lists.specs.Pieces.{Cut, cut}
 use Rattle.cut_lists.proofs.CutLaws.{cut-none, cut_stop, cut_more}
 use Rattle.number_sets.specs.Sets.{member}
@@ -44,8 +47,9 @@ use Rattle.text.proofs.ScanLaws.{line_most}
 use Rattle.replay.specs.Log.{body_of, is_first_line, numbers_of, change_of, is_event_line, number_in}
 use Rattle.replay.specs.Lines.{refused_line, files_of, numbers_line}
 use Rattle.replay.specs.Replay.{Decides, event_line, event_lines, opened_lines, log_lines, replay_of}
-use Rattle.replay.specs.Events.{ended, opened_by, opening, last, taken, next_event, EventLine, at_end, refused, no_inventory, files}
-use Rattle.replay.specs.Event.{Event}
+use Rattle.replay.specs.Events.{ended, opened_by, opening, last, taken, next_event, told, EventLine, at_end, refused, no_inventory, files}
+use Rattle.replay.specs.declared.events.Event.{Event}
+use Rattle.replay.specs.declared.events.Replay.{Replay}
 use Rattle.replay.proofs.EventLines.{line_refused, line_end}
 use Rattle.replay.proofs.EventLaws.{opening_long, opening-none, opening_shape, opening_opens, next_end, next_unended, next_shape, next-taken}
 
@@ -315,6 +319,28 @@ pub next_goes : (log : List ℕ) (from : ℕ) (s : Inventory) (e : Event) → e 
     → (from < e.from) × (e.from ≤ length log)
 next_goes log from s e z o =
     subst (λ (e : Event). (from < e.from) × (e.from ≤ length log)) (sym z) (goes_on log from s (ap (λ (e : Event). e.over) (sym z) ∙ o))
+
+-- and what is told of an event leaves less of the log, of which nothing is left after the last
+module _ (log : List ℕ) (from : ℕ) (s : Inventory) where
+  told_within : {t : Result Inventory ℕ} → Some t ≡ told (next_event log from s) → from < length log
+  told_within {t} h =
+      elim (dec_le (length log) from) [
+        | yes l ↦ absurd (let z : Some t ≡ None = h ∙ sym (ap told (next_end log from s l)) in cc)
+        | no q ↦ omega arith
+      ]
+
+  pub told_progress : {r r' : Replay} (e : Event) (t : Option (Result Inventory ℕ)) → e ≡ next_event log from s → t ≡ told e
+      → r.log.now ≡ log → r'.log.now ≡ log → r.from ≡ from → r'.from ≡ cond e.over (length log) e.from
+      → MakesProgress (λ _. Unit {0}) (λ r. at_most (length r.log.now - r.from)) r t r'
+  told_progress {r} {r'} e None z h l l' f f' = record { on = λ _. tt; keeps = tt; rests = λ _. tt }
+  told_progress {r} {r'} e (Some t) z h l l' f f' = record { on = λ _. (tt, tt, less); keeps = tt; rests = λ _. tt }
+    where
+      go : (b : Bool) → e.over ≡ b → r'.from ≡ cond b (length log) e.from → length log - r'.from < length log - r.from
+      go true o to = let w = told_within (h ∙ ap told z) in omega arith
+      go false o to = let g = next_goes log from s e z o in omega arith
+
+      less : length r'.log.now - r'.from < length r.log.now - r.from
+      less = rw (l, l') (go e.over refl f')
 
 -- and one that ends the replay leaves what is present
 pub next_stays : (log : List ℕ) (from : ℕ) (s : Inventory) → (next_event log from s).over ≡ true → (next_event log from s).inventory ≡ s

@@ -53,7 +53,7 @@ use Rattle.replay.specs.Log.{is_first_line, numbers_of, change_of, is_event_line
 use Rattle.replay.specs.Lines.{refused_line, spaced}
 use Rattle.replay.specs.Replay.{Decides, event_line, replay_of, Replayed}
 use Rattle.replay.specs.Events.{opening, EventLine, Prints}
-use Rattle.replay.specs.Event.{Event}
+use Rattle.replay.specs.declared.events.Event.{Event}
 
 -- ---- logs as text
 

@@ -24,7 +24,7 @@ use Rattle.inventory.specs.Outcome.{Outcome}
 use Rattle.text.specs.TextLines.{line_length}
 use Rattle.replay.specs.Log.{body_of, is_first_line, numbers_of, change_of, is_event_line, number_in}
 use Rattle.replay.specs.Lines.{refused_line, files_of, numbers_line}
-use Rattle.replay.specs.Event.{Event}
+use Rattle.replay.specs.declared.events.Event.{Event}
 use Rattle.replay.specs.declared.events.Replay.{Replay}
 
 abbrev pub last : ℕ → ℕ → Inventory → Event

@@ -23,7 +23,7 @@ pub fn open_line(line: &[u8]) -> Result<Inventory, u32>
         return Err(OUT_OF_RANGE);
     }
     let values = numbers.values;
-    Inventory::open(Code::Powers, values[0], &values[1..count])
+    Inventory::open(Code::Powers, values[0], &values[1..count]).map_err(|refused| refused.number)
 }
 
 // The numbers of a line: how many there are, and the first of them, each cut to 64 bits. The library has no heap (a rule of the project), so

@@ -11,7 +11,7 @@ mod events;
 mod first_line;
 mod lines;
 
-pub use events::{Replay, open};
+pub use events::{Event, Replay, next, open, told};
 pub use lines::put_line;
 use refusals::{Refusal, bare};
 pub use text::Writer;

@@ -6,15 +6,15 @@ ghost use Rattle.text.specs.Ascii.{ascii};
 ghost use Rattle.text.specs.Decimal.{decimal, field};
 ghost use Rattle.text.specs.Writer.{Puts};
 ghost use Rattle.replay.specs.Lines.{refused_line, files_of, numbers_line};
-ghost use Rattle.replay.specs.Event.{Event};
+ghost use Rattle.replay.specs.declared.events.Event.{Event};
 ghost use Rattle.replay.specs.Events.{told, EventLine};
 
 use inventory::Inventory;
 use number_sets::has;
 use text::Writer;
 
-// The line after an event, of which a replay tells this: the missing files that are recoverable, or the refusal. An inventory that no calls
-// give is `refused 10`.
+// The line after an event, of which a replay, or `told`, tells this: the missing files that are recoverable, or the refusal. An inventory that
+// no calls give is `refused 10`.
 pub fn put_line(writer: &mut Writer, event: Result<Inventory, u32>)
     ensures { ((e : Event) → told e ≡ Some event → (line : List ℕ) × EventLine rule_of e line × Puts writer.old writer.new line)
         × ((k : ℕ) → event ≡ Err k → Puts writer.old writer.new (refused_line k)) }

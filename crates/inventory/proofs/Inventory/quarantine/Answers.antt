@@ -5,7 +5,7 @@ use mathlib.Core.Bool.{not}
 use Rattle.std.proofs.lemmas.Result.{err_from_is_err_and}
 use Rattle.inventory.specs.Steps.{in_range, of_other_code, while_quarantined, already}
 use Rattle.inventory.specs.Steps.{after_change, change_step}
-use Rattle.inventory.proofs.Outcomes.{volumes_changed, not_changed, number_same}
+use Rattle.inventory.proofs.Outcomes.{volumes_returned, not_changed, number_same}
 use Rattle.inventory.proofs.Inventory.quarantine.Goals as goal
 
 pub returns-in_err-permitted : goal.returns-in_err-permitted
@@ -15,4 +15,4 @@ returns-in_err-permitted c = let p = err_from_is_err_and c.from_residual.result 
 
 pub returns : goal.returns
 unfolding change_step in_range of_other_code while_quarantined already after_change
-returns c = volumes_changed _ _ _ (number_same _ c.is_volume-ranged.ensures refl refl (ap not c.has.ensures)) c.remove-self.ensures c.insert-self.ensures c.in_ok-permitted.ensures
+returns c = volumes_returned _ _ _ (number_same _ c.is_volume-ranged.ensures refl refl (ap not c.has.ensures)) c.remove-self.ensures c.insert-self.ensures c.in_ok-permitted.ensures

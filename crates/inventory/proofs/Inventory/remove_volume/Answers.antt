@@ -6,7 +6,7 @@ use Rattle.std.proofs.lemmas.Result.{err_from_is_err_and}
 use Rattle.number_sets.specs.Sets.{member}
 use Rattle.inventory.specs.Steps.{in_range, of_other_code, while_quarantined, already}
 use Rattle.inventory.specs.Steps.{after_change, change_step}
-use Rattle.inventory.proofs.Outcomes.{volumes_changed, not_changed, number_same}
+use Rattle.inventory.proofs.Outcomes.{volumes_returned, not_changed, number_same}
 use Rattle.inventory.proofs.Inventory.remove_volume.Goals as goal
 use Rattle.inventory.proofs.Inventory.remove_volume.Goals.{then-has, else-has}
 
@@ -27,4 +27,4 @@ returns c = let s = c.args.self in let q = member s.quarantined c.args.volume in
       | then-has w ↦ w.held-is ∙ w.if-has.true ∙ sym (ap (λ (b : Bool). b || q) (sym c.has.ensures ∙ w.if-has.true))
       | else-has w ↦ w.held-is ∙ w.has-held.ensures ∙ sym (ap (λ (b : Bool). b || q) (sym c.has.ensures ∙ w.if-has.false))
     ] in
-    volumes_changed s _ _ (number_same _ c.is_volume.ensures refl refl (ap not held)) c.remove-self.ensures c.remove-self-2.ensures c.in_ok-permitted.ensures
+    volumes_returned s _ _ (number_same _ c.is_volume.ensures refl refl (ap not held)) c.remove-self.ensures c.remove-self-2.ensures c.in_ok-permitted.ensures

@@ -12,7 +12,7 @@ use Rattle.text.specs.TextLines.{line_length}
 use Rattle.text.proofs.ScanLaws.{line_most}
 use Rattle.inventory.specs.Steps.{outcome}
 use Rattle.replay.specs.Log.{body_of}
-use Rattle.replay.specs.Event.{Event}
+use Rattle.replay.specs.declared.events.Event.{Event}
 use Rattle.replay.specs.Events.{GoesOn}
 use Rattle.replay.specs.FirstLine.{opened_line}
 use Rattle.replay.proofs.EventLaws.{part_body, opening_long, opening-none, opening_goes, opening_refused, goes_on_at}

@@ -1,8 +1,9 @@
 -- `replay::first_line::open_line` meets its contract.
 -- Assumes nothing.
+use Rattle.std.proofs.Common.{rules, tests}
 use mathlib.Core.Path.{ap, ◌∙◌}
 use native.Mathlib.Omega.{arith}
-use Rattle.inventory.proofs.Outcomes.{returned}
+use Rattle.inventory.proofs.Outcomes.{returned, returned_number}
 use Rattle.replay.proofs.Openings.{some, many, opened, line_opened, line_other}
 use Rattle.replay.proofs.first_line.open_line.Goals as goal
 
@@ -19,4 +20,6 @@ pub slice_bounds-open-start : goal.slice_bounds-open-start
 slice_bounds-open-start c = omega (arith, some _ _ c.in-Some.ensures)
 
 pub returns : goal.returns
-returns c = let n = c.in-Some.ensures in c.«open».ensures ∙ ap returned (opened _ _ n c.if-count-gt-MOST.false) ∙ line_opened _ n.shape
+returns c = let n = c.in-Some.ensures in
+    returned_number _ _ c.«open».ensures c.map_err.ensures.cases (λ r k p. search (rules, tests)) ∙ ap returned (opened _ _ n c.if-count-gt-MOST.false)
+    ∙ line_opened _ n.shape
