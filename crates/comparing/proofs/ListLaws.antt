@@ -1,8 +1,9 @@
 -- The lines on the entries of two lists, side by side, as a loop over them meets them.
 --
 --   Next k xs ys es ds t    of the entries xs and ys, t is the text on those at place k, and es and ds are the others
---   next_of_both, next_left, next_right    what comes next where neither list is over, and where only one goes on
---   next_of_none            nothing comes where both are over
+--   next_of_both, next_left     what comes next where the first list goes on, and the second too, or not
+--   lines_left              where the first list is over the lines are those on what the second has left
+--   more_lacking, none_lacking     what comes next of these, and nothing where the second is over too
 -- Assumes nothing.
 use mathlib.Core.Path.{◌≡◌, refl, ap}
 use mathlib.Core.List.{List, [], ◌∷◌, ◌++◌, map, flatten}
@@ -34,10 +35,14 @@ next_left k {es = es} is over = record { shorter = omega (arith, ap length is, a
     by [] = refl
     by (e ∷ es) = refl
 
-pub next_right : (k : ℕ) {xs ys es ds : List (List ℕ)} {d : List ℕ} → (xs ≡ []) × (es ≡ []) → ys ≡ d ∷ ds → Next k xs ys es ds (line_text (all k))
-unfolding entry_lines all_lines flatten
-next_right k over is = record { shorter = omega (arith, ap length is, ap length over.0, ap length over.1); text_is = rw (is, over.0, over.1, add-one) refl }
+pub lines_left : (k : ℕ) {es : List (List ℕ)} (ds : List (List ℕ)) → es ≡ [] → entry_lines k es ds ≡ all_lines k ds
+unfolding entry_lines
+lines_left k ds over = rw over refl
 
-pub next_of_none : (k : ℕ) {xs ys : List (List ℕ)} → xs ≡ [] → ys ≡ [] → text_of (entry_lines k xs ys) ≡ []
-unfolding entry_lines all_lines flatten
-next_of_none k is_x is_y = rw (is_x, is_y) refl
+pub more_lacking : (k : ℕ) {e : List ℕ} {es ds : List (List ℕ)} → ds ≡ e ∷ es → text_of (all_lines k ds) ≡ line_text (all k) ++ text_of (all_lines (k + 1) es)
+unfolding all_lines flatten
+more_lacking k is = rw (is, add-one) refl
+
+pub none_lacking : (k : ℕ) {es : List (List ℕ)} → es ≡ [] → text_of (all_lines k es) ≡ []
+unfolding all_lines flatten
+none_lacking k is = rw is refl

@@ -1,21 +1,26 @@
 -- The units of names.
 --
 --   fits_first, fits_rest  what follows of units that fit
+--   same_lengths           they are not the bytes of a text that has more or fewer
 --   eq_from_yields         what `eq` of two iterators tells: whether their lists are equal
 -- Assumes nothing.
 use Rattle.std.specs.Prelude.{Option, Some, None}
 use mathlib.Core.Path.{◌≡◌, sym, ap, ap₂, ◌∙◌, subst}
 use mathlib.Core.Bool.{Bool, true, false, ◌&&◌}
 use mathlib.Core.List.{List, [], ◌∷◌}
-use Prim.Native.Nat.{ℕ, ◌≤◌}
+use Prim.Native.Nat.{ℕ, ◌/◌, ◌≤◌}
 use borrow.Author.Tests.{leb-true}
 use lib.Dec.{leb, eqb}
+use lib.ListN.{length}
 use Rattle.std.specs.Iterator.{AlwaysYields, YieldsThen, ComparesItemsByEq}
 use Rattle.std.specs.List.{AllZip}
 use Rattle.std.specs.Option.{MatchOption, IfSome}
 use Rattle.std.proofs.lemmas.Iterator.{YieldsList}
 use Rattle.computed_tests.proofs.Tests.{and_both}
 use Rattle.lent_bytes.specs.Equal.{equal}
+use Rattle.lent_bytes.proofs.EqualLaws.{equal_lengths}
+use Rattle.entries.specs.Entry.{units_of}
+use Rattle.entries.proofs.NameLaws.{length_units}
 use Rattle.md5sum_text.specs.Names.{unit_fits, units_fit}
 
 -- of units that fit, the first is a byte, and the others fit
@@ -28,6 +33,9 @@ module _ {us rest : List ℕ} {u : ℕ} (more : us ≡ u ∷ rest) (fits : units
 
   pub fits_rest : units_fit rest ≡ true
   fits_rest = both.1
+
+pub same_lengths : (s t : List ℕ) → (length s / 2 ≡ length t → ⊥) → equal (units_of s) t ≡ false
+same_lengths s t h = equal_lengths (units_of s) t (λ e. h (sym (length_units s) ∙ e))
 
 -- ---- the units of two iterators, as their `eq` compares them
 

@@ -256,7 +256,7 @@ module _ (s e : List ℕ) (m : ℕ) (all : m ≡ length (lines_of s).pieces) (fi
   pub answer_over : p ≡ m → answer_for (lines_of s).pieces e ≡ 0
   answer_over z = answer_none (lines_of s).pieces e (λ k h. named.before k (omega (arith, all)))
 
-  answer_seen : (p ≡ m → ⊥) → answer_for (lines_of s).pieces e ≡ cond (equal (sum_in (get_or (lines_of s).pieces p [])) (sum_of e)) 1 2
+  pub answer_seen : (p ≡ m → ⊥) → answer_for (lines_of s).pieces e ≡ cond (equal (sum_in (get_or (lines_of s).pieces p [])) (sum_of e)) 1 2
   answer_seen z = let h : p < m = omega (arith, first.high) in
       answer_first (lines_of s).pieces e p (omega (arith, all)) named.before (named.found h)
 

@@ -18,10 +18,10 @@ fn unit_fits(unit: u16) -> bool
     32 <= unit && unit <= 126
 }
 
-// Whether the units of a name are the bytes `text`.
+// Whether the units of a name are the bytes `text`. How many they are is compared first: a name is held against each line.
 pub(crate) fn units_are(name: &[u8], text: &[u8]) -> bool
     ensures { result ≡ equal (units_of name.now) text.now }
 {
     let bytes = text.iter().map(|byte| u16::from(*byte));
-    entries::units_of(name).eq(bytes)
+    name.len() / 2 == text.len() && entries::units_of(name).eq(bytes)
 }

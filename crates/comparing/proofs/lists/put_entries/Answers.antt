@@ -1,40 +1,50 @@
--- `comparing::lists::put_entries` meets its contract. The loop's invariant: the lines on the entries that remain are to be put.
+-- `comparing::lists::put_entries` meets its contract. The loops' invariants: the lines on the entries that remain are to be put, of both lists
+-- and, where the first is over, of the second.
 -- Assumes nothing.
+use mathlib.Core.Path.{ap}
 use mathlib.Core.List.{List}
 use Prim.Native.Nat.{ℕ}
 use native.Mathlib.Omega.{arith}
+use lib.ListN.{length}
 use Rattle.entries.proofs.WalkLaws.{entries_most}
 use Rattle.text.specs.Writer.{Puts}
 use Rattle.text.proofs.WriterLaws.{remains_all, remains_less, remains_none}
-use Rattle.comparing.proofs.ListLaws.{Next, next_of_both, next_left, next_right, next_of_none}
+use Rattle.comparing.proofs.ListLaws.{Next, next_of_both, next_left, lines_left, more_lacking, none_lacking}
 use Rattle.comparing.proofs.lists.put_entries.Goals as goal
-use Rattle.comparing.proofs.lists.put_entries.Goals.{in-Some-Some, in_default, in_default-via-in-Some+in_default, in_default-via-in-None+in_default}
+use Rattle.comparing.proofs.lists.put_entries.Goals.{in-Some-next, in-None-next}
 
--- what comes next, whichever arm put it
-next : (c : goal.Joined-next)
-    → (t : List ℕ) × Next c.loop-a.place c.loop-a.ones c.loop-a.twos c.next.new.self c.next-in-loop-a.new.self t × Puts c.loop-a.writer c.match-next.writer t
-next c = elim c.match-next.branch [
-  | in-Some-Some w ↦
-      (_, next_of_both c.loop-a.place w.in-Some-Some.ensures.steps w.in-Some-Some.ensures'.steps, rw w.writer-is w.put_fields.ensures)
-  | in_default w ↦ elim w.in_default.branch [
-    | in_default-via-in-Some+in_default u ↦
-        (_, next_left c.loop-a.place u.in_default.ensures.steps u.in_default.ensures'.steps, rw w.writer-is w.put_entry.ensures)
-    | in_default-via-in-None+in_default u ↦
-        (_, next_right c.loop-a.place u.in_default.ensures.steps u.in_default.ensures'.steps, rw w.writer-is w.put_entry.ensures)
-  ]
+-- what comes next of both lists, or of the first
+next : (c : goal.Joined-next-2)
+    → (t : List ℕ) × Next c.loop-a.place c.loop-a.a-iterator c.loop-a.twos c.next.new.self c.next-in-loop-a.new.self t
+    × Puts c.loop-a.writer c.match-next-2.writer t
+next c = elim c.match-next-2.branch [
+  | in-Some-next w ↦
+      (_, next_of_both c.loop-a.place c.in-Some.ensures.steps w.in-Some-next.ensures.steps, rw w.writer-is w.put_fields.ensures)
+  | in-None-next w ↦
+      (_, next_left c.loop-a.place c.in-Some.ensures.steps w.in-None-next.ensures.steps, rw w.writer-is w.put_entry.ensures)
 ]
 
 pub loop-a-init : goal.loop-a-init
-loop-a-init c = rw (c.of-ones.ensures, c.of-twos.ensures) (omega arith, remains_all _ _ (omega arith))
-
-pub loop-a-preserved : goal.loop-a-preserved
-loop-a-preserved c = let n = next c in (omega (arith, n.1.shorter), remains_less c.loop-a.invariant.1 n.1.text_is n.2)
-
-pub loop-a-smaller : goal.loop-a-smaller
-loop-a-smaller c = (next c).1.shorter
+loop-a-init c =
+    rw (c.into_iter-a-iterator.ensures.into_iter_gives, c.of-a-items.ensures, c.of-twos.ensures) (remains_all _ _ (omega arith), omega arith)
 
 pub overflow_add-place : goal.overflow_add-place
 overflow_add-place c = omega (arith, (next c).1.shorter, entries_most c.args.one.now, entries_most c.args.two.now)
 
-pub returns-in-None-None : goal.returns-in-None-None
-returns-in-None-None c = remains_none c.loop-a.invariant.1 (next_of_none c.loop-a.place c.in-None-None.ensures.steps.0 c.in-None-None.ensures'.steps.0)
+pub loop-a-preserved : goal.loop-a-preserved
+loop-a-preserved c = let n = next c in (remains_less c.loop-a.invariant.0 n.1.text_is n.2, omega (arith, n.1.shorter))
+
+pub loop-init : goal.loop-init
+loop-init c = let l = c.loop-a in
+    rw c.into_iter-iterator.ensures.into_iter_gives (rw (lines_left l.place l.twos c.in-None.ensures.steps.0) at l.invariant.0, omega arith)
+
+pub overflow_add-place-in-loop : goal.overflow_add-place-in-loop
+overflow_add-place-in-loop c =
+    omega (arith, ap length c.in-Some-2.ensures.steps, c.loop.invariant.1, entries_most c.args.one.now, entries_most c.args.two.now)
+
+pub loop-preserved : goal.loop-preserved
+loop-preserved c = let l = c.loop in
+    (remains_less l.invariant.0 (more_lacking l.place c.in-Some-2.ensures.steps) c.put_entry-in-loop.ensures, omega (arith, ap length c.in-Some-2.ensures.steps))
+
+pub returns : goal.returns
+returns c = remains_none c.loop.invariant.0 (none_lacking c.loop.place c.in-None-2.ensures.steps.0)
