@@ -57,7 +57,7 @@ module _ (b : List ℕ) where
 
   -- ---- what is found
 
-  found_other : (Catalog b → ⊥) → None ≡ found_of b
+  pub found_other : (Catalog b → ⊥) → None ≡ found_of b
   unfolding found_of
   found_other h = simp (no_catalog h)
 
@@ -95,7 +95,7 @@ then_cond true x = refl
 then_cond false x = refl
 
 module _ (rs : List (List ℕ)) {e : Entered} where
-  entered_rows : entered_of rs ≡ Some e → (entry_rows_allowed 0 rs ≡ true) × (e ≡ entered_by rs)
+  pub entered_rows : entered_of rs ≡ Some e → (entry_rows_allowed 0 rs ≡ true) × (e ≡ entered_by rs)
   unfolding entered_of
   entered_rows h = by (entry_rows_allowed 0 rs) refl h
     where
@@ -103,7 +103,7 @@ module _ (rs : List (List ℕ)) {e : Entered} where
       by true z f = (sym z, cc)
       by false z f = absurd (let n : ◌≡◌ {A = ℕ} 0 1 = cc in omega arith)
 
-entered_other : (rs : List (List ℕ)) → entered_of rs ≡ None → entry_rows_allowed 0 rs ≡ true → ⊥
+pub entered_other : (rs : List (List ℕ)) → entered_of rs ≡ None → entry_rows_allowed 0 rs ≡ true → ⊥
 unfolding entered_of
 entered_other rs e z = let f = simp z at e in let n : ◌≡◌ {A = ℕ} 0 1 = cc in omega arith
 
