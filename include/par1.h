@@ -24,23 +24,23 @@
  *   hash and field
  *   par1_md5             14                     16                                          1,900
  *   par1_inverse         10 14                  1                                             600
- *   par1_coefficient     10 14                  1                                             600
- *   par1_mul_add         none                   the buffer, as far as the fragment goes       600
+ *   par1_coefficient     10 14                  1                                             700
+ *   par1_mul_add         none                   the buffer, as far as the fragment goes       700
  *
  *   index files and volumes
  *   par1_read            R 14                   64                                          2,700
  *   par1_entry           16-18 14               24                                            200
  *   par1_check           16-18 15               nothing                                     2,000
  *   par1_write_entry     17 18 14               56 + name_len                               2,000
- *   par1_write_volume    10 16-18 7 9 1 14      96 + list_len + data_len                    2,500
- *   par1_amend           14 R 10 16-18 21 1 14  in the volume, up to its new length         3,200
+ *   par1_write_volume    10 16-18 7 9 1 14      96 + list_len + data_len                    2,400
+ *   par1_amend           14 R 10 16-18 21 1 14  in the volume, up to its new length         3,100
  *
  *   jobs, for what is too long to hold
  *   par1_hash_start      none                   the struct, 96                                100
  *   par1_hash_push       20                     the struct                                  1,900
  *   par1_hash_end        20 14                  16, and the struct                          2,000
  *   par1_mul_add_start   14                     24                                            100
- *   par1_mul_add_push    20                     the job's 24, the buffer from the position    700
+ *   par1_mul_add_push    20                     the job's 24, the buffer from the position    800
  *   par1_mul_add_end     20                     the job's 24                                  100
  *   par1_read_start      14                     392                                           100
  *   par1_read_push       20                     the job's 392                               2,400
@@ -48,26 +48,26 @@
  *
  *   what is present, and what comes back
  *   par1_open            10 1 14                144                                         2,200
- *   par1_add_file        10 11                  the inventory's 144                           600
- *   par1_remove_file     10 11                  the inventory's 144                           600
+ *   par1_add_file        10 11                  the inventory's 144                           800
+ *   par1_remove_file     10 11                  the inventory's 144                           800
  *   par1_add_volume      10 29 27 11            the inventory's 144                           900
- *   par1_remove_volume   10 11                  the inventory's 144                           900
+ *   par1_remove_volume   10 11                  the inventory's 144                           800
  *   par1_quarantine      10 11                  the inventory's 144                           700
  *   par1_release         10 11                  the inventory's 144                           700
  *   par1_count           10 14                  24                                            400
  *   par1_query           10 13 12 14            255                                        69,700
  *
  *   text
- *   par1_compare         14                     the text                                    2,800
+ *   par1_compare         14                     the text                                    3,000
  *   par1_export          R 24 14                the text, at most as long as the list       2,800
- *   par1_import          R, 22 or 23, 14        1 for each entry                            2,900
+ *   par1_import          R, 22 or 23, 14        1 for each entry                            2,800
  *   par1_replay          14                     the text, at most 14,760,448               76,300
  *
  *   catalogs
  *   par1_catalog_open    R 26 14                16 + 28 for each entry                      2,800
- *   par1_catalog_add     R 30 10 25 26 11 14    in the catalog, and 28 on its end           3,100
- *   par1_catalog_drop    30 10 11               in the catalog                                300
- *   par1_catalog_load    30 14                  a record, 32, for each entry                  300
+ *   par1_catalog_add     R 30 10 25 26 11 14    in the catalog, and 28 on its end           3,000
+ *   par1_catalog_drop    30 10 11               in the catalog                                200
+ *   par1_catalog_load    30 14                  a record, 32, for each entry                  200
  *
  * So a machine of 64 KiB makes every call but par1_query and par1_replay; where one file is missing and one volume is there, it needs neither
  * (see par1_inverse). examples/ has programs for it and for the shore.
