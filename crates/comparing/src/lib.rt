@@ -2,6 +2,7 @@
 #![tactic(auto)]
 
 ghost use Rattle.std.specs.Prelude.{◌≡◌};
+ghost use Rattle.std.proofs.Props.{props};
 ghost use Rattle.lent_bytes.specs.Writing.{written};
 ghost use Rattle.text.specs.Writer.{Puts};
 ghost use Rattle.par1_read.specs.Reading.{read_of};
@@ -16,7 +17,7 @@ mod scan;
 use par1_read::Parts;
 use par1_rules::layout::{HEADER_LENGTH, part};
 use refusals::Refusal;
-use text::Writer;
+use text::{Text, Writer};
 
 // A line for each difference of the files `one` and `two` over the first bytes of `out`, and their length; or 14, and nothing written, where
 // they do not fit.
@@ -27,8 +28,31 @@ pub fn compare(one: &[u8], two: &[u8], out: &mut [u8]) -> Result<usize, Refusal>
     let second = par1_read::read(two);
     text::written_by(
         out,
-        |writer| put_comparison(writer, one, two, first, second),
+        &Comparison {
+            one,
+            two,
+            first,
+            second,
+        },
     )
+}
+
+// A pair of files and what they read as. Its text is the lines on them.
+#[derive(Drop)]
+struct Comparison<'a> {
+    one: &'a [u8],
+    two: &'a [u8],
+    first: Result<Parts, Refusal>,
+    second: Result<Parts, Refusal>,
+    ghost read: { (first ≡ read_of one.now) × (second ≡ read_of two.now) } by { Prim.hlevel props },
+}
+
+impl Text for Comparison<'_> {
+    ghost text = { λ c. comparison_of c.one.now c.two.now };
+
+    fn put(&self, writer: &mut Writer) {
+        put_comparison(writer, self.one, self.two, self.first, self.second)
+    }
 }
 
 // The lines on two files that read as `first` and `second`.

@@ -4,9 +4,11 @@
 --   listing_by r f   the listing of a file f that reads as r
 --   listing_of f     the listing of the file f
 --   input_listing s  the listing of the program's input s
---   ListIn r f      the list that the reading r tells of lies in f
+--   ListIn r f       the list that the reading r tells of lies in f
+--   ListIn-prop r f  ListIn r f has at most one proof, so that a struct may keep it as a ghost field
 -- Assumes nothing.
 use Rattle.std.specs.Prelude.{ℕ, ◌+◌, ◌≤◌, ◌≡◌, cond, List, ◌++◌, leb, length, Ok, Err}
+use Rattle.std.specs.Coded.{Coded-set, coded_ℕ, ×_prop, Unit-prop, le_prop}
 use Rattle.refusals.specs.Limits.{max_listed_length}
 use Rattle.refusals.specs.Tests.{bare}
 use Rattle.par1_rules.specs.Layout.{list_size_of}
@@ -28,3 +30,7 @@ input_listing s = cond (leb (length s) max_listed_length) (listing_of s) (refuse
 abbrev pub ListIn : Reading → List ℕ → Type 0
 ListIn (Ok p) f = (p.list_size ≡ list_size_of f) × (96 + list_size_of f ≤ length f)
 ListIn (Err r) f = Unit {0}
+
+pub ListIn-prop : (r : Reading) (f : List ℕ) → IsProp (ListIn r f)
+ListIn-prop (Ok p) f = ×_prop (Coded-set coded_ℕ _ _) le_prop
+ListIn-prop (Err r) f = Unit-prop

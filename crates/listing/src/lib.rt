@@ -4,14 +4,14 @@
 ghost use Rattle.std.specs.Prelude.{◌≡◌};
 ghost use Rattle.lent_bytes.specs.Writing.{written};
 ghost use Rattle.text.specs.Writer.{Puts};
-ghost use Rattle.listing.specs.Listing.{listing_by, listing_of, input_listing, ListIn};
+ghost use Rattle.listing.specs.Listing.{listing_by, listing_of, input_listing, ListIn, ListIn-prop};
 
 mod lines;
 
 use par1_read::Parts;
 use par1_rules::layout::HEADER_LENGTH;
 use refusals::{Refusal, bare};
-use text::Writer;
+use text::{Text, Writer};
 
 // The listing of `file` over the first bytes of `out`, and its length; or 14, and nothing written, where it does not fit.
 pub fn list(file: &[u8], out: &mut [u8]) -> Result<usize, Refusal>
@@ -35,7 +35,23 @@ fn list_as(file: &[u8], reading: Result<Parts, Refusal>, out: &mut [u8]) -> Resu
     requires { ListIn reading file.now }
     ensures { (result, out.new) ≡ written (listing_by reading file.now) out.old }
 {
-    text::written_by(out, |writer| put_listing(writer, file, reading))
+    text::written_by(out, &Listing { file, reading })
+}
+
+// A file and what it reads as. Its text is the listing.
+#[derive(Drop)]
+struct Listing<'a> {
+    file: &'a [u8],
+    reading: Result<Parts, Refusal>,
+    ghost list_in: { ListIn reading file.now } by { ListIn-prop reading file.now },
+}
+
+impl Text for Listing<'_> {
+    ghost text = { λ l. listing_by l.reading l.file.now };
+
+    fn put(&self, writer: &mut Writer) {
+        put_listing(writer, self.file, self.reading)
+    }
 }
 
 // The listing of a file that reads as `reading`.

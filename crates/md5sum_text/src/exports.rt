@@ -11,7 +11,7 @@ use crate::names::units_fit;
 use par1_rules::layout;
 use par1_rules::layout::name_of;
 use refusals::Refusal;
-use text::Writer;
+use text::{Text, Writer};
 
 // Whether the name of each entry of `list` fits a line.
 pub(crate) fn all_fitting(list: &[u8]) -> bool
@@ -25,7 +25,22 @@ pub(crate) fn export_list(list: &[u8], out: &mut [u8]) -> Result<usize, Refusal>
     requires { all_fitting (entries_of list.now).pieces ≡ true }
     ensures { (result, out.new) ≡ written (export_text (entries_of list.now).pieces) out.old }
 {
-    text::written_by(out, |writer| put_lines(writer, list))
+    text::written_by(out, &Export { list })
+}
+
+// A list in which the name of each entry fits a line. Its text is the lines of the entries.
+#[derive(Drop)]
+struct Export<'a> {
+    list: &'a [u8],
+    ghost fitting: { all_fitting (entries_of list.now).pieces ≡ true },
+}
+
+impl Text for Export<'_> {
+    ghost text = { λ e. export_text (entries_of e.list.now).pieces };
+
+    fn put(&self, writer: &mut Writer) {
+        put_lines(writer, self.list)
+    }
 }
 
 // The lines of the entries of `list`.

@@ -6,20 +6,28 @@ ghost use Rattle.text.specs.Writer.{Puts};
 use crate::Writer;
 use refusals::{Refusal, bare};
 
-// The text that `put` puts, over the first bytes of `out`, and its length; or 14, and nothing written, where it does not fit. It is put
-// twice, to be measured and to be written; once, where it is empty.
-pub fn written_by<F: Fn(&mut Writer)>(out: &mut [u8], put: F) -> Result<usize, Refusal>
-    requires { F.IsAlwaysCallable put }
-    ensures { (t : List ℕ) → ((w : _) (v : _) → F.post put w tt v → Puts w.now v.now t) → (result, out.new) ≡ written t out.old }
+// A value that has a text and puts it. `put` has no `requires`, for `written_by` calls it on any: what it needs is a ghost field of the value.
+pub trait Text {
+    ghost text: { Self → List ℕ };
+
+    // The text, after what the writer has.
+    fn put(&self, writer: &mut Writer)
+        ensures { Puts writer.old writer.new (text self.now) };
+}
+
+// The text of `value` over the first bytes of `out`, and its length; or 14, and nothing written, where it does not fit. It is put twice, to
+// be measured and to be written; once, where it is empty.
+pub fn written_by<T: Text>(out: &mut [u8], value: &T) -> Result<usize, Refusal>
+    ensures { (result, out.new) ≡ written (T.text value.now) out.old }
 {
     let mut measured = Writer::new(&mut out[..0]);
-    put(&mut measured);
+    value.put(&mut measured);
     let length = measured.position();
     if length == 0 {
         return Ok(0);
     }
     if length <= out.len() {
-        put(&mut Writer::new(out));
+        value.put(&mut Writer::new(out));
         return Ok(length);
     }
     Err(bare(refusals::NO_ROOM))

@@ -8,7 +8,7 @@ mod fitting;
 mod scan;
 mod writer;
 
-pub use fitting::written_by;
+pub use fitting::{Text, written_by};
 pub use scan::{is_decimal, line_length, value_of, word_length};
 pub use writer::Writer;
 
