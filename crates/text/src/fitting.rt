@@ -6,7 +6,8 @@ ghost use Rattle.text.specs.Writer.{Puts};
 use crate::Writer;
 use refusals::{Refusal, bare};
 
-// A value that has a text and puts it. `put` has no `requires`, for `written_by` calls it on any: what it needs is a ghost field of the value.
+// A value that has a text and puts it. `put` has no `requires`, since `written_by` calls it on any value: what it needs, the value keeps as a
+// ghost field.
 pub trait Text {
     ghost text: { Self → List ℕ };
 
