@@ -26,7 +26,7 @@ pub fn compare(one: &[u8], two: &[u8], out: &mut [u8]) -> Result<usize, Refusal>
 {
     let first = par1_read::read(one);
     let second = par1_read::read(two);
-    text::written_by(
+    text::written(
         out,
         &Comparison {
             one,

@@ -35,7 +35,7 @@ fn list_as(file: &[u8], reading: Result<Parts, Refusal>, out: &mut [u8]) -> Resu
     requires { ListIn reading file.now }
     ensures { (result, out.new) ≡ written (listing_by reading file.now) out.old }
 {
-    text::written_by(out, &Listing { file, reading })
+    text::written(out, &Listing { file, reading })
 }
 
 // A file and what it reads as. Its text is the listing.

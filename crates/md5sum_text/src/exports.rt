@@ -25,7 +25,7 @@ pub(crate) fn export_list(list: &[u8], out: &mut [u8]) -> Result<usize, Refusal>
     requires { all_fitting (entries_of list.now).pieces ≡ true }
     ensures { (result, out.new) ≡ written (export_text (entries_of list.now).pieces) out.old }
 {
-    text::written_by(out, &Export { list })
+    text::written(out, &Export { list })
 }
 
 // A list in which the name of each entry fits a line. Its text is the lines of the entries.

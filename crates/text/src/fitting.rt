@@ -6,7 +6,7 @@ ghost use Rattle.text.specs.Writer.{Puts};
 use crate::Writer;
 use refusals::{Refusal, bare};
 
-// A value that has a text and puts it. `put` has no `requires`, since `written_by` calls it on any value: what it needs, the value keeps as a
+// A value that has a text and puts it. `put` has no `requires`, since `written` calls it on any value: what it needs, the value keeps as a
 // ghost field.
 pub trait Text {
     ghost text: { Self → List ℕ };
@@ -17,8 +17,8 @@ pub trait Text {
 }
 
 // The text of `value` over the first bytes of `out`, and its length; or 14, and nothing written, where it does not fit. It is put twice, to
-// be measured and to be written; once, where it is empty.
-pub fn written_by<T: Text>(out: &mut [u8], value: &T) -> Result<usize, Refusal>
+// be measured and to be written; once, where it is empty or does not fit.
+pub fn written<T: Text>(out: &mut [u8], value: &T) -> Result<usize, Refusal>
     ensures { (result, out.new) ≡ written (T.text value.now) out.old }
 {
     let mut measured = Writer::new(&mut out[..0]);

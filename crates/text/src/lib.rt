@@ -4,11 +4,13 @@
 ghost use Rattle.std.specs.Prelude.{◌≡◌};
 ghost use Rattle.text.specs.Hex.{is_hex_digit, all_hex_digits};
 
+mod closure;
 mod fitting;
 mod scan;
 mod writer;
 
-pub use fitting::{Text, written_by};
+pub use closure::written_by;
+pub use fitting::{Text, written};
 pub use scan::{is_decimal, line_length, value_of, word_length};
 pub use writer::Writer;
 

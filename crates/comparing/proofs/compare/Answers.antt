@@ -4,4 +4,4 @@
 use Rattle.comparing.proofs.compare.Goals as goal
 
 pub returns : goal.returns
-returns c = c.written_by.ensures
+returns c = c.written.ensures

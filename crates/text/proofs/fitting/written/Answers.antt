@@ -1,8 +1,8 @@
--- `text::fitting::written_by` meets its contract.
+-- `text::fitting::written` meets its contract.
 -- Assumes nothing.
 use native.Mathlib.Omega.{arith}
 use Rattle.text.proofs.FitLaws.{fit_none, fit_written, fit_refused}
-use Rattle.text.proofs.fitting.written_by.Goals as goal
+use Rattle.text.proofs.fitting.written.Goals as goal
 
 pub returns-then-length-eq0 : goal.returns-then-length-eq0
 returns-then-length-eq0 g c = fit_none c.args.out.now _ c.new-measured.ensures.starts c.put.ensures c.position-length.ensures (omega arith) (omega arith)
