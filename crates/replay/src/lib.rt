@@ -18,8 +18,8 @@ pub use text::Writer;
 
 // What a replay of the log prints, over the first bytes of `out`, and its length; or 14, and nothing written, where it does not fit. It is
 // worked out twice, to be measured and to be written; the matrix of an event's elimination takes 65,536 bytes of stack. By hand and not by
-// `text::written`: what put_replay promises has a premise, and what a `text::Text` promises has none. Nor by `text::written_by`: through a
-// closure the proof did not reach that promise.
+// `text::written`: what put_replay promises has a premise, and what a `text::Text` promises has none. No call
+// goes by `text::written_by`, which has a `requires`.
 pub fn replay(log: &[u8], out: &mut [u8]) -> Result<usize, Refusal>
     ensures { Replayed coefficient log.now out.old (result, out.new) }
 {

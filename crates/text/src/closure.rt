@@ -7,9 +7,9 @@ use crate::Writer;
 use refusals::{Refusal, bare};
 
 // The text that `put` puts, over the first bytes of `out`, and its length; or 14, and nothing written, where it does not fit. It is put
-// twice, to be measured and to be written; once, where it is empty or does not fit. It asks that `put` can be called, as the language wants of
-// a function that calls a closure; `text::written` asks nothing. It cannot go by that, which has to know the text first: what a closure puts,
-// only its caller can say.
+// twice, to be measured and to be written; once, where it is empty or does not fit. Rattle wants a function that calls a closure to require
+// that it can be called. `text::written` requires nothing, but has to know the text before the call; what a closure puts, only its caller can
+// say.
 pub fn written_by<F: Fn(&mut Writer)>(out: &mut [u8], put: F) -> Result<usize, Refusal>
     requires { F.IsAlwaysCallable put }
     ensures { (t : List ℕ) → ((w : _) (v : _) → F.post put w tt v → Puts w.now v.now t) → (result, out.new) ≡ written t out.old }
